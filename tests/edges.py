@@ -2,7 +2,7 @@
 """Compares the two pictures of docs/ARCHITECTURE.md, and the table after them, with the edges between crates.
 
 An edge of code is a `use` line of src/, one of definitions a `use` line of specs/. One that follows from others is left
-out, and so are crates of tests. In the picture of code no edge to strat_base is drawn, nor one to strat_crash, of which
+out, and so are crates of tests. In the picture of code no edge to strat_base is drawn, nor one to def_crash, of which
 code uses laws alone. Prints what a picture lacks or has too much, and then both lists of edges.
 """
 
@@ -14,7 +14,7 @@ import words
 
 DOCUMENT = "docs/ARCHITECTURE.md"
 PICTURES = {
-    "Code": (r"src/**/*.rt", r"^\s*(?:pub )?use (\w+)(?:::|;)", {"strat_base", "strat_crash"}),
+    "Code": (r"src/**/*.rt", r"^\s*(?:pub )?use (\w+)(?:::|;)", {"strat_base", "def_crash"}),
     "Definitions": (r"specs/**/*.antt", r"^(?:pub )?use Rattle\.(\w+)\.specs\b", set()),
 }
 

@@ -19,7 +19,7 @@ PARAMETERS_MOST = 7  # of one function, `self` among them, as clippy's too_many_
 FUNCTION_MOST = 40  # lines of a body, between its braces or behind its `def`; contracts have bounds of their own
 
 # Most of what these have is definitions, on which those of other crates stand. Their lemmas are about these.
-DEFINING = ("strat_base", "strat_format", "strat_model")
+DEFINING = ("strat_base", "def_bytes", "strat_model")
 
 # What breaks a rule under one name: how much, the places where, and what is wrong there.
 Found = collections.namedtuple("Found", "count places what")

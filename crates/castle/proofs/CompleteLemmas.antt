@@ -1,13 +1,13 @@
 -- How a run ends where nothing failed.
 use Rattle.std.proofs.Common.{◌≡◌, ◌⊎◌, ℕ, Option, Some, None, refl, sym, ap, subst, ◌∙◌, inl, inr, arith}
 use Rattle.std.specs.Prelude.{Ok, Err, IfSome}
-use Rattle.strat_format.specs.Damage.{Read, and_then}
+use Rattle.def_bytes.specs.Damage.{Read, and_then}
 use Rattle.strat_base.specs.declared.failures.Fault.{Fault}
 use Rattle.strat_base.specs.declared.failures.Fault.TheVariants as fault
-use Rattle.strat_crash.specs.Faults.{Rose}
-use Rattle.strat_crash.specs.Image.{Image}
-use Rattle.strat_crash.specs.Moments.{DiskView}
-use Rattle.strat_format.specs.SuperBlock.{Super, newest_in}
+use Rattle.def_crash.specs.Faults.{Rose}
+use Rattle.def_crash.specs.Image.{Image}
+use Rattle.def_crash.specs.Moments.{DiskView}
+use Rattle.def_bytes.specs.SuperBlock.{Super, newest_in}
 use Rattle.strat_model.specs.declared.ended.Ended.{Ended}
 use Rattle.strat_model.specs.declared.ended.Ended.TheVariants as ended
 use Rattle.strat_model.specs.Ended.{status_of}
@@ -15,11 +15,11 @@ use Rattle.strat_model.specs.Answer.{Answer, refusal}
 use Rattle.strat_model.specs.declared.replies.Refusal.TheVariants as why
 use Rattle.strat_model.specs.Run.{Response}
 use Rattle.strat_model.specs.Table.{Table}
-use Rattle.strat_recovery.specs.Head.{Head}
-use Rattle.strat_standing.specs.Contents.{contents_head}
-use Rattle.strat_standing.specs.Standing.{ShowsTable}
-use Rattle.strat_standing.proofs.PartsLemmas.{reads_head, state_parts}
-use Rattle.strat_recovery.specs.Opening.{recover, recover_slot}
+use Rattle.def_recovery.specs.Head.{Head}
+use Rattle.def_publish.specs.Contents.{contents_head}
+use Rattle.def_publish.specs.Standing.{ShowsTable}
+use Rattle.def_publish.proofs.PartsLemmas.{reads_head, state_parts}
+use Rattle.def_recovery.specs.Opening.{recover, recover_slot}
 use Rattle.strat_serve.specs.Session.{GaveUp, Served, RunOutcome, IsEarlyEnd, RefusesFor, EndHasCause, EndsWithFault, EndsFor, fault_told}
 use Rattle.castle.specs.Outcomes.{EndsAsInput, EndsAsFound, IsEarly}
 use Rattle.strat_serve.specs.World.{World}

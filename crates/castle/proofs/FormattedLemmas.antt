@@ -1,6 +1,6 @@
 -- How a run that formats ends.
 use Rattle.std.proofs.Common.{◌≡◌, ℕ, List, Option, refl, inl, inr, ◌⊎◌, arith}
-use Rattle.strat_crash.specs.Faults.{Rose}
+use Rattle.def_crash.specs.Faults.{Rose}
 use Rattle.strat_model.specs.declared.ended.Ended.{Ended}
 use Rattle.strat_model.specs.declared.ended.Ended.TheVariants as ended
 use Rattle.strat_model.specs.Ended.{status_of}

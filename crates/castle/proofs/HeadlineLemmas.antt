@@ -1,21 +1,21 @@
 -- What a run comes to, by its status.
 use Rattle.std.proofs.Common.{◌≡◌, ◌≢◌, ◌≤◌, ◌<◌, ◌⊎◌, ℕ, ◌*◌, List, [], ◌∷◌, ◌++◌, length, Option, Some, None, refl, sym, ap, subst, ◌∙◌, inl, inr, append-nil, arith}
 use Rattle.std.specs.Prelude.{◌==◌, if◌then◌else◌, Ok, Err}
-use Rattle.strat_crash.specs.Image.{Image, Outside}
-use Rattle.strat_crash.specs.Moments.{DiskView, Exposes, Images, Since, KeepsImages}
-use Rattle.strat_crash.specs.Trail.{At}
-use Rattle.strat_format.specs.Damage.{Read}
-use Rattle.strat_format.specs.Layout.{region_at, other_region}
-use Rattle.strat_format.specs.SuperBlock.{Super, newest_in}
+use Rattle.def_crash.specs.Image.{Image, Outside}
+use Rattle.def_crash.specs.Moments.{DiskView, Exposes, Images, Since, KeepsImages}
+use Rattle.def_crash.specs.Trail.{At}
+use Rattle.def_bytes.specs.Damage.{Read}
+use Rattle.def_bytes.specs.Layout.{region_at, other_region}
+use Rattle.def_bytes.specs.SuperBlock.{Super, newest_in}
 use Rattle.strat_io.specs.Streams.{Appends}
 use Rattle.strat_model.specs.declared.ended.Ended.{Ended}
 use Rattle.strat_model.specs.declared.ended.Ended.TheVariants as ended
 use Rattle.strat_model.specs.Ended.{status_of}
 use Rattle.strat_model.specs.Run.{Transcript, tables_of}
 use Rattle.strat_model.specs.Table.{Table, bare}
-use Rattle.strat_recovery.specs.Head.{Head}
-use Rattle.strat_recovery.specs.Opening.{recover}
-use Rattle.strat_standing.specs.Standing.{ShowsTable}
+use Rattle.def_recovery.specs.Head.{Head}
+use Rattle.def_recovery.specs.Opening.{recover}
+use Rattle.def_publish.specs.Standing.{ShowsTable}
 use Rattle.strat_open.specs.Following.{FollowsFrom, LeavesOpening}
 use Rattle.strat_serve.specs.Session.{Took, GaveUp, Served, RunOutcome, RefusesFor, EndHasCause, EndsFor}
 use Rattle.strat_serve.specs.Tables.{AnswersAsTable, AnswersNothing, AnswersUntil, EndsAtTables, GoesThroughTables, KeepsSpace, begins_at}

@@ -2,22 +2,22 @@
 use Rattle.std.proofs.Common.{◌≡◌, ◌≢◌, ◌≤◌, ◌<◌, ◌⊎◌, ◌*◌, ℕ, List, [], ◌∷◌, length, take, Option, Some, None, refl, sym, ap, subst, ◌∙◌, inl, inr, arith}
 use Rattle.std.specs.Prelude.{Ok, Err}
 use Rattle.std.proofs.lemmas.Bool.{cases_lt}
-use Rattle.strat_crash.specs.Faults.{Rose}
-use Rattle.strat_crash.specs.Image.{Image}
-use Rattle.strat_crash.specs.Moments.{DiskView, Exposes, Since}
-use Rattle.strat_format.specs.SuperBlock.{newest_in}
+use Rattle.def_crash.specs.Faults.{Rose}
+use Rattle.def_crash.specs.Image.{Image}
+use Rattle.def_crash.specs.Moments.{DiskView, Exposes, Since}
+use Rattle.def_bytes.specs.SuperBlock.{newest_in}
 use Rattle.strat_io.specs.Streams.{Appends}
 use Rattle.strat_model.specs.declared.ended.Ended.{Ended}
 use Rattle.strat_model.specs.declared.ended.Ended.TheVariants as ended
 use Rattle.strat_model.specs.Ended.{status_of}
 use Rattle.strat_model.specs.Run.{Transcript, tables_of}
 use Rattle.strat_model.specs.Table.{fresh}
-use Rattle.strat_recovery.specs.Head.{Head}
-use Rattle.strat_recovery.specs.Opening.{recover}
-use Rattle.strat_recovery.specs.Texts.{text, damaged_line}
+use Rattle.def_recovery.specs.Head.{Head}
+use Rattle.def_recovery.specs.Opening.{recover}
+use Rattle.def_texts.specs.Texts.{text, damaged_line}
 use Rattle.strat_report.specs.Reporting.{AppendsFront, WritesReport, levels_text}
-use Rattle.strat_standing.specs.Standing.{ShowsTable}
-use Rattle.strat_state.specs.State.{State, fresh_state, stored, updates_of}
+use Rattle.def_publish.specs.Standing.{ShowsTable}
+use Rattle.def_state.specs.State.{State, fresh_state, stored, updates_of}
 use Rattle.strat_open.specs.Format.{IsBlank, IsNewStore, IsNoneOrNew}
 use Rattle.strat_serve.specs.Session.{SendsPrefix, EndHasCause}
 use Rattle.strat_serve.specs.World.{Streams, beside}

@@ -2,20 +2,20 @@
 use Rattle.std.proofs.Common.{◌≡◌, ◌≢◌, ◌≤◌, ◌<◌, ◌^◌, ℕ, zero, suc, min, List, [], ◌∷◌, ◌++◌, length, take, map, Option, Some, None, refl, sym, ap, subst, ◌∙◌, inl, inr, append-nil, length-append, length-take, arith}
 use Rattle.std.specs.Prelude.{Ok, Err, option_map}
 use Rattle.std.proofs.lemmas.List.{take_all, length-map}
-use Rattle.strat_crash.specs.Image.{Image}
-use Rattle.strat_crash.specs.Moments.{DiskView, Images, Since, Passes, KeepsImages}
-use Rattle.strat_crash.specs.Trail.{At, Trail}
-use Rattle.strat_crash.proofs.MomentLemmas.{now_since_start, since_now}
-use Rattle.strat_crash.proofs.TrailLemmas.{trail_of_one, at_either, at_below}
-use Rattle.strat_format.specs.Damage.{Read}
+use Rattle.def_crash.specs.Image.{Image}
+use Rattle.def_crash.specs.Moments.{DiskView, Images, Since, Passes, KeepsImages}
+use Rattle.def_crash.specs.Trail.{At, Trail}
+use Rattle.def_crash.proofs.MomentLemmas.{now_since_start, since_now}
+use Rattle.def_crash.proofs.TrailLemmas.{trail_of_one, at_either, at_below}
+use Rattle.def_bytes.specs.Damage.{Read}
 use Rattle.strat_model.specs.declared.ended.Ended.{Ended}
 use Rattle.strat_model.specs.declared.ended.Ended.TheVariants as ended
 use Rattle.strat_model.specs.Run.{Position, Response, Exchange, Interruption, IsTranscript, UsesOneRegion, bodies_of, tables_of, of_interruption}
 use Rattle.strat_model.specs.Stream.{Splits, Whole, Rest, ending_of}
 use Rattle.strat_model.specs.Table.{Table, fresh, bare}
-use Rattle.strat_recovery.specs.Head.{Head}
-use Rattle.strat_standing.specs.Standing.{ShowsTable}
-use Rattle.strat_state.specs.State.{State, fresh_state}
+use Rattle.def_recovery.specs.Head.{Head}
+use Rattle.def_publish.specs.Standing.{ShowsTable}
+use Rattle.def_state.specs.State.{State, fresh_state}
 use Rattle.strat_memory.proofs.PayingLemmas.{stored_since}
 use Rattle.strat_open.specs.Following.{FollowsFrom, IsUnchanged, LeavesOpening}
 use Rattle.strat_open.specs.Format.{IsBlank, IsNewDisk, IsNewStore, IsNoneOrNew, head_for}

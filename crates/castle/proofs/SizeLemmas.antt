@@ -3,7 +3,7 @@ use Rattle.std.proofs.Common.{◌≡◌, ◌≤◌, ℕ, Bool, true, false, cond
 use Rattle.std.specs.Prelude.{option_map, option_and_then, bytes_eq, codes, not, ◌==◌}
 use Rattle.std.specs.Str.Parse.{digits_value}
 use Rattle.std.proofs.lemmas.Bool.{and_parts, leb-true}
-use Rattle.strat_format.specs.SuperBlock.{AreLimits}
+use Rattle.def_bytes.specs.SuperBlock.{AreLimits}
 use Rattle.castle.specs.Arguments.{Subcommand, Format, Serve, Levels, Workload, is_numeral, number_in, opening_in, format_in, workload_in, subcommand_in}
 
 -- a choice that gives something was made by its test

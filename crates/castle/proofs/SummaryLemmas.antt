@@ -2,24 +2,24 @@
 use Rattle.std.proofs.Common.{◌≡◌, ◌≢◌, ◌⊎◌, ℕ, List, [], ◌∷◌, ◌++◌, length, map, Option, Some, None, refl, sym, ap, subst, ◌∙◌, inl, inr, append-nil, true≢false, arith}
 use Rattle.std.specs.Prelude.{Ok, Err, IfSome, IsSome}
 use Rattle.std.proofs.lemmas.List.{length-map}
-use Rattle.strat_crash.specs.Faults.{Rose}
-use Rattle.strat_crash.specs.Image.{Image}
-use Rattle.strat_crash.specs.Moments.{DiskView, Exposes, Images, Passes, OnlyReads}
-use Rattle.strat_crash.specs.Trail.{Trail}
-use Rattle.strat_crash.proofs.MomentLemmas.{now_since_start, at_told}
-use Rattle.strat_crash.proofs.TrailLemmas.{trail_read}
-use Rattle.strat_format.specs.Damage.{Read, and_then}
-use Rattle.strat_format.specs.SuperBlock.{Super, newest_in}
+use Rattle.def_crash.specs.Faults.{Rose}
+use Rattle.def_crash.specs.Image.{Image}
+use Rattle.def_crash.specs.Moments.{DiskView, Exposes, Images, Passes, OnlyReads}
+use Rattle.def_crash.specs.Trail.{Trail}
+use Rattle.def_crash.proofs.MomentLemmas.{now_since_start, at_told}
+use Rattle.def_crash.proofs.TrailLemmas.{trail_read}
+use Rattle.def_bytes.specs.Damage.{Read, and_then}
+use Rattle.def_bytes.specs.SuperBlock.{Super, newest_in}
 use Rattle.strat_io.specs.Streams.{Appends}
 use Rattle.strat_model.specs.declared.ended.Ended.{Ended}
 use Rattle.strat_model.specs.declared.ended.Ended.TheVariants as ended
 use Rattle.strat_model.specs.Ended.{status_of}
 use Rattle.strat_model.specs.Run.{Exchange, Interruption, Transcript, tables_of, of_interruption}
 use Rattle.strat_model.specs.Table.{Table, bare}
-use Rattle.strat_recovery.specs.Head.{Head}
-use Rattle.strat_recovery.specs.Opening.{recover, recover_slot, recover_head}
+use Rattle.def_recovery.specs.Head.{Head}
+use Rattle.def_recovery.specs.Opening.{recover, recover_slot, recover_head}
 use Rattle.strat_report.specs.Reporting.{summary_text, levels_text, WritesReport, RecoversAs, IsSilent, AppendsFront, ReportHasCause}
-use Rattle.strat_standing.specs.Standing.{ShowsTable}
+use Rattle.def_publish.specs.Standing.{ShowsTable}
 use Rattle.strat_memory.proofs.PayingLemmas.{paid_then, stored_since}
 use Rattle.strat_serve.specs.Session.{EndHasCause}
 use Rattle.strat_serve.specs.World.{World, world}

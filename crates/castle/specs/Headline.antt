@@ -1,12 +1,12 @@
 -- What the laws of a run say, beside what those of a serving run say.
 use Rattle.std.specs.Prelude.{◌≡◌, ◌≤◌, ◌⊎◌, ℕ, List, [], length, Ok, None}
-use Rattle.strat_crash.specs.Image.{Image}
-use Rattle.strat_crash.specs.Moments.{DiskView, Images, Since}
-use Rattle.strat_crash.specs.Trail.{Trail}
-use Rattle.strat_format.specs.SuperBlock.{newest_in}
+use Rattle.def_crash.specs.Image.{Image}
+use Rattle.def_crash.specs.Moments.{DiskView, Images, Since}
+use Rattle.def_crash.specs.Trail.{Trail}
+use Rattle.def_bytes.specs.SuperBlock.{newest_in}
 use Rattle.strat_model.specs.Run.{Transcript, bodies_of, tables_of}
 use Rattle.strat_model.specs.Table.{fresh}
-use Rattle.strat_standing.specs.Standing.{ShowsTable}
+use Rattle.def_publish.specs.Standing.{ShowsTable}
 use Rattle.strat_open.specs.Format.{IsBlank}
 use Rattle.strat_memory.specs.Paying.{IsPaidIn}
 use Rattle.strat_serve.specs.Tables.{IsThrifty}

@@ -1,22 +1,22 @@
 -- What the program does for its arguments.
 use Rattle.std.specs.Prelude.{◌≡◌, ◌≢◌, ◌⊎◌, ℕ, ◌==◌, if◌then◌else◌, List, [], ◌∷◌, ◌++◌, Option, Some, None, Ok, Err, codes}
-use Rattle.strat_format.specs.Damage.{Read}
-use Rattle.strat_crash.specs.Image.{Image}
-use Rattle.strat_crash.specs.Moments.{DiskView, Exposes, OnlyReads, Since}
-use Rattle.strat_format.specs.SuperBlock.{newest_in}
+use Rattle.def_bytes.specs.Damage.{Read}
+use Rattle.def_crash.specs.Image.{Image}
+use Rattle.def_crash.specs.Moments.{DiskView, Exposes, OnlyReads, Since}
+use Rattle.def_bytes.specs.SuperBlock.{newest_in}
 use Rattle.strat_io.specs.Streams.{Appends}
 use Rattle.strat_model.specs.declared.ended.Ended.{Ended}
 use Rattle.strat_model.specs.declared.ended.Ended.TheVariants as ended
 use Rattle.strat_model.specs.Ended.{status_of}
 use Rattle.strat_model.specs.Table.{Table}
-use Rattle.strat_recovery.specs.Head.{Head}
-use Rattle.strat_recovery.specs.Opening.{recover}
-use Rattle.strat_standing.specs.Standing.{ShowsTable}
-use Rattle.strat_recovery.specs.Texts as texts
+use Rattle.def_recovery.specs.Head.{Head}
+use Rattle.def_recovery.specs.Opening.{recover}
+use Rattle.def_publish.specs.Standing.{ShowsTable}
+use Rattle.def_texts.specs.Texts as texts
 use Rattle.strat_open.specs.Format.{IsNewDisk, IsBlank, IsNoneOrNew, KeepsOthers}
 use Rattle.strat_serve.specs.Session.{SendsPrefix, RunOutcome, RefusesFor, EndHasCause, ExposesDamage}
 use Rattle.strat_serve.specs.World.{World, IsCalm}
-use Rattle.strat_crash.specs.Faults.{Rose}
+use Rattle.def_crash.specs.Faults.{Rose}
 use Rattle.strat_report.specs.Reporting.{levels_text, WritesReport, IsComplete}
 use Rattle.castle.specs.Arguments.{Subcommand, Serve, Format, Levels, Workload}
 use Rattle.castle.specs.Working.{EndsWorkload, LeavesWorkload, SendsSummary}

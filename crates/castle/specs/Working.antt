@@ -1,17 +1,17 @@
 -- What a run of a workload does: it makes a store, carries out the workload on it, and says what that came to.
 use Rattle.std.specs.Prelude.{◌≡◌, ◌≤◌, ◌⊎◌, ℕ, List, length, take, Option, Some, None, Ok}
-use Rattle.strat_crash.specs.Image.{Image}
-use Rattle.strat_crash.specs.Moments.{DiskView, Images, Since}
-use Rattle.strat_crash.specs.Trail.{At, Trail}
+use Rattle.def_crash.specs.Image.{Image}
+use Rattle.def_crash.specs.Moments.{DiskView, Images, Since}
+use Rattle.def_crash.specs.Trail.{At, Trail}
 use Rattle.strat_io.specs.Streams.{Appends}
 use Rattle.strat_model.specs.declared.ended.Ended.{Ended}
 use Rattle.strat_model.specs.declared.ended.Ended.TheVariants as ended
 use Rattle.strat_model.specs.Run.{Position, Transcript, IsTranscript, UsesOneRegion, bodies_of, tables_of}
 use Rattle.strat_model.specs.Table.{Table, fresh, bare}
-use Rattle.strat_recovery.specs.Head.{Head}
-use Rattle.strat_recovery.specs.Texts as texts
+use Rattle.def_recovery.specs.Head.{Head}
+use Rattle.def_texts.specs.Texts as texts
 use Rattle.strat_report.specs.Reporting.{RecoversAs, AppendsFront}
-use Rattle.strat_standing.specs.Standing.{ShowsTable}
+use Rattle.def_publish.specs.Standing.{ShowsTable}
 use Rattle.strat_open.specs.Format.{IsBlank, IsNewStore, IsNoneOrNew}
 use Rattle.strat_memory.specs.Paying.{ArePaidSince, StoreTwoSince}
 use Rattle.strat_serve.specs.Generated.{workload_bodies}

@@ -1,9 +1,9 @@
 //! Making a new store, and saying so.
 
 ghost use Rattle.std.specs.Prelude.{◌≡◌, ◌≢◌, ℕ, List, Option, IfOk, string_bytes};
-ghost use Rattle.strat_format.specs.SuperBlock.{AreLimits};
-ghost use Rattle.strat_crash.specs.Image.{Image};
-ghost use Rattle.strat_crash.specs.Moments.{Exposes, Since, Passes};
+ghost use Rattle.def_bytes.specs.SuperBlock.{AreLimits};
+ghost use Rattle.def_crash.specs.Image.{Image};
+ghost use Rattle.def_crash.specs.Moments.{Exposes, Since, Passes};
 ghost use Rattle.strat_open.specs.Format.{IsNewDisk, IsBlank, IsNoneOrNew, KeepsOthers};
 ghost use Rattle.strat_serve.specs.Session.{EndHasCause};
 ghost use Rattle.strat_serve.specs.World.{world};

@@ -2,15 +2,15 @@
 //! nothing.
 
 ghost use Rattle.std.specs.Prelude.{◌≡◌, ◌≢◌, ◌⊎◌, ℕ, List, Ok, Err, None, Some};
-ghost use Rattle.strat_crash.specs.Faults.{Rose};
-ghost use Rattle.strat_crash.specs.Image.{Image, Outside};
-ghost use Rattle.strat_crash.specs.Moments.{Exposes, Images, Since};
-ghost use Rattle.strat_format.specs.Layout.{region_at, other_region};
-ghost use Rattle.strat_format.specs.SuperBlock.{Super, newest_in};
+ghost use Rattle.def_crash.specs.Faults.{Rose};
+ghost use Rattle.def_crash.specs.Image.{Image, Outside};
+ghost use Rattle.def_crash.specs.Moments.{Exposes, Images, Since};
+ghost use Rattle.def_bytes.specs.Layout.{region_at, other_region};
+ghost use Rattle.def_bytes.specs.SuperBlock.{Super, newest_in};
 ghost use Rattle.strat_model.specs.Table.{Table};
-ghost use Rattle.strat_recovery.specs.Head.{Head};
-ghost use Rattle.strat_recovery.specs.Opening.{recover};
-ghost use Rattle.strat_standing.specs.Standing.{ShowsTable};
+ghost use Rattle.def_recovery.specs.Head.{Head};
+ghost use Rattle.def_recovery.specs.Opening.{recover};
+ghost use Rattle.def_publish.specs.Standing.{ShowsTable};
 ghost use Rattle.strat_serve.specs.Session.{IsFoundDamaged};
 ghost use Rattle.strat_serve.specs.Tables.{AnswersAsTable, EndsAtTables, GoesThroughTables, KeepsSpace, begins_at};
 ghost use Rattle.strat_serve.specs.World.{Streams, beside};
@@ -18,7 +18,7 @@ ghost use Rattle.castle.specs.Arguments.{Serve};
 ghost use Rattle.castle.specs.Headline.{HasNotBegun};
 ghost use Rattle.castle.specs.Outcomes.{Runs};
 
-use strat_crash::laws::Viewed;
+use def_crash::laws::Viewed;
 
 /// The headline. Over a disk that shows a table, a run that is asked to serve a file answers what it takes as a run of that
 /// table does. At its end a crash leaves the table after all that was acknowledged, or after one command more; on

@@ -2,21 +2,21 @@
 //! a function that does nothing.
 
 ghost use Rattle.std.specs.Prelude.{◌≡◌, ◌≢◌, ◌≤◌, ◌⊎◌, ℕ, List, [], ◌∷◌, length, take, Ok, Err, None, Some};
-ghost use Rattle.strat_crash.specs.Faults.{Rose};
-ghost use Rattle.strat_crash.specs.Image.{Image};
-ghost use Rattle.strat_crash.specs.Moments.{Exposes, Images, Since};
-ghost use Rattle.strat_crash.specs.Trail.{At, Trail};
-ghost use Rattle.strat_format.specs.SuperBlock.{newest_in};
+ghost use Rattle.def_crash.specs.Faults.{Rose};
+ghost use Rattle.def_crash.specs.Image.{Image};
+ghost use Rattle.def_crash.specs.Moments.{Exposes, Images, Since};
+ghost use Rattle.def_crash.specs.Trail.{At, Trail};
+ghost use Rattle.def_bytes.specs.SuperBlock.{newest_in};
 ghost use Rattle.strat_io.specs.Streams.{Appends};
 ghost use Rattle.strat_model.specs.Ended.{status_of};
 ghost use Rattle.strat_model.specs.Run.{Transcript, IsTranscript, UsesOneRegion, bodies_of, tables_of};
 ghost use Rattle.strat_model.specs.Table.{fresh, bare};
-ghost use Rattle.strat_recovery.specs.Head.{Head};
-ghost use Rattle.strat_recovery.specs.Opening.{recover, reads_as};
-ghost use Rattle.strat_recovery.specs.Texts.{text, report, damaged_line};
+ghost use Rattle.def_recovery.specs.Head.{Head};
+ghost use Rattle.def_recovery.specs.Opening.{recover, reads_as};
+ghost use Rattle.def_texts.specs.Texts.{text, report, damaged_line};
 ghost use Rattle.strat_report.specs.Reporting.{AppendsFront, end_for, levels_text};
-ghost use Rattle.strat_standing.specs.Standing.{ShowsTable};
-ghost use Rattle.strat_state.specs.State.{fresh_state};
+ghost use Rattle.def_publish.specs.Standing.{ShowsTable};
+ghost use Rattle.def_state.specs.State.{fresh_state};
 ghost use Rattle.strat_open.specs.Format.{IsBlank, IsFormatted};
 ghost use Rattle.strat_memory.specs.Paying.{IsPaidIn};
 ghost use Rattle.strat_serve.specs.Generated.{workload_bodies};
@@ -28,7 +28,7 @@ ghost use Rattle.castle.specs.Headline.{GoesThroughNewTables, HasNotBegun, IsNon
 ghost use Rattle.castle.specs.Outcomes.{LeavesAlone, Runs, format_text};
 ghost use Rattle.castle.specs.Working.{summary_of, workload_start};
 
-use strat_crash::laws::Viewed;
+use def_crash::laws::Viewed;
 
 /// A run that formats and has made a store says so, as far as the sink takes it: then a crash leaves a new store, with a new
 /// table. On the way it leaves that, or none, where both slots were shut. It writes nowhere else, and ends for a cause.

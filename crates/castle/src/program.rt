@@ -1,7 +1,7 @@
 //! The subcommands of the program.
 
 ghost use Rattle.std.specs.Prelude.{◌≡◌, map, string_bytes};
-ghost use Rattle.strat_crash.specs.Moments.{Passes};
+ghost use Rattle.def_crash.specs.Moments.{Passes};
 ghost use Rattle.strat_serve.specs.World.{world};
 ghost use Rattle.castle.specs.Arguments.{subcommand_in};
 ghost use Rattle.castle.specs.Outcomes.{Runs, LeavesAlone, text_of};

@@ -1,9 +1,9 @@
 //! Carrying out a workload on a new store.
 
 ghost use Rattle.std.specs.Prelude.{◌≡◌, ◌≢◌, ℕ, List, Option};
-ghost use Rattle.strat_crash.specs.Image.{Image};
-ghost use Rattle.strat_crash.specs.Faults.{Rose};
-ghost use Rattle.strat_crash.specs.Moments.{Exposes, Passes};
+ghost use Rattle.def_crash.specs.Image.{Image};
+ghost use Rattle.def_crash.specs.Faults.{Rose};
+ghost use Rattle.def_crash.specs.Moments.{Exposes, Passes};
 ghost use Rattle.strat_report.specs.Reporting.{IsSilent};
 ghost use Rattle.strat_serve.specs.Session.{EndHasCause};
 ghost use Rattle.strat_serve.specs.World.{world};

@@ -4,8 +4,8 @@ use Rattle.std.specs.List.{list_all}
 use Rattle.std.proofs.lemmas.Bool.{and_parts, ltb-true}
 use Rattle.strat_base.specs.Entries.{Entry, is_ascending}
 use Rattle.strat_base.specs.EntryBytes.{fits_fields}
-use Rattle.strat_format.specs.Block.{block_in, block_front}
-use Rattle.strat_format.proofs.BlockLemmas.{block_in-some}
+use Rattle.def_bytes.specs.Block.{block_in, block_front}
+use Rattle.def_bytes.proofs.BlockLemmas.{block_in-some}
 use Rattle.strat_array.specs.Left.{has_entry}
 
 pub block_filled : (bytes : List ℕ) (entries : List Entry) → block_in bytes ≡ Some entries → has_entry entries ≡ true

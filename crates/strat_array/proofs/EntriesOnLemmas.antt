@@ -3,13 +3,13 @@ use Rattle.std.proofs.Common.{◌≡◌, ◌*◌, ℕ, arith, inl, inr, List, []
 use Rattle.std.specs.Option.{option_map, option_and_then}
 use Rattle.std.proofs.lemmas.List.{append-nil}
 use Rattle.strat_base.specs.Entries.{Entry}
-use Rattle.strat_base.proofs.TreeLemmas.{option_cases}
-use Rattle.strat_crash.specs.Image.{Image}
-use Rattle.strat_format.specs.Block.{block_in}
-use Rattle.strat_format.specs.Arrays.{block_on, entries_on}
+use Rattle.strat_base.proofs.ResultFacts.{option_cases}
+use Rattle.def_crash.specs.Image.{Image}
+use Rattle.def_bytes.specs.Block.{block_in}
+use Rattle.def_bytes.specs.Arrays.{block_on, entries_on}
 use Rattle.std.proofs.lemmas.List.Elements.{Contains-append_right}
-use Rattle.strat_crash.specs.Blocks.{AgreeOn}
-use Rattle.strat_crash.proofs.ImageLemmas.{window_same}
+use Rattle.def_crash.specs.Blocks.{AgreeOn}
+use Rattle.def_crash.proofs.ImageLemmas.{window_same}
 
 -- the blocks behind others have their entries behind those
 pub entries_on-append : (f : Image) (xs ys : List ℕ) (es fs : List Entry) → entries_on f xs ≡ Some es → entries_on f ys ≡ Some fs → entries_on f (xs ++ ys) ≡ Some (es ++ fs)

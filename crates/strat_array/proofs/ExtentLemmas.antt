@@ -4,8 +4,8 @@ use Rattle.std.specs.List.{list_all, range_with_len, slice_get}
 use Rattle.std.proofs.lemmas.Bool.{and_parts, ltb-true}
 use Rattle.std.proofs.lemmas.List.{drop_more}
 use Rattle.strat_base.specs.declared.descriptors.Extent.{Extent}
-use Rattle.strat_format.specs.Arrays.{blocks_of}
-use Rattle.strat_format.specs.Manifest.{is_lawful_extent}
+use Rattle.def_bytes.specs.Arrays.{blocks_of}
+use Rattle.def_bytes.specs.Manifest.{is_lawful_extent}
 use Rattle.strat_array.specs.Within.{AreWithin, EndWithin}
 use Rattle.strat_array.specs.Pushed.{AreMaximal, blocks_needed}
 use Rattle.strat_base.specs.Entries.{Entry}

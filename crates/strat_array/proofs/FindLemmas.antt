@@ -5,7 +5,7 @@ use Rattle.std.proofs.lemmas.Bool.{and_parts}
 use Rattle.strat_base.specs.Tree.{Parents, is_ancestor}
 use Rattle.strat_base.proofs.EntryLemmas.{is_of_key}
 use Rattle.strat_base.specs.Entries.{Entry, is_of, is_ascending}
-use Rattle.strat_crash.specs.Moments.{DiskView}
+use Rattle.def_crash.specs.Moments.{DiskView}
 use Rattle.strat_array.specs.declared.place.Place.{Place}
 use Rattle.strat_array.specs.declared.seen.Seen.{Seen}
 use Rattle.strat_array.specs.declared.seen.Seen.TheVariants as seen

@@ -9,8 +9,8 @@ use Rattle.strat_base.specs.Tree.{Parents, is_ancestor, IsTree}
 use Rattle.strat_base.specs.Entries.{Entry, is_of, is_ascending}
 use Rattle.strat_base.proofs.ListFacts.{all_at, all_from, filter_among}
 use Rattle.strat_base.proofs.EntryLemmas.{is_of_key}
-use Rattle.strat_state.specs.Reading.{live_of}
-use Rattle.strat_state.proofs.SettingLemmas.{order, stands_first}
+use Rattle.def_state.specs.Reading.{live_of}
+use Rattle.def_state.proofs.SettingLemmas.{order, stands_first}
 use Rattle.strat_array.specs.declared.seen.Seen.{Seen}
 use Rattle.strat_array.specs.Told.{TheirPairs, TellsFound}
 use Rattle.strat_array.specs.Left.{is_from}

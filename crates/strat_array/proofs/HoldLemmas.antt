@@ -5,7 +5,7 @@ use Rattle.std.specs.Map.{lookup}
 use Rattle.std.proofs.lemmas.Bool.{lt-ltb, le-ltb, ltb-false}
 use Rattle.lru.proofs.CallerLemmas.{Contains-lookup}
 use Rattle.strat_base.specs.Entries.{Entry}
-use Rattle.strat_crash.specs.Moments.{DiskView}
+use Rattle.def_crash.specs.Moments.{DiskView}
 use Rattle.strat_array.specs.declared.place.Place.{Place}
 use Rattle.strat_array.specs.Kept.{Kept, Blocks, is_keyed, held_block, TakesOver, Looks, ArrayStands}
 use Rattle.strat_array.specs.Left.{left_at}

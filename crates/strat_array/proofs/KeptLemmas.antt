@@ -5,11 +5,11 @@ use Rattle.std.specs.Map.{lookup}
 use Rattle.std.specs.Option.{option_map, option_and_then, option_or}
 use Rattle.lru.proofs.CallerLemmas.{Contains-lookup}
 use Rattle.strat_base.specs.Entries.{Entry}
-use Rattle.strat_crash.specs.Image.{Image}
-use Rattle.strat_crash.specs.Moments.{DiskView, OnlyReads}
-use Rattle.strat_crash.proofs.MomentLemmas.{reads_refl, reads_trans}
+use Rattle.def_crash.specs.Image.{Image}
+use Rattle.def_crash.specs.Moments.{DiskView, OnlyReads}
+use Rattle.def_crash.proofs.MomentLemmas.{reads_refl, reads_trans}
 use Rattle.strat_array.specs.Blocks.{lists_on}
-use Rattle.strat_format.specs.Arrays.{block_on}
+use Rattle.def_bytes.specs.Arrays.{block_on}
 use Rattle.strat_array.specs.Kept.{Kept, Blocks, is_keyed, held_block, kept_block, AddsNone, AddsOnly, IsBlockRead, Looks, ArrayStands}
 use Rattle.strat_array.proofs.CacheLemmas.{keyed_same}
 

@@ -3,8 +3,8 @@ use Rattle.std.proofs.Common.{◌≡◌, ℕ, zero, suc, List, [], ◌∷◌, �
 use Rattle.std.specs.List.{slice_get}
 use Rattle.std.specs.Option.{option_map, option_and_then}
 use Rattle.strat_base.specs.Entries.{Entry}
-use Rattle.strat_crash.specs.Image.{Image}
-use Rattle.strat_format.specs.Arrays.{block_on, entries_on}
+use Rattle.def_crash.specs.Image.{Image}
+use Rattle.def_bytes.specs.Arrays.{block_on, entries_on}
 use Rattle.strat_array.specs.Blocks.{lists_on}
 use Rattle.strat_array.specs.Kept.{Blocks, ArrayStands}
 use Rattle.strat_array.specs.Left.{all_in}

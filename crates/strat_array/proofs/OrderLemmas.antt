@@ -9,8 +9,8 @@ use Rattle.std.proofs.lemmas.Cmp.{nat_list_cmp_total}
 use Rattle.strat_base.specs.Order.{key_cmp}
 use Rattle.strat_base.specs.Entries.{Entry, is_ascending}
 use Rattle.strat_base.proofs.ListFacts.{Among, among_right}
-use Rattle.strat_state.proofs.MapLemmas.{same_key}
-use Rattle.strat_state.proofs.SettingLemmas.{order, stands_first, first_of}
+use Rattle.def_state.proofs.MapLemmas.{same_key}
+use Rattle.def_state.proofs.SettingLemmas.{order, stands_first, first_of}
 use Rattle.strat_array.specs.Left.{is_from}
 
 pub ascending_right : (xs ys : List Entry) → is_ascending (xs ++ ys) ≡ true → is_ascending ys ≡ true

@@ -4,7 +4,7 @@ use Rattle.std.specs.List.{filter, list_all, slice_get}
 use Rattle.std.proofs.lemmas.Bool.{and_parts, and_from, cases_lt}
 use Rattle.strat_base.specs.declared.limits.TheConstants.{BLOCK}
 use Rattle.strat_base.specs.Entries.{Entry, is_ascending}
-use Rattle.strat_crash.specs.Image.{Image, window}
+use Rattle.def_crash.specs.Image.{Image, window}
 use Rattle.strat_array.specs.declared.place.Place.{Place}
 use Rattle.strat_array.specs.Blocks.{lists_on}
 use Rattle.strat_array.specs.Left.{all_in, left_at, has_entry, is_from, starts_below, Bound}

@@ -6,15 +6,15 @@ use Rattle.strat_base.specs.declared.descriptors.Extent.{Extent}
 use Rattle.strat_base.specs.Entries.{Entry}
 use Rattle.strat_base.specs.EntryBytes.{fits_fields, entry_bytes}
 use Rattle.strat_base.proofs.EntryBytesLemmas.{length-entry_bytes}
-use Rattle.strat_crash.specs.Image.{Image, window, patch}
-use Rattle.strat_crash.specs.Moments.{DiskView, Exposes, Writes}
-use Rattle.strat_crash.specs.Blocks.{TearsBlocks}
-use Rattle.strat_crash.proofs.BlockLemmas.{exposed_once}
-use Rattle.strat_crash.proofs.ImageLemmas.{window_patch}
-use Rattle.strat_crash.proofs.MomentLemmas.{at_told}
+use Rattle.def_crash.specs.Image.{Image, window, patch}
+use Rattle.def_crash.specs.Moments.{DiskView, Exposes, Writes}
+use Rattle.def_crash.specs.Blocks.{TearsBlocks}
+use Rattle.def_crash.proofs.BlockLemmas.{exposed_once}
+use Rattle.def_crash.proofs.ImageLemmas.{window_patch}
+use Rattle.def_crash.proofs.MomentLemmas.{at_told}
 use Rattle.strat_extent.specs.Blocks.{SpaceView, is_free}
-use Rattle.strat_format.specs.Block.{block_in, block_front}
-use Rattle.strat_format.specs.Arrays.{blocks_of, block_on, entries_on}
+use Rattle.def_bytes.specs.Block.{block_in, block_front}
+use Rattle.def_bytes.specs.Arrays.{blocks_of, block_on, entries_on}
 use Rattle.strat_block.proofs.BlockFacts.{length-front}
 use Rattle.strat_array.specs.Taking.{AreUsed}
 use Rattle.strat_array.specs.Pushed.{IsWritten, blocks_needed}

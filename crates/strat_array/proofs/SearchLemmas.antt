@@ -1,29 +1,17 @@
 -- A search over the blocks of an array, step by step.
-use Rattle.std.proofs.Common.{◌≡◌, ◌<◌, ◌≤◌, ◌+◌, ◌-◌, ◌*◌, ◌/◌, ◌^◌, ℕ, zero, suc, Bool, true, false, cond, eqb, get_or, List, [], ◌∷◌, length, Option, Some, None, IsSome, Result, Ok, Err, OnOk, IfOk, IsErrAnd, refl, sym, ap, ◌∙◌, arith, true≢false, eq-eqb}
+use Rattle.std.proofs.Common.{◌≡◌, ◌<◌, ◌≤◌, ◌+◌, ◌-◌, ◌*◌, ◌/◌, ◌^◌, ℕ, zero, suc, Bool, true, false, cond, eqb, get_or, List, [], ◌∷◌, length, Option, Some, None, IsSome, refl, sym, ap, ◌∙◌, arith, true≢false, eq-eqb}
 use Rattle.std.specs.List.{slice_get}
 use Rattle.std.specs.Ordering.{is_lt}
-use Rattle.std.proofs.lemmas.Result.{err_from_is_err_and}
 use Rattle.strat_base.specs.Order.{key_cmp}
 use Rattle.strat_base.specs.Entries.{Entry}
 use Rattle.strat_base.proofs.ListFacts.{any_from, get_among}
-use Rattle.strat_crash.specs.Image.{Image}
-use Rattle.strat_crash.specs.Moments.{DiskView}
-use Rattle.strat_format.specs.Arrays.{block_on}
+use Rattle.def_crash.specs.Image.{Image}
+use Rattle.def_crash.specs.Moments.{DiskView}
+use Rattle.def_bytes.specs.Arrays.{block_on}
 use Rattle.strat_array.specs.Kept.{Kept, Blocks, kept_block, Looks, ArrayStands}
 use Rattle.strat_array.specs.Left.{starts_below, Bound}
 use Rattle.strat_array.specs.Within.{IsNoBlock}
 use Rattle.strat_array.proofs.KeptLemmas.{listed_at, listed_length, looks_refl, looks_trans, stands_after, kept_is}
-
--- an index below a list's length has an element
-pub get_some : {X : Type 0} (xs : List X) (i : ℕ) → i < length xs → IsSome (slice_get xs i)
-get_some [] i lt = absurd (omega arith)
-get_some (x ∷ xs) zero lt = refl
-get_some (x ∷ xs) (suc i) lt = get_some xs i (omega arith)
-
-pub get_is : {X : Type 0} (xs : List X) (i : ℕ) (x d : X) → slice_get xs i ≡ Some x → get_or xs i d ≡ x
-get_is [] i x d e = absurd (cc)
-get_is (y ∷ ys) zero x d e = cc
-get_is (y ∷ ys) (suc i) x d e = get_is ys i x d e
 
 -- the first key of a block that is not empty
 pub begins : (key k : List ℕ) (entries : List Entry) → 0 < length entries → ((d : Entry) → k ≡ (get_or entries 0 d).key) → is_lt (key_cmp k key) ≡ starts_below key entries
@@ -128,19 +116,3 @@ kept_listed old new array blocks c d s t lists index block looks place some stan
     go (Some x) some is now y at =
         let same : x ≡ y = kept_is new.content array blocks d lists index x y t now is at in
         is ∙ ap (λ (l : List Entry). Some l) same ∙ sym at
-
-pub on_ok_then : {T E : Type 0} {P Q : Type 0} (r : Result T E) → OnOk r P → (P → Q) → OnOk r Q
-on_ok_then (Ok x) is then = then is
-on_ok_then (Err e) is then = tt
-
--- the error that is handed on is the one that came
-pub err_of : {T U E : Type 0} (r : Result T E) (y z : E) → IsErrAnd r (λ e. e ≡ y) → r ≡ Err z → ◌≡◌ {A = Result U E} (Err y) (Err z)
-err_of r y z and is =
-    let p = err_from_is_err_and r and in
-    let same : Err p.0 ≡ Err z = sym p.1 ∙ is in
-    let one : p.0 ≡ z = cc in
-    ap (λ (w : _). Err w) (sym p.2 ∙ one)
-
-pub if_ok_then : {T E : Type 0} {P Q : T → Type 0} (r : Result T E) → IfOk r P → ((x : T) → P x → Q x) → IfOk r Q
-if_ok_then (Ok x) is then = then x is
-if_ok_then (Err e) is then = tt

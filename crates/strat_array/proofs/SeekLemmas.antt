@@ -8,7 +8,7 @@ use Rattle.std.proofs.lemmas.List.Elements.{filter-append}
 use Rattle.strat_base.specs.Order.{key_cmp}
 use Rattle.strat_base.specs.Entries.{Entry, is_ascending}
 use Rattle.strat_base.proofs.ListFacts.{Among, among_left, among_right, all_at, all_from}
-use Rattle.strat_state.proofs.SettingLemmas.{order, stands_first}
+use Rattle.def_state.proofs.SettingLemmas.{order, stands_first}
 use Rattle.strat_block.specs.Places.{IsFirstFrom}
 use Rattle.strat_array.specs.Left.{all_in, left_at, has_entry, is_from, starts_below, Bound}
 use Rattle.strat_array.proofs.OrderLemmas.{ascending_right, ascending_across, below_before, filter_none, filter_each, all_after_first}

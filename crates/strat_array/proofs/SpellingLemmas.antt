@@ -5,7 +5,7 @@ use Rattle.std.proofs.lemmas.Bool.{and_from, le-leb, lt-ltb, not_from_false, fal
 use Rattle.strat_array.specs.Pushed.{AreMaximal}
 use Rattle.strat_array.specs.Within.{AreWithin}
 use Rattle.strat_base.specs.declared.descriptors.Extent.{Extent}
-use Rattle.strat_format.specs.Manifest.{is_lawful_extent, are_apart}
+use Rattle.def_bytes.specs.Manifest.{is_lawful_extent, are_apart}
 
 -- each extent ends at a block number
 abbrev EndLow : List Extent → Type 0

@@ -6,14 +6,14 @@ use Rattle.std.proofs.lemmas.List.{append-nil}
 use Rattle.std.proofs.lemmas.List.Elements.{Contains-append_cases}
 use Rattle.std.proofs.lemmas.List.Sums.{sum_by-append, sum_by-cons}
 use Rattle.strat_base.specs.declared.descriptors.Extent.{Extent}
-use Rattle.strat_crash.specs.Blocks.{AgreeOn, KeepsTaken}
-use Rattle.strat_crash.specs.Image.{Image}
+use Rattle.def_crash.specs.Blocks.{AgreeOn, KeepsTaken}
+use Rattle.def_crash.specs.Image.{Image}
 use Rattle.strat_extent.specs.Blocks.{SpaceView, times_in, is_used, is_free}
 use Rattle.strat_extent.specs.Change.{SameBlocks, CanGive}
 use Rattle.strat_extent.proofs.BlockLemmas.{times_listed}
 use Rattle.strat_extent.proofs.CountLemmas.{times_append}
 use Rattle.strat_extent.proofs.ChangeLemmas.{free_bounds, used_not_free, used_uses, uses_used, is_free_of}
-use Rattle.strat_format.specs.Arrays.{blocks_of}
+use Rattle.def_bytes.specs.Arrays.{blocks_of}
 use Rattle.strat_array.specs.Taking.{AreUsed, IsLowestTaken, TakesBlock}
 
 only_one : (b q : ℕ) → Contains (b ∷ []) q → b ≡ q

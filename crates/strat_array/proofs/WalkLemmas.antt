@@ -11,13 +11,14 @@ use Rattle.strat_base.specs.Tree.{Parents, is_ancestor, IsTree}
 use Rattle.strat_base.specs.Entries.{Entry, is_of, is_at, is_ascending}
 use Rattle.strat_base.proofs.ListFacts.{Among, find_some, find_none}
 use Rattle.strat_base.proofs.EntryLemmas.{same_bytes, is_of_key, at_key_version}
-use Rattle.strat_base.proofs.TreeLemmas.{option_cases, path_le, ancestor_among, among_ancestor}
-use Rattle.strat_state.specs.Live.{deciding}
-use Rattle.strat_state.specs.Reading.{live_of}
-use Rattle.strat_state.proofs.LiveLemmas.{deciding_some, deciding_found, deciding_live}
-use Rattle.strat_state.proofs.MapLemmas.{same_key}
-use Rattle.strat_state.proofs.LevelLemmas.{ascending_single}
-use Rattle.strat_state.proofs.SettingLemmas.{order, stands_first, first_of, order_version}
+use Rattle.strat_base.proofs.ResultFacts.{option_cases}
+use Rattle.strat_base.proofs.TreeLemmas.{path_le, ancestor_among, among_ancestor}
+use Rattle.def_state.specs.Live.{deciding}
+use Rattle.def_state.specs.Reading.{live_of}
+use Rattle.def_state.proofs.LiveLemmas.{deciding_some, deciding_found, deciding_live}
+use Rattle.def_state.proofs.MapLemmas.{same_key}
+use Rattle.def_state.proofs.LevelLemmas.{ascending_single}
+use Rattle.def_state.proofs.SettingLemmas.{order, stands_first, first_of, order_version}
 use Rattle.strat_array.specs.Left.{all_in, left_at, is_from}
 use Rattle.strat_array.specs.Walk.{is_seen_at, Going}
 

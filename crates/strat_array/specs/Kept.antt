@@ -3,10 +3,10 @@ use Rattle.std.specs.Prelude.{◌≡◌, ℕ, ◌==◌, ◌&&◌, ◌⊎◌, Boo
 use Rattle.std.specs.Map.{lookup}
 use Rattle.std.specs.Option.{option_or}
 use Rattle.strat_base.specs.Entries.{Entry}
-use Rattle.strat_crash.specs.Image.{Image}
-use Rattle.strat_crash.specs.Moments.{DiskView, OnlyReads}
+use Rattle.def_crash.specs.Image.{Image}
+use Rattle.def_crash.specs.Moments.{DiskView, OnlyReads}
 use Rattle.strat_array.specs.Blocks.{lists_on}
-use Rattle.strat_format.specs.Arrays.{block_on}
+use Rattle.def_bytes.specs.Arrays.{block_on}
 
 -- a block that is kept: the number of its array and its index there, and its entries
 abbrev pub Kept : Type 0

@@ -1,7 +1,7 @@
 -- The fields of what hands out the numbers of an array's blocks.
 use Rattle.std.specs.List.{range_with_len}
 use Rattle.std.specs.Prelude.{ℕ, ◌+◌, ◌≤◌, List, ◌++◌, drop}
-use Rattle.strat_format.specs.Arrays.{blocks_of}
+use Rattle.def_bytes.specs.Arrays.{blocks_of}
 use Rattle.strat_array.specs.Within.{AreWithin}
 use Rattle.strat_array.specs.declared.numbers.BlockNumbers.TheInside.{Inside}
 

@@ -5,10 +5,10 @@ use Rattle.strat_base.specs.declared.descriptors.Extent.{Extent}
 use Rattle.strat_base.specs.declared.failures.Trouble.{Trouble}
 use Rattle.strat_base.specs.declared.failures.Trouble.TheVariants.{NoMemory, Device, Damaged}
 use Rattle.strat_base.specs.Entries.{Entry}
-use Rattle.strat_crash.specs.Faults.{Rose}
-use Rattle.strat_crash.specs.Image.{Image}
-use Rattle.strat_format.specs.Block.{block_front}
-use Rattle.strat_format.specs.Arrays.{blocks_of, entries_on}
+use Rattle.def_crash.specs.Faults.{Rose}
+use Rattle.def_crash.specs.Image.{Image}
+use Rattle.def_bytes.specs.Block.{block_front}
+use Rattle.def_bytes.specs.Arrays.{blocks_of, entries_on}
 use Rattle.strat_array.specs.Progress.{ArrayProgress}
 
 -- an image has some of these entries in the blocks of extents, and the others are in no block yet

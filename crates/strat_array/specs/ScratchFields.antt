@@ -1,6 +1,6 @@
 -- The fields of a scratch.
 use Rattle.std.specs.Prelude.{◌≡◌, length, Option, IsSome, IfSome, option_map}
-use Rattle.strat_format.specs.Block.{block_in}
+use Rattle.def_bytes.specs.Block.{block_in}
 use Rattle.strat_block.specs.Places.{entries_of_block}
 use Rattle.strat_array.specs.Kept.{Kept}
 use Rattle.strat_array.specs.declared.scratch.Scratch.TheInside.{Inside}

@@ -2,8 +2,8 @@
 use Rattle.std.specs.Prelude.{◌≡◌, ◌≤◌, ◌<◌, ℕ, ◌+◌, ◌==◌, List, length, slice_index_or, Option, Some, None, IsTrue}
 use Rattle.std.specs.List.{list_any, All}
 use Rattle.strat_base.specs.declared.descriptors.Extent.{Extent}
-use Rattle.strat_crash.specs.Image.{Image}
-use Rattle.strat_format.specs.Arrays.{block_on, blocks_of}
+use Rattle.def_crash.specs.Image.{Image}
+use Rattle.def_bytes.specs.Arrays.{block_on, blocks_of}
 
 -- each extent ends at 4,294,967,295 at most
 abbrev pub EndWithin : List Extent → Type 0

@@ -5,11 +5,11 @@ ghost use Rattle.strat_array.specs.Pushed.{AreMaximal};
 ghost use Rattle.strat_array.specs.Taking.{HasFreeBlock, IsLowestTaken};
 ghost use Rattle.strat_array.specs.Within.{EndWithin};
 ghost use Rattle.strat_base.specs.declared.descriptors.Extent.{Extent as TheExtent};
-ghost use Rattle.strat_crash.specs.Blocks.{TearsBlocks};
-ghost use Rattle.strat_crash.specs.Faults.{CountsFaults};
-ghost use Rattle.strat_crash.specs.Moments.{Writes};
+ghost use Rattle.def_crash.specs.Blocks.{TearsBlocks};
+ghost use Rattle.def_crash.specs.Faults.{CountsFaults};
+ghost use Rattle.def_crash.specs.Moments.{Writes};
 ghost use Rattle.strat_extent.specs.Change.{SameBlocks};
-ghost use Rattle.strat_format.specs.Arrays.{blocks_of};
+ghost use Rattle.def_bytes.specs.Arrays.{blocks_of};
 
 use strat_base::limits::BLOCK;
 use strat_base::{Extent, Extents, Failed, NoMemory};

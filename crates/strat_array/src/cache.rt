@@ -36,7 +36,7 @@ impl Model for Cache {
 }
 
 /// Makes a block the most recently used, and says whether it is there.
-fn touch(blocks: &mut LruCache<(u64, u32), Block>, array: u64, index: u32) -> bool
+fn touch_block(blocks: &mut LruCache<(u64, u32), Block>, array: u64, index: u32) -> bool
     ensures ok { result ≡ is_some (lookup (is_keyed array index) blocks.old.entries) }
     ensures found { OnTrue result (IsSome (lookup (is_keyed array index) blocks.new.entries)) }
     ensures kept { AddsNone (blocks_in blocks.old) (blocks_in blocks.new) }
@@ -48,7 +48,7 @@ fn touch(blocks: &mut LruCache<(u64, u32), Block>, array: u64, index: u32) -> bo
 }
 
 /// Keeps a block, where memory is found for it.
-fn store(blocks: &mut LruCache<(u64, u32), Block>, array: u64, index: u32, block: Block)
+fn insert_block(blocks: &mut LruCache<(u64, u32), Block>, array: u64, index: u32, block: Block)
     ensures kept { AddsOnly (blocks_in blocks.old) (blocks_in blocks.new) (array, index) block }
     ensures len { length blocks.new.entries ≤ blocks.new.cap }
 {
@@ -69,20 +69,20 @@ impl Cache {
     }
 
     /// Makes a block the most recently used, and says whether it is there. O(1).
-    pub(crate) fn recall(&mut self, array: u64, index: u32) -> bool
+    pub(crate) fn touch(&mut self, array: u64, index: u32) -> bool
         ensures ok { result ≡ is_some (lookup (is_keyed array index) self.old.entries) }
         ensures found { OnTrue result (IsSome (lookup (is_keyed array index) self.new.entries)) }
         ensures kept { AddsNone self.old self.new }
     {
-        touch(&mut self.blocks, array, index)
+        touch_block(&mut self.blocks, array, index)
     }
 
     /// Keeps a copy of a block, where memory is found for it. O(1) and one copy of 4,096 bytes.
-    pub(crate) fn keep(&mut self, array: u64, index: u32, block: &BlockView<'_>)
+    pub(crate) fn insert(&mut self, array: u64, index: u32, block: &BlockView<'_>)
         ensures kept { AddsOnly self.old self.new (array, index) block.now }
     {
         if let Ok(copy) = Block::new(self.alloc, block.bytes()) {
-            store(&mut self.blocks, array, index, copy);
+            insert_block(&mut self.blocks, array, index, copy);
         }
     }
 

@@ -22,5 +22,5 @@ pub use place::Place;
 pub use scratch::Scratch;
 pub use search::seek;
 pub use seen::Seen;
-pub use walk::{entry_at, settle};
+pub use walk::{entry_at, first_place_from};
 pub use writer::ArrayWriter;

@@ -8,9 +8,9 @@ ghost use Rattle.strat_base.specs.EntryView.{entry_of};
 ghost use Rattle.strat_base.specs.Tree.{is_ancestor};
 ghost use Rattle.strat_base.specs.declared.failures.Fault.TheVariants.{Damaged, Device};
 ghost use Rattle.strat_base.specs.declared.limits.TheConstants.{PAIRS_MAX};
-ghost use Rattle.strat_crash.specs.Faults.{HasCause, ReadsAtMost};
-ghost use Rattle.strat_format.specs.Arrays.{blocks_of};
-ghost use Rattle.strat_state.specs.Reading.{live_of};
+ghost use Rattle.def_crash.specs.Faults.{HasCause, ReadsAtMost};
+ghost use Rattle.def_bytes.specs.Arrays.{blocks_of};
+ghost use Rattle.def_state.specs.Reading.{live_of};
 ghost use Rattle.strat_array.specs.Told.{TellsFound, AddsPair, Judges, Tells};
 ghost use Rattle.strat_array.specs.Kept.{Looks, ArrayStands};
 ghost use Rattle.strat_array.specs.Left.{all_in, is_from};
@@ -23,7 +23,7 @@ use crate::place::Place;
 use crate::scratch::Scratch;
 use crate::search::seek;
 use crate::seen::Seen;
-use crate::walk::settle;
+use crate::walk::first_place_from;
 use strat_base::{ArrayDesc, Entry, Fault, PairBuf, Val, Version};
 use strat_disk::Disk;
 use strat_tree::Tree;
@@ -102,7 +102,7 @@ fn live_from<D: Disk>(
         (D.reads disk.old) (D.reads disk.new) }
 {
     let mut place = place;
-    while let Some(at) = settle(disk, cache, desc, place, scratch)? {
+    while let Some(at) = first_place_from(disk, cache, desc, place, scratch)? {
         let entry = scratch.entry(at.index);
         if let Some(seen) = judge(&entry, tree, key, v, out) {
             return Ok(seen);

@@ -2,7 +2,7 @@
 
 ghost use Rattle.std.specs.List.{range_with_len};
 ghost use Rattle.std.specs.Prelude.{◌≡◌, ◌≤◌, ◌<◌, ◌+◌, [], ◌∷◌, ◌++◌, length, drop, IfOk, IfSome, IfNone};
-ghost use Rattle.strat_format.specs.Arrays.{blocks_of};
+ghost use Rattle.def_bytes.specs.Arrays.{blocks_of};
 ghost use Rattle.strat_array.specs.Within.{AreWithin};
 
 use std::alloc::Global;

@@ -6,10 +6,10 @@ ghost use Rattle.std.specs.Map.{lookup};
 ghost use Rattle.std.specs.Prelude.{◌≡◌, ◌<◌, ◌-◌, ◌^◌, ℕ, List, length, None, Some, IsSome, IfOk, OnOk, IsErrOf, is_some};
 ghost use Rattle.strat_base.specs.Entries.{Entry as TheEntry};
 ghost use Rattle.strat_base.specs.declared.failures.Fault.TheVariants.{Damaged, Device};
-ghost use Rattle.strat_crash.specs.Faults.{HasCause, ReadsAtMost};
-ghost use Rattle.strat_crash.specs.Image.{Image};
-ghost use Rattle.strat_crash.specs.Moments.{Exposes};
-ghost use Rattle.strat_format.specs.Arrays.{block_on, blocks_of};
+ghost use Rattle.def_crash.specs.Faults.{HasCause, ReadsAtMost};
+ghost use Rattle.def_crash.specs.Image.{Image};
+ghost use Rattle.def_crash.specs.Moments.{Exposes};
+ghost use Rattle.def_bytes.specs.Arrays.{block_on, blocks_of};
 ghost use Rattle.strat_array.specs.Kept.{kept_block, Looks, ArrayStands};
 ghost use Rattle.strat_array.specs.Within.{AreWithin, IsNoBlock};
 
@@ -22,7 +22,7 @@ use strat_disk::Disk;
 
 /// Sees to it that a block of an array is kept. Where it isn't yet, that is one read, one pass over its bytes and a
 /// copy into the cache.
-pub(crate) fn bring<D: Disk>(
+pub(crate) fn ensure_block<D: Disk>(
     disk: &mut D,
     cache: &mut Cache,
     array: u64,
@@ -45,16 +45,16 @@ pub(crate) fn bring<D: Disk>(
     if scratch.is_held(array, index) {
         return Ok(());
     }
-    if cache.recall(array, index) {
+    if cache.touch(array, index) {
         return Ok(());
     }
     scratch.fetch(disk, array, index, block)?;
-    cache.keep(array, index, &scratch.block());
+    cache.insert(array, index, &scratch.block());
     Ok(())
 }
 
 /// A block that is kept. O(1).
-pub(crate) fn lend<'b>(
+pub(crate) fn borrow_block<'b>(
     cache: &'b Cache,
     scratch: &'b Scratch,
     array: u64,
@@ -70,7 +70,7 @@ pub(crate) fn lend<'b>(
 }
 
 /// Sees to it that the block at an index of an array is kept: one read at most.
-pub(crate) fn reach<D: Disk>(
+pub(crate) fn ensure_block_at<D: Disk>(
     disk: &mut D,
     cache: &mut Cache,
     desc: &ArrayDesc,
@@ -92,5 +92,5 @@ pub(crate) fn reach<D: Disk>(
     ensures reads { ReadsAtMost 1 (D.reads disk.old) (D.reads disk.new) }
 {
     let block = block_at(desc.extents.as_slice(), index).unwrap();
-    bring(disk, cache, desc.id, index, block, scratch)
+    ensure_block(disk, cache, desc.id, index, block, scratch)
 }

@@ -5,11 +5,11 @@ ghost use Rattle.strat_base.specs.Entries.{Entry as TheEntry};
 ghost use Rattle.strat_base.specs.EntryBytes.{fits_fields};
 ghost use Rattle.strat_base.specs.EntryView.{entry_of};
 ghost use Rattle.strat_base.specs.declared.failures.Fault.TheVariants.{Damaged, Device};
-ghost use Rattle.strat_crash.specs.Faults.{HasCause, ReadsAtMost};
-ghost use Rattle.strat_crash.specs.Image.{Image};
-ghost use Rattle.strat_crash.specs.Moments.{Exposes, OnlyReads};
-ghost use Rattle.strat_format.specs.Block.{block_in, fits_block};
-ghost use Rattle.strat_format.specs.Arrays.{block_on};
+ghost use Rattle.def_crash.specs.Faults.{HasCause, ReadsAtMost};
+ghost use Rattle.def_crash.specs.Image.{Image};
+ghost use Rattle.def_crash.specs.Moments.{Exposes, OnlyReads};
+ghost use Rattle.def_bytes.specs.Block.{block_in, fits_block};
+ghost use Rattle.def_bytes.specs.Arrays.{block_on};
 ghost use Rattle.strat_array.specs.Kept.{held_block};
 
 use std::alloc::Global;

@@ -3,8 +3,8 @@
 ghost use Rattle.std.specs.Prelude.{◌≡◌, ◌≤◌, ◌<◌, ◌+◌, ◌^◌, if◌then◌else◌, ℕ, List, [], length, filter, slice_index_or, None, IfOk, IsErrOf, IsTrue};
 ghost use Rattle.strat_base.specs.Entries.{Entry as TheEntry, is_ascending};
 ghost use Rattle.strat_base.specs.declared.failures.Fault.TheVariants.{Damaged, Device};
-ghost use Rattle.strat_crash.specs.Faults.{HasCause, ReadsAtMost};
-ghost use Rattle.strat_format.specs.Arrays.{blocks_of};
+ghost use Rattle.def_crash.specs.Faults.{HasCause, ReadsAtMost};
+ghost use Rattle.def_bytes.specs.Arrays.{blocks_of};
 ghost use Rattle.strat_array.specs.Kept.{Looks, ArrayStands};
 ghost use Rattle.strat_array.specs.Left.{all_in, is_from, starts_below, Bound};
 ghost use Rattle.strat_array.specs.Steps.{left_from, FirstIn, IsPlaceFrom, IsSettled};
@@ -12,7 +12,7 @@ ghost use Rattle.strat_array.specs.Within.{AreWithin, IsNoBlock};
 
 use crate::cache::Cache;
 use crate::place::{Place, count_blocks};
-use crate::reading::{lend, reach};
+use crate::reading::{borrow_block, ensure_block_at};
 use crate::scratch::Scratch;
 use strat_base::{ArrayDesc, Fault, key_order};
 use strat_block::BlockView;
@@ -48,8 +48,8 @@ fn starts_before<D: Disk>(
     ensures cause { HasCause Device (D.faults disk.old) (D.faults disk.new) result }
     ensures reads { ReadsAtMost 1 (D.reads disk.old) (D.reads disk.new) }
 {
-    reach(disk, cache, desc, index, scratch)?;
-    Ok(begins_below(&lend(cache, scratch, desc.id, index), key))
+    ensure_block_at(disk, cache, desc, index, scratch)?;
+    Ok(begins_below(&borrow_block(cache, scratch, desc.id, index), key))
 }
 
 /// The borders of a search after the block in the midst of them was looked at.
@@ -129,8 +129,8 @@ fn first_in<D: Disk>(
     ensures cause { HasCause Device (D.faults disk.old) (D.faults disk.new) result }
     ensures reads { ReadsAtMost 1 (D.reads disk.old) (D.reads disk.new) }
 {
-    reach(disk, cache, desc, index, scratch)?;
-    Ok(index_in(&lend(cache, scratch, desc.id, index), key))
+    ensure_block_at(disk, cache, desc, index, scratch)?;
+    Ok(index_in(&borrow_block(cache, scratch, desc.id, index), key))
 }
 
 /// The place behind the entries below a key: in the last of n blocks that begin below it, or in the one after.

@@ -6,21 +6,21 @@ ghost use Rattle.strat_base.specs.Entries.{Entry as TheEntry};
 ghost use Rattle.strat_base.specs.EntryBytes.{fits_fields};
 ghost use Rattle.strat_base.specs.EntryView.{entry_of};
 ghost use Rattle.strat_base.specs.declared.failures.Fault.TheVariants.{Damaged, Device};
-ghost use Rattle.strat_crash.specs.Faults.{HasCause, ReadsAtMost};
-ghost use Rattle.strat_format.specs.Arrays.{blocks_of};
+ghost use Rattle.def_crash.specs.Faults.{HasCause, ReadsAtMost};
+ghost use Rattle.def_bytes.specs.Arrays.{blocks_of};
 ghost use Rattle.strat_array.specs.Kept.{Kept, held_block, kept_block, TakesOver, Looks, ArrayStands};
 ghost use Rattle.strat_array.specs.Steps.{blocks_ahead, GoesOn, HoldsPlace, IsNear, Settles, Steps};
 ghost use Rattle.strat_array.specs.Within.{AreWithin, IsNoBlock};
 
 use crate::cache::Cache;
 use crate::place::{Place, block_at};
-use crate::reading::bring;
+use crate::reading::ensure_block;
 use crate::scratch::Scratch;
 use strat_base::{ArrayDesc, Entry, Fault};
 use strat_disk::Disk;
 
 /// Takes a copy of a block that is kept, unless the scratch holds it.
-fn take_over(cache: &Cache, array: u64, index: u32, scratch: &mut Scratch)
+fn copy_from_cache(cache: &Cache, array: u64, index: u32, scratch: &mut Scratch)
     requires { IsSome (kept_block cache.now scratch.old array index) }
     ensures found { IsSome (held_block scratch.new array index) }
     ensures kept { TakesOver cache.now array index scratch.old scratch.new }
@@ -32,7 +32,7 @@ fn take_over(cache: &Cache, array: u64, index: u32, scratch: &mut Scratch)
 
 /// Sees to it that the scratch holds the block at an index of an array, and says whether there is one: one read at
 /// most, and no look-up where it holds the block already.
-fn hold<D: Disk>(
+fn load_scratch<D: Disk>(
     disk: &mut D,
     cache: &mut Cache,
     desc: &ArrayDesc,
@@ -63,8 +63,8 @@ fn hold<D: Disk>(
     let Some(block) = block_at(desc.extents.as_slice(), index) else {
         return Ok(false);
     };
-    bring(disk, cache, desc.id, index, block, scratch)?;
-    take_over(cache, desc.id, index, scratch);
+    ensure_block(disk, cache, desc.id, index, block, scratch)?;
+    copy_from_cache(cache, desc.id, index, scratch);
     Ok(true)
 }
 
@@ -73,7 +73,7 @@ fn hold<D: Disk>(
 /// O(extents), one look-up in the cache and one copy, or one read: two reads at most, since the walk may have to
 /// pass the end of one block. Device: the disk counted a fault. Damaged: this block of the array is no block of
 /// entries.
-pub fn settle<D: Disk>(
+pub fn first_place_from<D: Disk>(
     disk: &mut D,
     cache: &mut Cache,
     desc: &ArrayDesc,
@@ -101,7 +101,7 @@ pub fn settle<D: Disk>(
         ≤ D.reads disk.old
         + blocks_ahead scratch.old desc.now.id (length (blocks_of desc.now.extents)) place)) }
 {
-    if !hold(disk, cache, desc, place.block, scratch)? {
+    if !load_scratch(disk, cache, desc, place.block, scratch)? {
         return Ok(None);
     }
     if scratch.has(place.index) {
@@ -110,7 +110,7 @@ pub fn settle<D: Disk>(
     let Some(block) = place.block.checked_add(1) else {
         return Ok(None);
     };
-    if !hold(disk, cache, desc, block, scratch)? {
+    if !load_scratch(disk, cache, desc, block, scratch)? {
         return Ok(None);
     }
     // What it says beside its answer: a block has an entry.
@@ -118,9 +118,9 @@ pub fn settle<D: Disk>(
     Ok(Some(Place { block, index: 0 }))
 }
 
-/// The entry at a place and the place after it, or `None` at the end place. It costs what `settle` does, and O(1)
+/// The entry at a place and the place after it, or `None` at the end place. It costs what `first_place_from` does, and O(1)
 /// more. What the scratch holds of the array has to be as the disk has it, as what the cache keeps has to; whoever
-/// walks over many entries calls `settle` and `Scratch::entry`, which say what the scratch holds afterwards.
+/// walks over many entries calls `first_place_from` and `Scratch::entry`, which say what the scratch holds afterwards.
 /// Device: the disk counted a fault. Damaged: this block of the array is no block of entries.
 pub fn entry_at<'s, D: Disk>(
     disk: &mut D,
@@ -143,7 +143,7 @@ pub fn entry_at<'s, D: Disk>(
     ensures cause { HasCause Device (D.faults disk.old) (D.faults disk.new) result }
     ensures reads { ReadsAtMost 2 (D.reads disk.old) (D.reads disk.new) }
 {
-    let Some(at) = settle(disk, cache, desc, place, scratch)? else {
+    let Some(at) = first_place_from(disk, cache, desc, place, scratch)? else {
         return Ok(None);
     };
     let entry = scratch.entry(at.index);

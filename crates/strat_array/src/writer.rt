@@ -7,11 +7,11 @@ ghost use Rattle.strat_array.specs.Taking.{HasFreeBlock, AreUsed, TakesBlock};
 ghost use Rattle.strat_base.specs.Entries.{Entry as TheEntry, is_ascending};
 ghost use Rattle.strat_base.specs.EntryBytes.{fits_fields};
 ghost use Rattle.strat_base.specs.EntryView.{entry_of};
-ghost use Rattle.strat_crash.specs.Blocks.{TearsBlocks};
-ghost use Rattle.strat_crash.specs.Image.{Image};
-ghost use Rattle.strat_crash.specs.Moments.{Exposes};
+ghost use Rattle.def_crash.specs.Blocks.{TearsBlocks};
+ghost use Rattle.def_crash.specs.Image.{Image};
+ghost use Rattle.def_crash.specs.Moments.{Exposes};
 ghost use Rattle.strat_extent.specs.Blocks.{is_free};
-ghost use Rattle.strat_format.specs.Arrays.{blocks_of, entries_on};
+ghost use Rattle.def_bytes.specs.Arrays.{blocks_of, entries_on};
 
 use crate::blocks::{take_block, write_block};
 use crate::numbers::copied;
@@ -35,7 +35,7 @@ fn write_pending<D: Disk>(
     ensures ok { OnOk result ((f g : Image) (es : List TheEntry) → Exposes (D.view disk.old) f
         → Exposes (D.view disk.new) g → entries_on f (blocks_of extents.old) ≡ Some es
         → entries_on g (blocks_of extents.new) ≡ Some (es ++ pending.old)) }
-    ensures end { OnOk result (pending.new ≡ []) }
+    ensures state { OnOk result (pending.new ≡ []) }
     ensures len { blocks_needed extents.new pending.new ≡ blocks_needed extents.old pending.old }
     ensures found { TakesBlock space.old space.new extents.old extents.new }
     ensures kept { (AreMaximal extents.old → AreMaximal extents.new)
@@ -70,7 +70,7 @@ fn push_entry<D: Disk>(
     ensures ok { OnOk result ((f g : Image) (es : List TheEntry) → Exposes (D.view disk.old) f
         → Exposes (D.view disk.new) g → IsWritten f extents.old pending.old es
         → IsWritten g extents.new pending.new (es ++ entry_of e.now ∷ [])) }
-    ensures end { OnOk result (pending.new ≡ with_entry pending.old (entry_of e.now)) }
+    ensures state { OnOk result (pending.new ≡ with_entry pending.old (entry_of e.now)) }
     ensures len { AddsBlocks extents.old pending.old (entry_of e.now)
         extents.new pending.new result }
     ensures found { TakesBlock space.old space.new extents.old extents.new }
@@ -141,7 +141,7 @@ impl ArrayWriter {
         ensures ok { OnOk result ((f g : Image) (es : List TheEntry) → Exposes (D.view disk.old) f
             → Exposes (D.view disk.new) g → IsPushed f self.old es
             → IsPushed g self.new (es ++ entry_of e.now ∷ [])) }
-        ensures end { OnOk result (
+        ensures state { OnOk result (
             self.new.pending ≡ with_entry self.old.pending (entry_of e.now)) }
         ensures len { OnOk result ((self.new.count ≡ self.old.count + 1)
             × (length (blocks_of self.new.extents) ≡ length (blocks_of self.old.extents)
@@ -215,7 +215,7 @@ impl ArrayWriter {
         ensures ok { OnOk result ((f g : Image) (es : List TheEntry) → Exposes (D.view disk.old) f
             → Exposes (D.view disk.new) g → IsPushed f self.old es
             → entries_on g (blocks_of self.new.extents) ≡ Some es) }
-        ensures end { OnOk result (self.new.pending ≡ []) }
+        ensures state { OnOk result (self.new.pending ≡ []) }
         ensures len { blocks_needed self.new.extents self.new.pending
             ≡ blocks_needed self.old.extents self.old.pending }
         ensures found { TakesBlock space.old space.new self.old.extents self.new.extents }

@@ -8,12 +8,12 @@ ghost use Rattle.strat_array.specs.Taking.{AreUsed, TakesBlock};
 ghost use Rattle.strat_array.specs.Within.{AreWithin};
 ghost use Rattle.strat_base.specs.declared.descriptors.Extent.{Extent};
 ghost use Rattle.strat_base.specs.Entries.{Entry as TheEntry, is_ascending};
-ghost use Rattle.strat_crash.specs.Blocks.{AgreeOn, KeepsTaken};
-ghost use Rattle.strat_crash.specs.Image.{Image};
+ghost use Rattle.def_crash.specs.Blocks.{AgreeOn, KeepsTaken};
+ghost use Rattle.def_crash.specs.Image.{Image};
 ghost use Rattle.strat_extent.specs.Blocks.{SpaceView, is_used, is_free};
 ghost use Rattle.strat_extent.specs.Change.{CanGive};
-ghost use Rattle.strat_format.specs.Arrays.{blocks_of, entries_on};
-ghost use Rattle.strat_format.specs.Manifest.{is_lawful_extent, are_apart};
+ghost use Rattle.def_bytes.specs.Arrays.{blocks_of, entries_on};
+ghost use Rattle.def_bytes.specs.Manifest.{is_lawful_extent, are_apart};
 
 /// Entries stay pushed while the content stays in the blocks that were written, and a new writer has none.
 pub fn entries_stay_pushed()

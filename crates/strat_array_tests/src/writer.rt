@@ -7,7 +7,7 @@ ghost use Rattle.strat_base.specs.Entries.{is_ascending};
 ghost use Rattle.strat_base.specs.EntryBytes.{fits_fields};
 ghost use Rattle.strat_base.specs.EntryView.{entry_of};
 ghost use Rattle.strat_extent.specs.Blocks.{used_count};
-ghost use Rattle.strat_format.specs.Arrays.{blocks_of};
+ghost use Rattle.def_bytes.specs.Arrays.{blocks_of};
 
 use std::alloc::Global;
 use std::process::Abort;

@@ -8,7 +8,7 @@ use Rattle.strat_base.specs.Fields.{is_key, is_value, key_field, value_field, ke
 use Rattle.strat_base.specs.Change.{Change, Put, Delete, Clone, DropVersion, is_lawful, change_bytes, change_of_kind, change_in, BeginsWithChange}
 use Rattle.strat_base.proofs.NumberLemmas.{length-be, number-be, number-lt, be-number_4, AreBytes-drop}
 use Rattle.strat_base.proofs.FieldLemmas.{key_max, value_max, length-value_field, key_in-field, key_in-some, value_in-field, value_in-some}
-use Rattle.strat_base.proofs.TreeLemmas.{option_cases}
+use Rattle.strat_base.proofs.ResultFacts.{option_cases}
 
 -- a version in front of further fields
 module _ (v : ℕ) (fits : v < 2 ^ 32) (fields : List ℕ) where

@@ -10,7 +10,7 @@ use Rattle.strat_base.specs.Entries.{Entry}
 use Rattle.strat_base.specs.EntryBytes.{is_markable, fits_fields, mark_field, entry_bytes, mark_in, entry_of_key, entry_in, BeginsWithEntry}
 use Rattle.strat_base.proofs.NumberLemmas.{length-be, number-be, number-lt, be-number_4, AreBytes-drop}
 use Rattle.strat_base.proofs.FieldLemmas.{key_max, value_max, length-value_field, key_in-field, key_in-some, value_in-field, value_in-some}
-use Rattle.strat_base.proofs.TreeLemmas.{option_cases}
+use Rattle.strat_base.proofs.ResultFacts.{option_cases}
 
 mark_in-field : (value : Option (List ℕ)) (rest : List ℕ) → is_markable value ≡ true → mark_in (mark_field value ++ rest) ≡ Some value
 mark_in-field None rest lawful = refl

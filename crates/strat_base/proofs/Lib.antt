@@ -2,6 +2,7 @@ pub mod NumberLemmas
 pub mod WordLemmas
 pub mod PairLemmas
 pub mod ListFacts
+pub mod ResultFacts
 pub mod TreeLemmas
 pub mod EntryLemmas
 pub mod FieldLemmas

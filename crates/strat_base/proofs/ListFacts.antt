@@ -1,5 +1,5 @@
 -- Elements of a list, and what tests and searches say of them.
-use Rattle.std.proofs.Common.{◌≡◌, ◌≤◌, ◌<◌, ◌+◌, ℕ, zero, suc, map, Bool, true, false, cond, ◌&&◌, ◌||◌, Option, ◌⊎◌, inl, inr, List, [], ◌∷◌, ◌++◌, reverse, filter, Some, None, refl, sym, ap, ◌∙◌, subst, true≢false, arith}
+use Rattle.std.proofs.Common.{◌≡◌, ◌≤◌, ◌<◌, ◌+◌, ℕ, zero, suc, map, get_or, length, IsSome, Bool, true, false, cond, ◌&&◌, ◌||◌, Option, ◌⊎◌, inl, inr, List, [], ◌∷◌, ◌++◌, reverse, filter, Some, None, refl, sym, ap, ◌∙◌, subst, true≢false, arith}
 use Rattle.std.specs.List.{list_any, list_all, find, flat_map, fold, filter_map, cons_option, slice_get, range_with_len, AllByRecursion}
 use Rattle.std.proofs.lemmas.Bool.{or_cases, or_left, or_right, and_parts, and_from, cases_Bool, cases_eq}
 use Rattle.std.proofs.lemmas.List.{reverse-append}
@@ -169,3 +169,14 @@ filter_map-append {Y = Y} f (x ∷ xs) ys =
       | None ↦ filter_map-append f xs ys
       | Some y ↦ ap (λ (r : List Y). y ∷ r) (filter_map-append f xs ys)
     ]
+
+-- an index below a list's length has an element
+pub get_some : {X : Type 0} (xs : List X) (i : ℕ) → i < length xs → IsSome (slice_get xs i)
+get_some [] i lt = absurd (omega arith)
+get_some (x ∷ xs) zero lt = refl
+get_some (x ∷ xs) (suc i) lt = get_some xs i (omega arith)
+
+pub get_is : {X : Type 0} (xs : List X) (i : ℕ) (x d : X) → slice_get xs i ≡ Some x → get_or xs i d ≡ x
+get_is [] i x d e = absurd (cc)
+get_is (y ∷ ys) zero x d e = cc
+get_is (y ∷ ys) (suc i) x d e = get_is ys i x d e

@@ -6,11 +6,7 @@ use Rattle.std.proofs.lemmas.Bool.{eqb-true, eq-eqb, lt-ltb, le-ltb, cases_eq, c
 use Rattle.std.proofs.lemmas.Option.{slice_get-get_or, slice_get_past}
 use Rattle.strat_base.specs.Tree.{Parents, parent_of, climb, path, is_ancestor, below, IsOlder, IsTree}
 use Rattle.strat_base.proofs.ListFacts.{Among, any_among, any_from}
-
--- an option is none or some
-pub option_cases : {X : Type 0} (o : Option X) → (o ≡ None) ⊎ ((x : X) × (o ≡ Some x))
-option_cases None = inl refl
-option_cases (Some x) = inr (x, refl)
+use Rattle.strat_base.proofs.ResultFacts.{option_cases}
 
 module _ (parents : Parents) (tree : IsTree parents) where
   pub parent_older : (v p : ℕ) → parent_of parents v ≡ Some p → p < v

@@ -9,10 +9,10 @@ use Rattle.strat_base.specs.Entries.{Entry, is_ascending}
 use Rattle.strat_base.specs.EntryBytes.{fits_fields, entry_bytes, entry_in, entry_at, BeginsWithEntry}
 use Rattle.strat_base.proofs.NumberLemmas.{length-be, number-be, be-number_2, number_at_some}
 use Rattle.strat_base.proofs.EntryBytesLemmas.{entry_in-bytes}
-use Rattle.strat_base.proofs.TreeLemmas.{option_cases}
+use Rattle.strat_base.proofs.ResultFacts.{option_cases}
 use Rattle.strat_base.proofs.PlacedLemmas.{rest_of}
-use Rattle.strat_format.specs.Block.{offsets, block_front, block_bytes, fits_block, IsBlock, block_in}
-use Rattle.strat_format.proofs.BlockLemmas.{length-offsets, block_in-some, block_in-bytes, length-block_bytes}
+use Rattle.def_bytes.specs.Block.{offsets, block_front, block_bytes, fits_block, IsBlock, block_in}
+use Rattle.def_bytes.proofs.BlockLemmas.{length-offsets, block_in-some, block_in-bytes, length-block_bytes}
 use Rattle.strat_block.specs.Links.{chain_end, are_zeros}
 use Rattle.strat_block.specs.Places.{entries_of_block}
 use Rattle.strat_block.proofs.OrderLemmas.{linked_ascending, ascending_linked}

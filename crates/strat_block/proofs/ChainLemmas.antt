@@ -9,8 +9,8 @@ use Rattle.strat_base.specs.Entries.{Entry}
 use Rattle.strat_base.specs.EntryBytes.{fits_fields, entry_bytes, entry_in, entry_at}
 use Rattle.strat_base.proofs.NumberLemmas.{length-be, number-be, number_at_some, be-number_2, AreBytes-drop}
 use Rattle.strat_base.proofs.EntryBytesLemmas.{entry_in-some, entry_in-bytes}
-use Rattle.strat_base.proofs.TreeLemmas.{option_cases}
-use Rattle.strat_format.specs.Block.{offsets}
+use Rattle.strat_base.proofs.ResultFacts.{option_cases}
+use Rattle.def_bytes.specs.Block.{offsets}
 use Rattle.strat_block.specs.Links.{may_stand_behind, link_after, linked_entry, chain_end}
 use Rattle.strat_block.proofs.OrderLemmas.{are_linked}
 use Rattle.strat_block.proofs.OffsetLemmas.{begins_within}

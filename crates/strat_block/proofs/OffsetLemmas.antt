@@ -8,8 +8,8 @@ use Rattle.strat_base.specs.Numbers.{be, number}
 use Rattle.strat_base.specs.Entries.{Entry}
 use Rattle.strat_base.specs.EntryBytes.{fits_fields, entry_bytes, BeginsWithEntry}
 use Rattle.strat_base.proofs.NumberLemmas.{number-be}
-use Rattle.strat_format.specs.Block.{offsets}
-use Rattle.strat_format.proofs.BlockLemmas.{length-offsets}
+use Rattle.def_bytes.specs.Block.{offsets}
+use Rattle.def_bytes.proofs.BlockLemmas.{length-offsets}
 
 -- the offsets of joined entries
 pub offsets-append : (at : ℕ) (xs ys : List Entry) → offsets at (xs ++ ys) ≡ offsets at xs ++ offsets (at + length (flat_map entry_bytes xs)) ys

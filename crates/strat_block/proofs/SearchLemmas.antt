@@ -10,7 +10,7 @@ use Rattle.strat_base.specs.Order.{key_cmp}
 use Rattle.strat_base.specs.Entries.{Entry, is_ascending}
 use Rattle.strat_base.specs.EntryBytes.{fits_fields}
 use Rattle.strat_base.proofs.ListFacts.{Among}
-use Rattle.strat_format.specs.Block.{fits_block, block_front}
+use Rattle.def_bytes.specs.Block.{fits_block, block_front}
 use Rattle.strat_block.specs.Places.{stands_below}
 use Rattle.strat_block.proofs.OrderLemmas.{compares, key_tied, is_before_all, before_each}
 

@@ -15,8 +15,8 @@ use Rattle.strat_base.specs.EntryBytes.{fits_fields, entry_bytes, is_markable, m
 use Rattle.strat_base.proofs.NumberLemmas.{length-be}
 use Rattle.strat_base.proofs.PlacedLemmas.{placed_next, placed_three}
 use Rattle.strat_base.proofs.EntryBytesLemmas.{entry_in-bytes}
-use Rattle.strat_format.specs.Block.{entries_in, offsets, block_front, block_bytes, IsBlock}
-use Rattle.strat_format.proofs.BlockLemmas.{length-offsets}
+use Rattle.def_bytes.specs.Block.{entries_in, offsets, block_front, block_bytes, IsBlock}
+use Rattle.def_bytes.proofs.BlockLemmas.{length-offsets}
 use Rattle.strat_block.specs.Collected.{Collected, collected, starts_of, shifted}
 use Rattle.strat_block.proofs.BlockFacts.{length-front, fits_from}
 

@@ -4,7 +4,7 @@ use Rattle.std.specs.List.{list_all}
 use Rattle.strat_base.specs.Numbers.{be}
 use Rattle.strat_base.specs.Entries.{Entry, is_ascending}
 use Rattle.strat_base.specs.EntryBytes.{fits_fields, entry_bytes}
-use Rattle.strat_format.specs.Block.{entries_in}
+use Rattle.def_bytes.specs.Block.{entries_in}
 
 -- where entries begin that stand one after the other from a place on
 abbrev pub starts_of : ℕ → List Entry → List ℕ

@@ -3,7 +3,7 @@ use Rattle.std.specs.Prelude.{◌≡◌, ◌<◌, ◌≤◌, ℕ, true, false, L
 use Rattle.std.specs.Ordering.{is_lt}
 use Rattle.strat_base.specs.Order.{key_cmp}
 use Rattle.strat_base.specs.Entries.{Entry}
-use Rattle.strat_format.specs.Block.{block_in}
+use Rattle.def_bytes.specs.Block.{block_in}
 
 -- the entries of a block, seen from its bytes
 abbrev pub entries_of_block : List ℕ → List Entry

@@ -5,7 +5,7 @@ ghost use Rattle.strat_base.specs.Entries.{Entry as TheEntry};
 ghost use Rattle.strat_base.specs.EntryView.{entry_of};
 ghost use Rattle.strat_base.specs.Finds.{Finds};
 ghost use Rattle.strat_block.specs.Links.{may_stand_behind, linked_entry, chain_end, are_zeros};
-ghost use Rattle.strat_format.specs.Block.{block_in};
+ghost use Rattle.def_bytes.specs.Block.{block_in};
 
 use std::cmp::Ordering;
 use strat_base::limits::BLOCK;

@@ -6,7 +6,7 @@ ghost use Rattle.strat_base.specs.EntryBytes.{fits_fields, is_markable};
 ghost use Rattle.strat_base.specs.EntryView.{entry_of, val_of};
 ghost use Rattle.strat_base.specs.Sizes.{is_key};
 ghost use Rattle.strat_block.specs.Places.{entries_of_block, stands_below, IsFirstFrom};
-ghost use Rattle.strat_format.specs.Block.{block_in, fits_block};
+ghost use Rattle.def_bytes.specs.Block.{block_in, fits_block};
 
 use crate::check::is_block;
 use std::alloc::Global;
@@ -44,7 +44,7 @@ impl<'a> Model for BlockView<'a> {
     ghost use Rattle.std.specs.Prelude.{List, IsSome};
     ghost use Rattle.strat_base.specs.Entries.{Entry as TheEntry};
     ghost use Rattle.strat_block.specs.Places.{entries_of_block};
-    ghost use Rattle.strat_format.specs.Block.{block_in};
+    ghost use Rattle.def_bytes.specs.Block.{block_in};
 
     ghost Value = { List TheEntry };
 
@@ -164,7 +164,7 @@ impl Model for Block {
     ghost use Rattle.std.specs.Prelude.{List, IsSome};
     ghost use Rattle.strat_base.specs.Entries.{Entry as TheEntry};
     ghost use Rattle.strat_block.specs.Places.{entries_of_block};
-    ghost use Rattle.strat_format.specs.Block.{block_in};
+    ghost use Rattle.def_bytes.specs.Block.{block_in};
 
     ghost Value = { List TheEntry };
 

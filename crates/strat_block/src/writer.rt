@@ -7,7 +7,7 @@ ghost use Rattle.strat_base.specs.EntryBytes.{fits_fields};
 ghost use Rattle.strat_base.specs.EntryView.{entry_of};
 ghost use Rattle.strat_base.specs.Numbers.{placed};
 ghost use Rattle.strat_block.specs.Collected.{shifted};
-ghost use Rattle.strat_format.specs.Block.{block_front, block_in, IsBlock};
+ghost use Rattle.def_bytes.specs.Block.{block_front, block_in, IsBlock};
 
 use std::marker::Model;
 use strat_base::limits::BLOCK;

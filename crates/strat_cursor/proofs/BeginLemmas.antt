@@ -7,8 +7,8 @@ use Rattle.std.proofs.lemmas.List.Sums.{sum_by-cons}
 use Rattle.strat_array.specs.Kept.{Blocks}
 use Rattle.strat_base.specs.Entries.{Entry, is_ascending}
 use Rattle.strat_base.specs.declared.descriptors.ArrayDesc.{ArrayDesc}
-use Rattle.strat_crash.specs.Image.{Image}
-use Rattle.strat_crash.specs.Moments.{DiskView}
+use Rattle.def_crash.specs.Image.{Image}
+use Rattle.def_crash.specs.Moments.{DiskView}
 use Rattle.strat_cursor.specs.Looking.{LooksThrough, HaveFewBlocks}
 use Rattle.strat_cursor.specs.Picking.{IsOfView, AreSourcesOf}
 use Rattle.strat_cursor.specs.Sources.{MayBeRead, MayBeBegun, IsSettledAt, IsUpTo, StandsIn, content_of}

@@ -6,8 +6,8 @@ use Rattle.strat_array.specs.Kept.{Blocks}
 use Rattle.strat_base.proofs.ListFacts.{among_in_flat}
 use Rattle.strat_base.specs.declared.failures.Fault.{Fault}
 use Rattle.strat_base.specs.declared.failures.Fault.TheVariants as fault
-use Rattle.strat_crash.specs.Moments.{DiskView}
-use Rattle.strat_recovery.proofs.BadLemmas.{contained_at}
+use Rattle.def_crash.specs.Moments.{DiskView}
+use Rattle.def_recovery.proofs.BadLemmas.{contained_at}
 use Rattle.strat_cursor.specs.CursorFaults.{as_next_fault}
 use Rattle.strat_cursor.specs.Cursors.{OpenCursor, arrays_named}
 use Rattle.strat_cursor.specs.Looking.{LooksThrough}

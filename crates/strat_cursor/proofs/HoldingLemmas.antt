@@ -13,14 +13,14 @@ use Rattle.strat_base.specs.Entries.{Entry, is_tagged}
 use Rattle.strat_base.specs.Tree.{Parents, below}
 use Rattle.strat_base.specs.declared.descriptors.ArrayDesc.{ArrayDesc}
 use Rattle.strat_base.specs.declared.descriptors.LevelDesc.{LevelDesc}
-use Rattle.strat_crash.specs.Blocks.{AgreeOn}
-use Rattle.strat_crash.specs.Image.{Image}
-use Rattle.strat_crash.proofs.ImageLemmas.{window_same}
-use Rattle.strat_format.specs.Arrays.{block_on, blocks_of}
-use Rattle.strat_format.specs.Block.{block_in}
+use Rattle.def_crash.specs.Blocks.{AgreeOn}
+use Rattle.def_crash.specs.Image.{Image}
+use Rattle.def_crash.proofs.ImageLemmas.{window_same}
+use Rattle.def_bytes.specs.Arrays.{block_on, blocks_of}
+use Rattle.def_bytes.specs.Block.{block_in}
 use Rattle.strat_level.specs.Levels.{desc_for, is_for}
-use Rattle.strat_recovery.proofs.BadLemmas.{contained_at}
-use Rattle.strat_state.specs.Level.{is_distinct}
+use Rattle.def_recovery.proofs.BadLemmas.{contained_at}
+use Rattle.def_state.specs.Level.{is_distinct}
 use Rattle.strat_model.specs.Pairs.{Pairs}
 use Rattle.strat_cursor.specs.Cursors.{CursorOver, OpenCursor, MayGoOn, moved_at, moved_on, without_cursor, arrays_named}
 use Rattle.strat_cursor.specs.Looking.{AreInOrder, HaveOwnIds, AreCachedFrom, arrays_there, levels_there, arrays_asked}

@@ -6,18 +6,18 @@ use Rattle.std.specs.Option.{option_and_then, option_or}
 use Rattle.std.specs.Str.{bytes_eq}
 use Rattle.strat_base.proofs.EntryLemmas.{bytes_same, same_bytes}
 use Rattle.strat_base.proofs.ListFacts.{Among, any_from, among_left, among_right, filter_among, find_some}
-use Rattle.strat_base.proofs.TreeLemmas.{option_cases}
+use Rattle.strat_base.proofs.ResultFacts.{option_cases}
 use Rattle.strat_base.specs.Entries.{Entry, is_of}
 use Rattle.strat_base.specs.Tree.{Parents}
 use Rattle.strat_base.specs.declared.descriptors.ArrayDesc.{ArrayDesc}
-use Rattle.strat_crash.specs.Image.{Image}
+use Rattle.def_crash.specs.Image.{Image}
 use Rattle.strat_model.proofs.MapLemmas.{set_keeps_map}
 use Rattle.strat_model.specs.Kept.{IsMap}
 use Rattle.strat_model.specs.Pairs.{Pairs, set, value_of}
-use Rattle.strat_state.proofs.MapLemmas.{value_in-lookup, value_in-insert}
-use Rattle.strat_state.specs.Live.{is_live, live}
-use Rattle.strat_state.specs.LookUp.{first_live}
-use Rattle.strat_state.specs.Reading.{live_of}
+use Rattle.def_state.proofs.MapLemmas.{value_in-lookup, value_in-insert}
+use Rattle.def_state.specs.Live.{is_live, live}
+use Rattle.def_state.specs.LookUp.{first_live}
+use Rattle.def_state.specs.Reading.{live_of}
 use Rattle.strat_cursor.specs.Ranges.{IsMapSeen, content_on}
 
 -- the map that has of each key of some entries what a look-up says of it

@@ -13,7 +13,7 @@ use Rattle.std.proofs.lemmas.List.Quantifiers.{position-Some}
 use Rattle.strat_base.proofs.ListFacts.{Among, all_at, all_from, any_from, none_at, filter_among}
 use Rattle.strat_base.specs.declared.descriptors.ArrayDesc.{ArrayDesc}
 use Rattle.strat_model.specs.Pairs.{Pairs}
-use Rattle.strat_recovery.proofs.BadLemmas.{contained_at}
+use Rattle.def_recovery.proofs.BadLemmas.{contained_at}
 use Rattle.strat_cursor.specs.Cursors.{OpenCursor, CursorsView, AreNumberedBelow, are_named, is_array_named, is_opened, moved_at, moved_on, those_named, without_cursor, closed_at}
 
 -- what holds of all numbers holds of the one at a place

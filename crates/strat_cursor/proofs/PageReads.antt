@@ -5,7 +5,7 @@ use Rattle.strat_array.specs.Kept.{Blocks}
 use Rattle.strat_base.specs.Entries.{Entry}
 use Rattle.strat_base.specs.declared.descriptors.ArrayDesc.{ArrayDesc}
 use Rattle.strat_base.specs.declared.failures.Fault.{Fault}
-use Rattle.strat_crash.specs.Image.{Image}
+use Rattle.def_crash.specs.Image.{Image}
 use Rattle.strat_level.specs.Memtable.{entries_held}
 use Rattle.strat_model.specs.Pairs.{Pairs}
 use Rattle.strat_cursor.specs.Looking.{AreInOrder, HaveOwnIds, AreCachedFrom}

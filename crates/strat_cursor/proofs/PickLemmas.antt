@@ -10,11 +10,11 @@ use Rattle.strat_base.specs.Entries.{Entry}
 use Rattle.strat_base.specs.Tree.{Parents, below}
 use Rattle.strat_base.specs.declared.descriptors.ArrayDesc.{ArrayDesc}
 use Rattle.strat_base.specs.declared.descriptors.LevelDesc.{LevelDesc}
-use Rattle.strat_crash.specs.Image.{Image}
+use Rattle.def_crash.specs.Image.{Image}
 use Rattle.strat_level.specs.Levels.{desc_for, is_for, level_numbered}
-use Rattle.strat_recovery.proofs.OpeningLemmas.{next_some}
-use Rattle.strat_state.specs.LookUp.{first_live}
-use Rattle.strat_state.specs.Reading.{live_of}
+use Rattle.def_recovery.proofs.OpeningLemmas.{next_some}
+use Rattle.def_state.specs.LookUp.{first_live}
+use Rattle.def_state.specs.Reading.{live_of}
 use Rattle.strat_cursor.specs.Looking.{arrays_asked, levels_there, arrays_there, asked_of_level}
 use Rattle.strat_cursor.specs.Picking.{array_picked, arrays_numbered, HaveNumbers, content_if, sealed_if, content_at, IsOfView, AreSourcesOf}
 use Rattle.strat_cursor.specs.Ranges.{arrays_in_view, arrays_picked, content_on, seen_in, sealed_held}

@@ -16,8 +16,8 @@ use Rattle.strat_base.specs.declared.descriptors.LevelDesc.{LevelDesc}
 use Rattle.strat_level.specs.Memtable.{ItemList, Memtable, entries_held, ListStands}
 use Rattle.strat_level.specs.Levels.{desc_for, is_for}
 use Rattle.strat_level.proofs.PutLemmas.{stands_while}
-use Rattle.strat_recovery.specs.TableOver.{are_known}
-use Rattle.strat_recovery.proofs.BadLemmas.{contained_at}
+use Rattle.def_meaning.specs.TableOver.{are_known}
+use Rattle.def_recovery.proofs.BadLemmas.{contained_at}
 use Rattle.strat_cursor.specs.Looking.{MayBeFound, arrays_there, levels_there, arrays_asked}
 use Rattle.strat_cursor.specs.Ranges.{sealed_held}
 use Rattle.strat_cursor.specs.Cursors.{CursorOver, OpenCursor, zeros_pinned, without_cursor, moved_at, moved_on}

@@ -5,7 +5,7 @@ use Rattle.std.proofs.lemmas.Bool.{eq-eqb}
 use Rattle.std.proofs.lemmas.List.Sums.{sum_by-cons}
 use Rattle.strat_base.proofs.ListFacts.{Among, among_filter, among_in_flat}
 use Rattle.strat_base.specs.declared.descriptors.ArrayDesc.{ArrayDesc}
-use Rattle.strat_recovery.proofs.BadLemmas.{contained_at}
+use Rattle.def_recovery.proofs.BadLemmas.{contained_at}
 use Rattle.strat_cursor.proofs.PinLemmas.{among_contained}
 use Rattle.strat_cursor.specs.Cursors.{CursorOver, arrays_named, arrays_of_number}
 use Rattle.strat_cursor.specs.Looking.{ReadsArrays, reads_of_arrays}

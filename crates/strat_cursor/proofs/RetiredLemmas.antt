@@ -7,8 +7,8 @@ use Rattle.std.proofs.lemmas.List.Sums.{sum_by-append, sum_by-cons}
 use Rattle.strat_base.proofs.ListFacts.{Among, any_from, among_left, among_right, among_split, among_filter, among_flat, filter_among}
 use Rattle.strat_base.specs.Entries.{is_tagged}
 use Rattle.strat_base.specs.declared.descriptors.ArrayDesc.{ArrayDesc}
-use Rattle.strat_recovery.proofs.BadLemmas.{contained_at}
-use Rattle.strat_state.specs.Level.{is_distinct}
+use Rattle.def_recovery.proofs.BadLemmas.{contained_at}
+use Rattle.def_state.specs.Level.{is_distinct}
 use Rattle.strat_cursor.specs.Cursors.{CursorOver, CursorsOver, arrays_named, is_array_named, without_cursor, closed_at, retired_all}
 use Rattle.strat_cursor.specs.Looking.{HaveOwnIds}
 use Rattle.strat_cursor.proofs.PinLemmas.{among_contained}

@@ -10,15 +10,15 @@ use Rattle.strat_base.proofs.TreeLemmas.{path_kept}
 use Rattle.strat_base.specs.Tree.{Parents, path, is_known, with_child, IsTree}
 use Rattle.strat_base.specs.Entries.{Entry, is_of}
 use Rattle.strat_base.specs.declared.descriptors.ArrayDesc.{ArrayDesc}
-use Rattle.strat_crash.specs.Blocks.{AgreeOn}
-use Rattle.strat_crash.specs.Image.{Image}
+use Rattle.def_crash.specs.Blocks.{AgreeOn}
+use Rattle.def_crash.specs.Image.{Image}
 use Rattle.strat_array.proofs.EntriesOnLemmas.{entries_on-kept}
-use Rattle.strat_format.specs.Arrays.{blocks_of}
+use Rattle.def_bytes.specs.Arrays.{blocks_of}
 use Rattle.strat_level.specs.Memtable.{ItemList, entries_held}
 use Rattle.strat_model.specs.Pairs.{Pairs}
 use Rattle.strat_model.specs.Table.{Cursor}
-use Rattle.strat_recovery.specs.TableOver.{are_known}
-use Rattle.strat_state.specs.LookUp.{first_live}
+use Rattle.def_meaning.specs.TableOver.{are_known}
+use Rattle.def_state.specs.LookUp.{first_live}
 use Rattle.strat_cursor.specs.Cursors.{OpenCursor, IsMapPinned, arrays_named}
 use Rattle.strat_cursor.specs.Held.{HeldCursor, cursor_held, opened_held, IsMapHeld, AreRowsOf}
 use Rattle.strat_cursor.specs.Pins.{ArePinned, IsListKnown, shares_of}

@@ -20,14 +20,14 @@ use Rattle.strat_base.specs.Order.{key_cmp}
 use Rattle.strat_base.specs.Tree.{Parents, IsTree, is_ancestor}
 use Rattle.strat_base.proofs.EntryLemmas.{is_of_key, same_bytes}
 use Rattle.strat_base.proofs.ListFacts.{all_at, find_some, get_among}
-use Rattle.strat_base.proofs.TreeLemmas.{option_cases}
-use Rattle.strat_crash.specs.Image.{Image}
-use Rattle.strat_format.specs.Arrays.{blocks_of}
+use Rattle.strat_base.proofs.ResultFacts.{option_cases}
+use Rattle.def_crash.specs.Image.{Image}
+use Rattle.def_bytes.specs.Arrays.{blocks_of}
 use Rattle.strat_level.specs.Memtable.{entries_held}
 use Rattle.strat_merge.specs.Bracket.{is_ahead}
 use Rattle.strat_merge.proofs.OrderLemmas.{behind_le, behind_lt, key_le, first_le_all, lt_then_le, not_before_itself}
-use Rattle.strat_state.specs.LookUp.{first_live}
-use Rattle.strat_state.specs.Reading.{live_of}
+use Rattle.def_state.specs.LookUp.{first_live}
+use Rattle.def_state.specs.Reading.{live_of}
 use Rattle.strat_cursor.specs.Ahead.{is_to_come}
 use Rattle.strat_cursor.specs.Contest.{keyed, head_in, LeadsAll}
 use Rattle.strat_cursor.specs.Sources.{HasHead, StandsIn, content_of, left_at_source, first_at_source, lists_of, entry_held}

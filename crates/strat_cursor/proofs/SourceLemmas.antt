@@ -27,9 +27,9 @@ use Rattle.strat_base.specs.Tree.{Parents, is_ancestor}
 use Rattle.strat_base.specs.declared.descriptors.ArrayDesc.{ArrayDesc}
 use Rattle.strat_base.proofs.EntryLemmas.{is_of_key}
 use Rattle.strat_base.proofs.ListFacts.{all_at, get_among}
-use Rattle.strat_crash.specs.Image.{Image}
-use Rattle.strat_crash.specs.Moments.{DiskView}
-use Rattle.strat_format.specs.Arrays.{blocks_of, entries_on}
+use Rattle.def_crash.specs.Image.{Image}
+use Rattle.def_crash.specs.Moments.{DiskView}
+use Rattle.def_bytes.specs.Arrays.{blocks_of, entries_on}
 use Rattle.strat_level.specs.Memtable.{entries_held, ListStands}
 use Rattle.strat_level.specs.Places.{IsStart}
 use Rattle.strat_cursor.specs.Ahead.{is_after, is_to_come}

@@ -6,8 +6,8 @@ use Rattle.std.proofs.lemmas.List.{drop_more, length-map}
 use Rattle.strat_base.specs.Tree.{Parents, is_ancestor}
 use Rattle.strat_base.specs.Entries.{Entry, is_of, is_ascending}
 use Rattle.strat_base.proofs.EntryLemmas.{is_of_key}
-use Rattle.strat_crash.specs.Moments.{DiskView}
-use Rattle.strat_state.proofs.SettingLemmas.{stands_first}
+use Rattle.def_crash.specs.Moments.{DiskView}
+use Rattle.def_state.proofs.SettingLemmas.{stands_first}
 use Rattle.strat_arena.specs.Items.{entry_of_item}
 use Rattle.strat_arena.specs.PoolView.{arena_at}
 use Rattle.strat_arena.specs.declared.pool.PoolEntry.{PoolEntry}

@@ -5,7 +5,7 @@ use Rattle.std.specs.Option.{option_map_or}
 use Rattle.std.proofs.lemmas.Bool.{eqb-true}
 use Rattle.strat_base.proofs.ListFacts.{Among}
 use Rattle.strat_base.specs.Tree.{Parents}
-use Rattle.strat_crash.specs.Image.{Image}
+use Rattle.def_crash.specs.Image.{Image}
 use Rattle.strat_model.specs.Pairs.{Pairs, range}
 use Rattle.strat_model.specs.Step.{advanced, next_pairs, page, refuses}
 use Rattle.strat_model.specs.Answer.{Answer}

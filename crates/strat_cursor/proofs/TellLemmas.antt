@@ -12,15 +12,15 @@ use Rattle.strat_base.specs.EntryBytes.{fits_fields, is_markable}
 use Rattle.strat_base.specs.Sizes.{is_key}
 use Rattle.strat_base.specs.Order.{key_cmp}
 use Rattle.strat_base.specs.Tree.{IsTree}
-use Rattle.strat_crash.specs.Image.{Image}
-use Rattle.strat_crash.specs.Moments.{DiskView}
+use Rattle.def_crash.specs.Image.{Image}
+use Rattle.def_crash.specs.Moments.{DiskView}
 use Rattle.strat_model.specs.Pairs.{Pair, Pairs, value_of, is_between, range}
 use Rattle.strat_cursor.specs.Ahead.{is_after, range_after}
 use Rattle.strat_cursor.specs.Contest.{head_in, LeadsAll, NoneAhead}
 use Rattle.strat_cursor.specs.Looking.{LooksThrough, HaveOwnIds}
 use Rattle.strat_cursor.specs.Picking.{AreSourcesOf}
 use Rattle.strat_cursor.specs.Ranges.{FillsPage, IsMapSeen, IsPageOf}
-use Rattle.strat_state.specs.LookUp.{first_live}
+use Rattle.def_state.specs.LookUp.{first_live}
 use Rattle.strat_cursor.specs.Sources.{content_of}
 use Rattle.strat_cursor.proofs.ThroughLemmas.{through_trans}
 use Rattle.strat_cursor.specs.Turning.{is_under, AddsValue, HandlesKey, AreSettled, AreUpTo, IsLater}

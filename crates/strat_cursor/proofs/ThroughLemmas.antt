@@ -7,13 +7,13 @@ use Rattle.strat_array.specs.Within.{IsNoBlock}
 use Rattle.strat_base.proofs.ListFacts.{Among}
 use Rattle.strat_base.specs.Entries.{Entry, is_tagged}
 use Rattle.strat_base.specs.declared.descriptors.ArrayDesc.{ArrayDesc}
-use Rattle.strat_crash.proofs.MomentLemmas.{reads_refl, reads_trans}
-use Rattle.strat_crash.specs.Image.{Image}
-use Rattle.strat_crash.specs.Moments.{DiskView}
-use Rattle.strat_format.specs.Arrays.{blocks_of, block_on}
-use Rattle.strat_recovery.proofs.BadLemmas.{contained_at}
-use Rattle.strat_state.proofs.LevelLemmas.{among_tagged}
-use Rattle.strat_state.specs.Level.{is_distinct}
+use Rattle.def_crash.proofs.MomentLemmas.{reads_refl, reads_trans}
+use Rattle.def_crash.specs.Image.{Image}
+use Rattle.def_crash.specs.Moments.{DiskView}
+use Rattle.def_bytes.specs.Arrays.{blocks_of, block_on}
+use Rattle.def_recovery.proofs.BadLemmas.{contained_at}
+use Rattle.def_state.proofs.LevelLemmas.{among_tagged}
+use Rattle.def_state.specs.Level.{is_distinct}
 use Rattle.strat_cursor.specs.Looking.{AreCachedFrom, LooksThrough, NamesNoBlock, HaveOwnIds}
 
 -- an element by its place

@@ -11,9 +11,9 @@ use Rattle.strat_array.proofs.KeptLemmas.{listed_at}
 use Rattle.strat_base.specs.Order.{key_cmp}
 use Rattle.strat_base.specs.Tree.{Parents}
 use Rattle.strat_base.specs.declared.descriptors.ArrayDesc.{ArrayDesc}
-use Rattle.strat_crash.specs.Image.{Image}
-use Rattle.strat_crash.specs.Moments.{DiskView}
-use Rattle.strat_format.specs.Arrays.{blocks_of, block_on}
+use Rattle.def_crash.specs.Image.{Image}
+use Rattle.def_crash.specs.Moments.{DiskView}
+use Rattle.def_bytes.specs.Arrays.{blocks_of, block_on}
 use Rattle.strat_cursor.specs.Ahead.{is_after, is_to_come}
 use Rattle.strat_cursor.specs.Contest.{head_in, AreAtHand}
 use Rattle.strat_cursor.specs.Looking.{LooksThrough, HaveOwnIds}

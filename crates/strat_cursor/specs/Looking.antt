@@ -9,13 +9,13 @@ use Rattle.strat_base.specs.Entries.{Entry, is_ascending}
 use Rattle.strat_base.specs.Tree.{Parents}
 use Rattle.strat_base.specs.declared.descriptors.ArrayDesc.{ArrayDesc}
 use Rattle.strat_base.specs.declared.descriptors.LevelDesc.{LevelDesc}
-use Rattle.strat_crash.specs.Faults.{ReadsAtMost}
-use Rattle.strat_crash.specs.Image.{Image}
-use Rattle.strat_crash.specs.Moments.{DiskView, OnlyReads}
-use Rattle.strat_format.specs.Arrays.{blocks_of, block_on, entries_on}
+use Rattle.def_crash.specs.Faults.{ReadsAtMost}
+use Rattle.def_crash.specs.Image.{Image}
+use Rattle.def_crash.specs.Moments.{DiskView, OnlyReads}
+use Rattle.def_bytes.specs.Arrays.{blocks_of, block_on, entries_on}
 use Rattle.strat_level.specs.Levels.{desc_for, level_numbered}
-use Rattle.strat_state.specs.Level.{is_distinct}
-use Rattle.strat_state.specs.Reading.{live_of}
+use Rattle.def_state.specs.Level.{is_distinct}
+use Rattle.def_state.specs.Reading.{live_of}
 
 -- the levels that are there, the shallowest first
 abbrev pub levels_there : List (Option LevelDesc) → List LevelDesc

@@ -5,10 +5,10 @@ use Rattle.std.specs.Option.{option_to_list}
 use Rattle.strat_base.specs.Entries.{Entry}
 use Rattle.strat_base.specs.Tree.{Parents}
 use Rattle.strat_base.specs.declared.descriptors.ArrayDesc.{ArrayDesc}
-use Rattle.strat_crash.specs.Image.{Image}
+use Rattle.def_crash.specs.Image.{Image}
 use Rattle.strat_level.specs.Levels.{desc_for, level_numbered}
 use Rattle.strat_level.specs.Memtable.{ItemList, entries_held}
-use Rattle.strat_state.specs.LookUp.{first_live}
+use Rattle.def_state.specs.LookUp.{first_live}
 use Rattle.strat_cursor.specs.Ranges.{content_on, seen_in}
 use Rattle.strat_cursor.specs.Sources.{MayBeRead, arrays_at, content_of}
 use Rattle.strat_cursor.specs.Views.{arrays_read, sealed_in, zeros_in}

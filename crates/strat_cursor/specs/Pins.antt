@@ -5,7 +5,7 @@ use Rattle.strat_arena.specs.declared.pool.PoolEntry.{PoolEntry}
 use Rattle.strat_base.specs.Tree.{Parents}
 use Rattle.strat_base.specs.declared.descriptors.ArrayDesc.{ArrayDesc}
 use Rattle.strat_level.specs.Memtable.{ItemList, Memtable, entries_held, ListStands}
-use Rattle.strat_recovery.specs.TableOver.{are_known}
+use Rattle.def_meaning.specs.TableOver.{are_known}
 use Rattle.strat_base.specs.declared.descriptors.LevelDesc.{LevelDesc}
 use Rattle.strat_cursor.specs.Looking.{MayBeFound, arrays_asked, arrays_there}
 use Rattle.strat_cursor.specs.Cursors.{OpenCursor, CursorsView}

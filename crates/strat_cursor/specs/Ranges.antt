@@ -4,12 +4,12 @@ use Rattle.strat_arena.specs.declared.pool.PoolEntry.{PoolEntry}
 use Rattle.strat_base.specs.Entries.{Entry}
 use Rattle.strat_base.specs.Tree.{Parents}
 use Rattle.strat_base.specs.declared.descriptors.ArrayDesc.{ArrayDesc}
-use Rattle.strat_crash.specs.Image.{Image}
-use Rattle.strat_format.specs.Arrays.{blocks_of, entries_on}
+use Rattle.def_crash.specs.Image.{Image}
+use Rattle.def_bytes.specs.Arrays.{blocks_of, entries_on}
 use Rattle.strat_level.specs.Memtable.{ItemList, entries_held}
 use Rattle.strat_model.specs.Kept.{IsMap}
 use Rattle.strat_model.specs.Pairs.{Pairs, value_of}
-use Rattle.strat_state.specs.LookUp.{first_live}
+use Rattle.def_state.specs.LookUp.{first_live}
 use Rattle.strat_cursor.specs.Looking.{arrays_asked, arrays_there}
 use Rattle.strat_cursor.specs.declared.view.Picked.{Picked}
 use Rattle.strat_cursor.specs.declared.view.Picked.TheVariants as picked

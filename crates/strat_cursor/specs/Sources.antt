@@ -12,8 +12,8 @@ use Rattle.strat_array.specs.declared.place.Place.{Place}
 use Rattle.strat_base.specs.Entries.{Entry, is_ascending}
 use Rattle.strat_base.specs.Tree.{Parents, is_ancestor}
 use Rattle.strat_base.specs.declared.descriptors.ArrayDesc.{ArrayDesc}
-use Rattle.strat_crash.specs.Image.{Image}
-use Rattle.strat_format.specs.Arrays.{blocks_of}
+use Rattle.def_crash.specs.Image.{Image}
+use Rattle.def_bytes.specs.Arrays.{blocks_of}
 use Rattle.strat_level.specs.Memtable.{entries_held, ListStands}
 use Rattle.strat_cursor.specs.Ahead.{is_after, is_to_come}
 use Rattle.strat_cursor.specs.Looking.{MayBeAsked}

@@ -6,7 +6,7 @@ use Rattle.strat_array.specs.Kept.{Blocks}
 use Rattle.strat_base.specs.Entries.{Entry, is_ascending}
 use Rattle.strat_base.specs.Order.{key_cmp}
 use Rattle.strat_base.specs.Tree.{Parents}
-use Rattle.strat_crash.specs.Image.{Image}
+use Rattle.def_crash.specs.Image.{Image}
 use Rattle.strat_model.specs.Pairs.{Pairs}
 use Rattle.strat_cursor.specs.Ahead.{is_after}
 use Rattle.strat_cursor.specs.Sources.{MayBeRead, IsSettledAt, IsUpTo, StandsIn, content_of}

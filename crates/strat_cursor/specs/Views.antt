@@ -3,10 +3,10 @@ use Rattle.std.specs.Prelude.{◌≤◌, ℕ, Bool, List, ◌∷◌, length, Opt
 use Rattle.strat_array.specs.Kept.{Blocks}
 use Rattle.strat_base.specs.declared.descriptors.ArrayDesc.{ArrayDesc}
 use Rattle.strat_base.specs.Entries.{Entry}
-use Rattle.strat_crash.specs.Image.{Image}
+use Rattle.def_crash.specs.Image.{Image}
 use Rattle.strat_level.specs.Memtable.{ItemList, entries_held, ListStands}
 use Rattle.strat_model.specs.Pairs.{Pairs, range}
-use Rattle.strat_recovery.specs.TableOver.{are_known}
+use Rattle.def_meaning.specs.TableOver.{are_known}
 use Rattle.strat_cursor.specs.Looking.{MayBeFound, AreInOrder, HaveOwnIds, AreCachedFrom}
 use Rattle.strat_cursor.specs.Ranges.{arrays_in_view, arrays_picked, sealed_held, IsMapSeen, IsPageOf}
 use Rattle.strat_cursor.specs.declared.view.View.{View}

@@ -4,9 +4,9 @@ ghost use Rattle.std.specs.List.{list_any};
 ghost use Rattle.std.specs.Prelude.{◌≡◌, ◌≤◌, ◌==◌, ℕ, [], length, count_by, Some, IfOk, OnErr, IfSome, IsErrOf, option_map, vec_capacity};
 ghost use Rattle.strat_arena.specs.PoolView.{shares_at, count_shared};
 ghost use Rattle.strat_base.specs.declared.failures.Fault.TheVariants.{Damaged, Device};
-ghost use Rattle.strat_crash.specs.Faults.{HasCause};
-ghost use Rattle.strat_crash.specs.Image.{Image};
-ghost use Rattle.strat_crash.specs.Moments.{Exposes};
+ghost use Rattle.def_crash.specs.Faults.{HasCause};
+ghost use Rattle.def_crash.specs.Image.{Image};
+ghost use Rattle.def_crash.specs.Moments.{Exposes};
 ghost use Rattle.strat_level.specs.Memtable.{ListStands};
 ghost use Rattle.strat_model.specs.Pairs.{Pairs};
 ghost use Rattle.strat_cursor.specs.Cursors.{goes_on, moved_on, pairs_left, IsMapPinned, MayGoOn, TellsNext};
@@ -195,7 +195,7 @@ impl Cursor {
             → IsMapPinned f tree.now.parents pool.now self.old m
             → TellsNext m self.old limit out.new more) }
         ensures len { IfOk result (λ more. FillsPage limit (length out.new) more) }
-        ensures end { IfOk result (λ more. self.new ≡ moved_on more out.new self.old) }
+        ensures state { IfOk result (λ more. self.new ≡ moved_on more out.new self.old) }
         ensures err { OnErr result ((out.new ≡ []) × (self.new ≡ self.old)) }
         ensures same { LooksThrough (D.view disk.old) (D.view disk.new) self.old.arrays cache.old
             cache.new }

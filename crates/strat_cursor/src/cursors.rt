@@ -6,9 +6,9 @@ ghost use Rattle.std.specs.Prelude.{◌≡◌, ◌<◌, ◌≤◌, ◌+◌, ◌-
 ghost use Rattle.strat_arena.specs.PoolView.{shares_at, count_shared};
 ghost use Rattle.strat_base.specs.Tree.{Parents};
 ghost use Rattle.strat_base.specs.declared.limits.TheConstants.{CURSORS_MAX as the_most};
-ghost use Rattle.strat_crash.specs.Faults.{HasCause};
-ghost use Rattle.strat_crash.specs.Image.{Image};
-ghost use Rattle.strat_crash.specs.Moments.{Exposes};
+ghost use Rattle.def_crash.specs.Faults.{HasCause};
+ghost use Rattle.def_crash.specs.Image.{Image};
+ghost use Rattle.def_crash.specs.Moments.{Exposes};
 ghost use Rattle.strat_model.specs.Pairs.{Pairs};
 ghost use Rattle.strat_cursor.specs.Cursors.{OpenCursor, IsMapPinned, MayGoOn, TellsNext, are_named, arrays_named, arrays_of_number, closed_at, is_array_named, is_opened, moved_at, retired_by, those_named};
 ghost use Rattle.strat_cursor.specs.CursorFaults.{as_next_fault};
@@ -236,7 +236,7 @@ impl Cursors {
             → Exposes (D.view disk.old) f → MayGoOn f next c cache.old
             → IsMapPinned f tree.now.parents pool.now c m → TellsNext m c limit out.new more)) }
         ensures kept { ArePinned pool.now tree.now.parents self.new.opened }
-        ensures end { IfOk result (λ more. self.new
+        ensures state { IfOk result (λ more. self.new
             ≡ record self.old { opened = moved_at number more out.new self.old.opened }) }
         ensures found { IsErrOf result next_fault.UnknownCursor
             ↔ (is_opened number self.old.opened ≡ false) }
@@ -262,7 +262,7 @@ impl Cursors {
     pub fn close(&mut self, pool: &mut ArenaPool, number: u64) -> bool
         requires kept { HoldShares pool.old self.old.opened }
         ensures ok { result ≡ is_opened number self.old.opened }
-        ensures end { self.new ≡ closed_at number self.old }
+        ensures state { self.new ≡ closed_at number self.old }
         ensures none { result ≡ false → (self.new ≡ self.old) × (pool.new ≡ pool.old) }
         ensures kept { HoldShares pool.new self.new.opened × ((parents : Parents)
             → ArePinned pool.old parents self.old.opened

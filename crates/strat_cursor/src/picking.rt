@@ -2,7 +2,7 @@
 
 ghost use Rattle.std.specs.Option.{option_copied};
 ghost use Rattle.std.specs.Prelude.{◌≡◌, ◌<◌, ◌+◌, length};
-ghost use Rattle.strat_crash.specs.Image.{Image};
+ghost use Rattle.def_crash.specs.Image.{Image};
 ghost use Rattle.strat_cursor.specs.Picking.{array_picked, arrays_numbered, HaveNumbers, content_at, IsOfView, AreSourcesOf};
 ghost use Rattle.strat_cursor.specs.Sources.{arrays_at, content_of};
 ghost use Rattle.strat_cursor.specs.Views.{ViewStands};

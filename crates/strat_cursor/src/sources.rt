@@ -3,10 +3,10 @@
 ghost use Rattle.std.specs.List.{slice_get, filter};
 ghost use Rattle.std.specs.Prelude.{◌≡◌, ◌≤◌, ◌<◌, ℕ, ◌+◌, ◌^◌, if◌then◌else◌, List, [], length, drop, option_map, IsTrue, IfSome, IfOk, OnOk, IsErrOf, None, Some};
 ghost use Rattle.strat_base.specs.declared.failures.Fault.TheVariants.{Damaged, Device};
-ghost use Rattle.strat_crash.specs.Faults.{HasCause, ReadsAtMost};
-ghost use Rattle.strat_crash.specs.Image.{Image};
-ghost use Rattle.strat_crash.specs.Moments.{Exposes};
-ghost use Rattle.strat_format.specs.Arrays.{blocks_of};
+ghost use Rattle.def_crash.specs.Faults.{HasCause, ReadsAtMost};
+ghost use Rattle.def_crash.specs.Image.{Image};
+ghost use Rattle.def_crash.specs.Moments.{Exposes};
+ghost use Rattle.def_bytes.specs.Arrays.{blocks_of};
 ghost use Rattle.strat_array.specs.Left.{all_in, is_from};
 ghost use Rattle.strat_cursor.specs.Looking.{LooksThrough, NamesNoBlock, HaveFewBlocks};
 ghost use Rattle.strat_array.specs.Kept.{Looks, ArrayStands};
@@ -22,7 +22,7 @@ ghost use Rattle.strat_cursor.specs.Sources.{MayBeRead, HasHead, first_at_source
 
 use crate::desks::Desk;
 use strat_arena::ArenaPool;
-use strat_array::{Cache, Place, Scratch, seek, settle};
+use strat_array::{Cache, Place, Scratch, first_place_from, seek};
 use strat_base::{ArrayDesc, Entry, Fault, Version, key_order};
 use strat_disk::Disk;
 use strat_level::ZeroView;
@@ -132,7 +132,7 @@ fn stand_item(
 }
 
 /// The place of the first entry from a place on that is due, or `None` where none is. Afterwards the scratch holds the
-/// block of that entry. O(entries passed over), each as `is_due`, and what `settle` costs. Device: the disk counted a
+/// block of that entry. O(entries passed over), each as `is_due`, and what `first_place_from` costs. Device: the disk counted a
 /// fault. Damaged: this block of the array is no block of entries.
 fn stand_place<D: Disk>(
     disk: &mut D,
@@ -169,7 +169,7 @@ fn stand_place<D: Disk>(
         + blocks_ahead scratch.old desc.now.id (length (blocks_of desc.now.extents)) place) }
 {
     let mut place = place;
-    while let Some(at) = settle(disk, cache, desc, place, scratch)? {
+    while let Some(at) = first_place_from(disk, cache, desc, place, scratch)? {
         let entry = scratch.entry(at.index);
         if is_due(&entry, tree, v, last) {
             return Ok(Some(at));

@@ -2,9 +2,9 @@
 use Rattle.std.proofs.Common.{◌≡◌, ◌<◌, ◌==◌, ℕ, true, List, length, refl, sym, ◌∙◌, ap, subst, arith, inl, inr, ◌⊎◌}
 use Rattle.std.proofs.lemmas.Bool.{cases_lt, cases_Bool, cond-true, cond-false}
 use Rattle.std.proofs.lemmas.List.{take_all}
-use Rattle.strat_crash.specs.Image.{Image, over}
-use Rattle.strat_crash.specs.Moments.{Images, Since, Passes, TearsOnly, KeepsImages, MayTear, IsDurable}
-use Rattle.strat_crash.proofs.ImageLemmas.{below, inside, above, lies, over_below, over_inside, over_above, same_everywhere}
+use Rattle.def_crash.specs.Image.{Image, over}
+use Rattle.def_crash.specs.Moments.{Images, Since, Passes, TearsOnly, KeepsImages, MayTear, IsDurable}
+use Rattle.def_crash.proofs.ImageLemmas.{below, inside, above, lies, over_below, over_inside, over_above, same_everywhere}
 use Rattle.strat_disk.specs.Medium.{Medium, written, settled, crashed, Leaves, IsWhole}
 use Rattle.strat_disk.specs.PlaneView.{plane_of}
 use Rattle.strat_disk.specs.History.{replay, at_moment, Continues}

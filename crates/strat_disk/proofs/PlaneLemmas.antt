@@ -2,8 +2,8 @@
 use Rattle.std.proofs.Common.{◌≡◌, ◌≢◌, ◌≤◌, ◌<◌, ℕ, ◌+◌, ◌-◌, Bool, true, false, List, ◌++◌, length, take, drop, get_or, set, replicate, refl, sym, ◌∙◌, ap, subst, arith, inl, inr, length-append, get_or-set_same, get_or-set_other}
 use Rattle.std.proofs.lemmas.Bool.{cases_lt}
 use Rattle.std.proofs.lemmas.List.{get_or_append_left, get_or-append_right, get_or_past, get_or-replicate, get_or-take, get_or-drop, length-replicate, length-take-le, take_all}
-use Rattle.strat_crash.specs.Image.{Image, HoldsBytes, over, patch}
-use Rattle.strat_crash.proofs.ImageLemmas.{below, inside, above, lies, over_below, over_inside, over_above}
+use Rattle.def_crash.specs.Image.{Image, HoldsBytes, over, patch}
+use Rattle.def_crash.proofs.ImageLemmas.{below, inside, above, lies, over_below, over_inside, over_above}
 use Rattle.strat_disk.specs.Medium.{Medium, shown, written, IsWhole}
 
 -- lists that read as a medium are that medium

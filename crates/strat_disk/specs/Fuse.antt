@@ -1,6 +1,6 @@
 -- What shows of a disk behind a fuse.
 use Rattle.std.specs.Prelude.{◌≡◌, ◌<◌, ◌+◌, ℕ, ◌-◌, Result, IsErr}
-use Rattle.strat_crash.specs.Faults.{CountsFaults, one_more}
+use Rattle.def_crash.specs.Faults.{CountsFaults, one_more}
 use Rattle.strat_disk.specs.declared.fuse.FuseDisk.{FuseDisk}
 
 -- the disk behind it

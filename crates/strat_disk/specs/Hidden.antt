@@ -1,7 +1,7 @@
 -- A disk that exposes nothing.
 use Rattle.std.specs.Prelude.{None}
-use Rattle.strat_crash.specs.Image.{HoldsBytes}
-use Rattle.strat_crash.specs.Moments.{DiskView}
+use Rattle.def_crash.specs.Image.{HoldsBytes}
+use Rattle.def_crash.specs.Moments.{DiskView}
 
 -- it exposes no content, and a crash may leave any bytes
 abbrev pub hidden : DiskView

@@ -1,6 +1,6 @@
 -- A disk in memory as data, what its calls do to it, and what a crash makes of it.
 use Rattle.std.specs.Prelude.{◌≡◌, ◌==◌, ℕ, if◌then◌else◌, Bool, true, false, List, length, slice_index, slice_index_or}
-use Rattle.strat_crash.specs.Image.{Image, HoldsBytes, over, patch}
+use Rattle.def_crash.specs.Image.{Image, HoldsBytes, over, patch}
 
 -- what it reads as, what the last sync left, and which offsets were written since
 pub record Medium : Type 0 where

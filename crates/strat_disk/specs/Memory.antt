@@ -1,12 +1,12 @@
 -- What shows of a disk in memory.
 use Rattle.std.specs.Prelude.{◌≡◌, ℕ, List, length, Some, Result, OnOk, OnErr}
-use Rattle.strat_crash.specs.Moments.{DiskView}
+use Rattle.def_crash.specs.Moments.{DiskView}
 use Rattle.strat_disk.specs.Medium.{Medium, Leaves}
 use Rattle.strat_disk.specs.PlaneView.{plane_of}
 use Rattle.strat_disk.specs.History.{at_moment}
 use Rattle.strat_disk.specs.declared.log.Log.{Log}
 use Rattle.strat_disk.specs.declared.memory.MemDisk.{MemDisk}
-use Rattle.strat_crash.specs.Faults.{one_more}
+use Rattle.def_crash.specs.Faults.{one_more}
 
 -- its bytes up to the last one written
 abbrev pub bytes_of : MemDisk → List ℕ

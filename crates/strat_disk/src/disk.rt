@@ -1,8 +1,8 @@
 //! A disk as a store sees it: its content, and what a crash at each moment may leave.
 ghost use Rattle.std.specs.Prelude.{◌≡◌, ◌≤◌, ℕ, ◌+◌, ◌^◌, length, IfSome, OnOk, OnErr};
-ghost use Rattle.strat_crash.specs.Faults.{CountsFaults, ReadsAtMost};
-ghost use Rattle.strat_crash.specs.Image.{Image, HoldsBytes};
-ghost use Rattle.strat_crash.specs.Moments.{DiskView, Images, ReadsBack, Writes, Garbles, Passes, TearsRange, KeepsImages, IsDurable, WritesThrough};
+ghost use Rattle.def_crash.specs.Faults.{CountsFaults, ReadsAtMost};
+ghost use Rattle.def_crash.specs.Image.{Image, HoldsBytes};
+ghost use Rattle.def_crash.specs.Moments.{DiskView, Images, ReadsBack, Writes, Garbles, Passes, TearsRange, KeepsImages, IsDurable, WritesThrough};
 
 use strat_base::Failed;
 

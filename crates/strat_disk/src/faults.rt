@@ -1,6 +1,6 @@
 //! Counts of faults.
 ghost use Rattle.std.specs.Prelude.{◌≡◌, ◌≤◌};
-ghost use Rattle.strat_crash.specs.Faults.{Rose, one_more};
+ghost use Rattle.def_crash.specs.Faults.{Rose, one_more};
 
 use strat_base::Failed;
 

@@ -1,6 +1,6 @@
 //! A disk in one file. What the file holds is trusted and not proved.
 ghost use Rattle.std.specs.Prelude.{◌≡◌, OnErr};
-ghost use Rattle.strat_crash.specs.Faults.{CountsFaults, one_more};
+ghost use Rattle.def_crash.specs.Faults.{CountsFaults, one_more};
 ghost use Rattle.strat_disk.specs.Hidden.{hidden};
 
 use crate::disk::Disk;

@@ -1,7 +1,7 @@
 //! A disk that stops working after some calls, for tests.
 ghost use Rattle.std.specs.Prelude.{◌≡◌, ◌≤◌, ◌<◌, ℕ, ◌+◌, ◌-◌, ◌^◌, nat_lt, length, Some, IfSome, IsSomeAnd, OnOk, OnErr};
-ghost use Rattle.strat_crash.specs.Faults.{CountsFaults, ReadsAtMost};
-ghost use Rattle.strat_crash.specs.Moments.{ReadsBack, Writes, Garbles, Passes, TearsRange, KeepsImages, IsDurable};
+ghost use Rattle.def_crash.specs.Faults.{CountsFaults, ReadsAtMost};
+ghost use Rattle.def_crash.specs.Moments.{ReadsBack, Writes, Garbles, Passes, TearsRange, KeepsImages, IsDurable};
 
 use crate::disk::Disk;
 use crate::faults::fault;

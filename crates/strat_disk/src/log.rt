@@ -1,6 +1,6 @@
 //! A disk in memory that keeps each of its moments.
 ghost use Rattle.std.specs.Prelude.{◌≡◌, ◌≤◌, ◌<◌, ℕ, ◌+◌, ◌^◌, length, vec_len, vec_capacity, slice_index, true, false, IfOk, OnOk, OnErr, ◌++◌, ◌∷◌, []};
-ghost use Rattle.strat_crash.specs.Image.{window};
+ghost use Rattle.def_crash.specs.Image.{window};
 ghost use Rattle.strat_disk.specs.Medium.{at_rest, written, settled, altered, crashed};
 ghost use Rattle.strat_disk.specs.PlaneView.{plane_of, SameWith};
 ghost use Rattle.strat_disk.specs.History.{replay, Continues};

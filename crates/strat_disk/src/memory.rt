@@ -1,7 +1,7 @@
 //! A disk in memory, for tests: it can fail at chosen calls, and it can crash.
 ghost use Rattle.std.specs.Prelude.{◌≡◌, ◌≤◌, ◌<◌, ℕ, ◌+◌, ◌-◌, ◌^◌, [], true, length, slice_index, Some, IfOk, IfSome, IsSomeAnd, IsErr, IsTrue, OnOk, OnErr, is_err};
-ghost use Rattle.strat_crash.specs.Faults.{CountsFaults, one_more, ReadsAtMost};
-ghost use Rattle.strat_crash.specs.Moments.{Images, ReadsBack, Writes, Garbles, Passes, TearsRange, KeepsImages, IsDurable};
+ghost use Rattle.def_crash.specs.Faults.{CountsFaults, one_more, ReadsAtMost};
+ghost use Rattle.def_crash.specs.Moments.{Images, ReadsBack, Writes, Garbles, Passes, TearsRange, KeepsImages, IsDurable};
 ghost use Rattle.strat_disk.specs.Calls.{is_failing};
 ghost use Rattle.strat_disk.specs.Medium.{at_rest, written, settled, altered, crashed};
 

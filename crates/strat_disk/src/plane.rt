@@ -1,6 +1,6 @@
 //! The bytes of a disk in memory: as they read, as the last sync left them, and which of them are pending.
 ghost use Rattle.std.specs.Prelude.{◌≡◌, ◌≤◌, ◌<◌, ℕ, ◌+◌, ◌-◌, ◌++◌, ◌==◌, ◌^◌, if◌then◌else◌, length, vec_len, vec_capacity, take, drop, max, slice_index, IfOk, OnOk, OnErr, [], replicate, true, false};
-ghost use Rattle.strat_crash.specs.Image.{window};
+ghost use Rattle.def_crash.specs.Image.{window};
 ghost use Rattle.strat_base.specs.Numbers.{placed};
 ghost use Rattle.strat_disk.specs.Medium.{shown, at_rest, written, settled, altered, crashed, IsWhole};
 

@@ -6,7 +6,7 @@ use Rattle.std.proofs.lemmas.Bool.Decides.{nat_tests}
 use Rattle.std.proofs.lemmas.List.FromFn.{length-range_with_len}
 use Rattle.std.proofs.lemmas.List.Sums.{sum_by-append, sum_by-cons}
 use Rattle.strat_base.specs.declared.descriptors.Extent.{Extent}
-use Rattle.strat_format.specs.Arrays.{blocks_of}
+use Rattle.def_bytes.specs.Arrays.{blocks_of}
 use Rattle.strat_extent.specs.Blocks.{SpaceView, AreRuns, inside, times_in, total_len, is_used, uses, used_count}
 use Rattle.strat_extent.specs.Change.{IsMarked}
 use Rattle.strat_extent.proofs.ChangeLemmas.{uses_counted}

@@ -5,7 +5,7 @@ ghost use Rattle.std.specs.List.{count_by, range_with_len};
 ghost use Rattle.strat_base.specs.declared.descriptors.Extent.{Extent};
 ghost use Rattle.strat_extent.specs.Blocks.{SpaceView, AreRuns, times_in, total_len, is_used, uses, used_count};
 ghost use Rattle.strat_extent.specs.Change.{IsMarked};
-ghost use Rattle.strat_format.specs.Arrays.{blocks_of};
+ghost use Rattle.def_bytes.specs.Arrays.{blocks_of};
 
 /// A block stands in extents as often as in the list of their blocks, and that list is as long as they
 /// are together.

@@ -2,12 +2,12 @@
 use Rattle.std.proofs.Common.{◌≡◌, ◌≢◌, ◌≤◌, ◌<◌, ℕ, zero, suc, ◌+◌, ◌-◌, ◌*◌, inl, inr, ◌⊎◌, List, [], ◌∷◌, length, get_or, Some, None, Ok, Err, IfSome, refl, sym, ◌∙◌, ap, subst, arith}
 use Rattle.std.proofs.lemmas.Bool.{cases_lt, cases_eq, cond-true}
 use Rattle.std.proofs.lemmas.List.{get_or_append_left}
-use Rattle.strat_crash.specs.Image.{Image, SameIn, Outside, patch}
-use Rattle.strat_crash.specs.Moments.{DiskView, Images, Since, Passes, TearsOnly, KeepsImages, IsDurable}
-use Rattle.strat_format.specs.SuperBlock.{Super, IsLawful, spelled, fields, zeros, body, slot_in, newer, chosen_in, verdict, newest_in}
-use Rattle.strat_crash.proofs.ImageLemmas.{below, inside, above, lies, is_over, over_below, over_inside, over_above, is_window, outside_patch}
-use Rattle.strat_crash.proofs.MomentLemmas.{now_since_start, each_then, settled_at, at_told}
-use Rattle.strat_format.proofs.SuperBlockLemmas.{open_fields, length-spelled, length-body, gate_first, open_rest, lawful_in_range, slot_closed, slot_same, slot_laid, newer_first_gone, newer_second_gone, newer_first, newer_second}
+use Rattle.def_crash.specs.Image.{Image, SameIn, Outside, patch}
+use Rattle.def_crash.specs.Moments.{DiskView, Images, Since, Passes, TearsOnly, KeepsImages, IsDurable}
+use Rattle.def_bytes.specs.SuperBlock.{Super, IsLawful, spelled, fields, zeros, body, slot_in, newer, chosen_in, verdict, newest_in}
+use Rattle.def_crash.proofs.ImageLemmas.{below, inside, above, lies, is_over, over_below, over_inside, over_above, is_window, outside_patch}
+use Rattle.def_crash.proofs.MomentLemmas.{now_since_start, each_then, settled_at, at_told}
+use Rattle.def_bytes.proofs.SuperBlockLemmas.{open_fields, length-spelled, length-body, gate_first, open_rest, lawful_in_range, slot_closed, slot_same, slot_laid, newer_first_gone, newer_second_gone, newer_first, newer_second}
 use Rattle.strat_gate.specs.Gates.{EndsShut}
 use Rattle.strat_gate.specs.Laying.{LaysOver, OldOrNew}
 

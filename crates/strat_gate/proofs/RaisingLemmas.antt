@@ -1,10 +1,10 @@
 -- What bytes written behind a gate, and then the gate, leave.
 use Rattle.std.proofs.Common.{◌≡◌, ◌≤◌, ◌<◌, ◌+◌, ◌-◌, ℕ, suc, inl, inr, List, [], ◌∷◌, length, get_or, Some, IfSome, Result, IsErr, sym, ap, ◌∙◌, subst, arith}
 use Rattle.std.proofs.lemmas.Result.{IfOk-from_err}
-use Rattle.strat_crash.specs.Image.{Image, Outside, patch}
-use Rattle.strat_crash.specs.Moments.{DiskView, Since, Passes, TearsOnly, IsDurable}
-use Rattle.strat_crash.proofs.ImageLemmas.{same_everywhere, below, inside, above, lies, over_below, over_inside, over_above, outside_patch}
-use Rattle.strat_crash.proofs.MomentLemmas.{since_split, tears_wider, tears_trans, at_told, settled_at}
+use Rattle.def_crash.specs.Image.{Image, Outside, patch}
+use Rattle.def_crash.specs.Moments.{DiskView, Since, Passes, TearsOnly, IsDurable}
+use Rattle.def_crash.proofs.ImageLemmas.{same_everywhere, below, inside, above, lies, over_below, over_inside, over_above, outside_patch}
+use Rattle.def_crash.proofs.MomentLemmas.{since_split, tears_wider, tears_trans, at_told, settled_at}
 use Rattle.strat_gate.specs.Raising.{BehindOrRaised, Raises}
 
 -- the first of the bytes written over an image

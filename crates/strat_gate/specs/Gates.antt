@@ -1,8 +1,8 @@
 -- Gates: one byte that says whether what stands after it counts.
 use Rattle.std.specs.Prelude.{◌≡◌, ◌≢◌, ◌⊎◌, ℕ, [], ◌∷◌, Some}
-use Rattle.strat_crash.specs.Image.{Image, patch}
-use Rattle.strat_crash.specs.Moments.{DiskView, Exposes, KeepsImages, IsDurable}
-use Rattle.strat_format.specs.Layout.{open_flag}
+use Rattle.def_crash.specs.Image.{Image, patch}
+use Rattle.def_crash.specs.Moments.{DiskView, Exposes, KeepsImages, IsDurable}
+use Rattle.def_bytes.specs.Layout.{open_flag}
 
 -- after a gate was closed: it read closed and nothing happened, or a zero byte is durable in its place
 abbrev pub EndsShut : Image → ℕ → DiskView → DiskView → Type 0

@@ -1,8 +1,8 @@
 -- A superblock laid into a slot.
 use Rattle.std.specs.Prelude.{◌≡◌, ◌≢◌, ◌<◌, ◌⊎◌, ℕ, Some, IfSome, Ok}
-use Rattle.strat_crash.specs.Image.{Image, SameIn}
-use Rattle.strat_crash.specs.Moments.{DiskView, Exposes, Images}
-use Rattle.strat_format.specs.SuperBlock.{Super, chosen_in, newest_in}
+use Rattle.def_crash.specs.Image.{Image, SameIn}
+use Rattle.def_crash.specs.Moments.{DiskView, Exposes, Images}
+use Rattle.def_bytes.specs.SuperBlock.{Super, chosen_in, newest_in}
 
 -- both slots are the same in the content and in every image, and the newest is in the other slot and of a
 -- smaller generation

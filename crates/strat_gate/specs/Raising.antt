@@ -1,8 +1,8 @@
 -- Bytes written after a closed gate, which is raised once they are durable.
 use Rattle.std.specs.Prelude.{◌≡◌, ◌⊎◌, ℕ, ◌+◌, List, ◌∷◌, length, Some, Result, OnOk}
-use Rattle.strat_crash.specs.Image.{Image, Outside, patch}
-use Rattle.strat_crash.specs.Moments.{DiskView, Exposes, Images, Since, Passes, TearsOnly, IsDurable}
-use Rattle.strat_format.specs.Layout.{open_flag}
+use Rattle.def_crash.specs.Image.{Image, Outside, patch}
+use Rattle.def_crash.specs.Moments.{DiskView, Exposes, Images, Since, Passes, TearsOnly, IsDurable}
+use Rattle.def_bytes.specs.Layout.{open_flag}
 
 -- an image is one of before but for bytes after the gate, or has all of them and differs in the gate alone
 abbrev pub BehindOrRaised : DiskView → Image → ℕ → List ℕ → Image → Type 0

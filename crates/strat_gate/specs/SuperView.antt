@@ -1,7 +1,7 @@
 -- A superblock of the program as one of the definitions.
 use Rattle.std.specs.Prelude.{ℕ, Option, Some, None}
-use Rattle.strat_format.specs.SuperBlock.{Super}
-use Rattle.strat_format.specs.Layout.{newest_format}
+use Rattle.def_bytes.specs.SuperBlock.{Super}
+use Rattle.def_bytes.specs.Layout.{newest_format}
 use Rattle.strat_gate.specs.declared.superblock.SuperBlock.{SuperBlock}
 
 -- the fields of a superblock behind a format

@@ -1,8 +1,8 @@
 //! Bytes that count all together, once the gate before them is open.
 
 ghost use Rattle.std.specs.Prelude.{◌≡◌, ◌≤◌, ◌+◌, ◌^◌, length};
-ghost use Rattle.strat_crash.specs.Faults.{CountsFaults};
-ghost use Rattle.strat_crash.specs.Moments.{WritesThrough};
+ghost use Rattle.def_crash.specs.Faults.{CountsFaults};
+ghost use Rattle.def_crash.specs.Moments.{WritesThrough};
 ghost use Rattle.strat_gate.specs.Raising.{Raises};
 
 use crate::gate::gate_raise;

@@ -1,14 +1,14 @@
 //! Gates: a record counts only while the byte before it reads 0xa7. A gate is written alone, with a sync on either side.
 ghost use Rattle.std.specs.Prelude.{◌≡◌, ◌≢◌, ◌≤◌, ◌<◌, ◌==◌, ℕ, ◌+◌, ◌^◌, [], ◌∷◌, Some, IfOk, OnOk};
-ghost use Rattle.strat_crash.specs.Faults.{CountsFaults, ReadsAtMost};
-ghost use Rattle.strat_crash.specs.Image.{Image};
-ghost use Rattle.strat_crash.specs.Moments.{Exposes, Passes, TearsOnly, KeepsImages, OnlyReads, WritesThrough};
+ghost use Rattle.def_crash.specs.Faults.{CountsFaults, ReadsAtMost};
+ghost use Rattle.def_crash.specs.Image.{Image};
+ghost use Rattle.def_crash.specs.Moments.{Exposes, Passes, TearsOnly, KeepsImages, OnlyReads, WritesThrough};
 ghost use Rattle.strat_gate.specs.Gates.{EndsShut};
-ghost use Rattle.strat_format.specs.Layout.{open_flag};
+ghost use Rattle.def_bytes.specs.Layout.{open_flag};
 
+use def_bytes::OPEN;
 use strat_base::Failed;
 use strat_disk::{Disk, write_through};
-use strat_format::OPEN;
 
 /// Closes the gate at this byte: one write and one sync.
 pub fn gate_shut<D: Disk>(disk: &mut D, at: u64) -> Result<(), Failed>

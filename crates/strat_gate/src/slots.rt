@@ -1,13 +1,13 @@
 //! The two slots of a store's superblocks, blocks 0 and 1: the newest is read from them, and the next is laid into the other.
 ghost use Rattle.std.specs.Prelude.{◌≡◌, ◌≤◌, ◌<◌, ◌*◌, ◌+◌, ◌^◌, ◌∷◌, ℕ, Some, IfSome, IfOk, IfErr, OnOk, length};
-ghost use Rattle.strat_crash.specs.Faults.{CountsFaults, HasCause, ReadsAtMost};
-ghost use Rattle.strat_crash.specs.Image.{Image, patch};
-ghost use Rattle.strat_crash.specs.Moments.{Exposes, Images, Since, Passes, TearsOnly, OnlyReads, IsDurable, WritesThrough};
-ghost use Rattle.strat_format.specs.SuperBlock.{IsLawful, body, slot_in, newer, verdict, newest_in};
+ghost use Rattle.def_crash.specs.Faults.{CountsFaults, HasCause, ReadsAtMost};
+ghost use Rattle.def_crash.specs.Image.{Image, patch};
+ghost use Rattle.def_crash.specs.Moments.{Exposes, Images, Since, Passes, TearsOnly, OnlyReads, IsDurable, WritesThrough};
+ghost use Rattle.def_bytes.specs.SuperBlock.{IsLawful, body, slot_in, newer, verdict, newest_in};
 ghost use Rattle.strat_base.specs.declared.failures.Fault.TheVariants.{Damaged, Device};
 ghost use Rattle.strat_gate.specs.SuperView.{super_of, seen, slot_seen};
 ghost use Rattle.strat_gate.specs.Laying.{LaysOver, OldOrNew};
-ghost use Rattle.strat_format.specs.Layout.{open_flag};
+ghost use Rattle.def_bytes.specs.Layout.{open_flag};
 
 use crate::gate::{gate_ensure_shut, gate_raise};
 use crate::superblock::{SuperBlock, is_in_range, parse, spell};

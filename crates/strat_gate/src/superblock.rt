@@ -17,13 +17,13 @@
 
 ghost use Rattle.std.specs.Prelude.{IsTrue, ◌≡◌, ◌≤◌, ◌<◌, ◌+◌, length, drop};
 ghost use Rattle.strat_base.specs.Numbers.{be, number, placed};
-ghost use Rattle.strat_format.specs.SuperBlock.{IsLawful, zeros, body, slot_of, in_range};
-ghost use Rattle.strat_format.specs.Layout.{newest_format};
+ghost use Rattle.def_bytes.specs.SuperBlock.{IsLawful, zeros, body, slot_of, in_range};
+ghost use Rattle.def_bytes.specs.Layout.{newest_format};
 ghost use Rattle.strat_gate.specs.SuperView.{in_format, super_of, slot_seen};
 
+use def_bytes::{NEWEST_FORMAT, OPEN, first_free, shortest_manifest};
 use strat_base::limits::{CHANGES_MAX, MEM_MAX, MEM_MIN, VERSIONS_MAX};
 use strat_base::{get_u8, get_u16, get_u32, get_u64, put_u16, put_u32, put_u64};
-use strat_format::{NEWEST_FORMAT, OPEN, first_free, shortest_manifest};
 
 /// What says where the rest of a store is.
 #[derive(Clone, Copy, Debug, PartialEq, Eq)]
@@ -67,7 +67,7 @@ pub(crate) fn spell(sb: &SuperBlock, into: &mut [u8])
 }
 
 /// The format and the fields in the first 40 bytes of a block, where the gate is open and the magic stands after it.
-#[tactic(auto, unfolding(strat_format::specs::SuperBlock::slot_of))]
+#[tactic(auto, unfolding(def_bytes::specs::SuperBlock::slot_of))]
 pub(crate) fn parse(bytes: &[u8]) -> Option<(u16, SuperBlock)>
     requires { length bytes.now ≡ 40 }
     ensures { slot_seen result ≡ slot_of bytes.now }

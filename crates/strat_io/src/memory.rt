@@ -1,7 +1,7 @@
 //! A source and a sink in memory, for tests. They fail at listed calls.
 
 ghost use Rattle.std.specs.Prelude.{◌≡◌, ◌≤◌, ◌<◌, ◌+◌, ◌↔◌, ℕ, List, [], length, take, min, Option, IsErr, IfOk, OnErr, IsTrue, Contains, if◌then◌else◌};
-ghost use Rattle.strat_crash.specs.Faults.{CountsFaults, one_more};
+ghost use Rattle.def_crash.specs.Faults.{CountsFaults, one_more};
 ghost use Rattle.strat_io.specs.Streams.{Gives, Appends};
 
 use crate::sink::Sink;

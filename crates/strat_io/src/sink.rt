@@ -1,7 +1,7 @@
 //! Where bytes go.
 
 ghost use Rattle.std.specs.Prelude.{◌≡◌, ◌≤◌, ◌<◌, ℕ, List, length, take, Option, IfOk, OnOk, OnErr};
-ghost use Rattle.strat_crash.specs.Faults.{CountsFaults};
+ghost use Rattle.def_crash.specs.Faults.{CountsFaults};
 ghost use Rattle.strat_io.specs.Streams.{Appends};
 
 use strat_base::Failed;

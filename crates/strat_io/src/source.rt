@@ -1,7 +1,7 @@
 //! Where bytes come from.
 
 ghost use Rattle.std.specs.Prelude.{◌≡◌, ◌≤◌, ℕ, List, length, Option, IfOk, OnErr};
-ghost use Rattle.strat_crash.specs.Faults.{CountsFaults};
+ghost use Rattle.def_crash.specs.Faults.{CountsFaults};
 ghost use Rattle.strat_io.specs.Streams.{Gives};
 
 use strat_base::Failed;

@@ -2,13 +2,13 @@
 use Rattle.std.proofs.Common.{Bool, cond, take, drop, Some, ◌-◌, ◌≡◌, ◌≢◌, ◌≤◌, ◌<◌, ◌+◌, ℕ, zero, suc, true, ◌⊎◌, inl, inr, List, [], ◌∷◌, ◌++◌, length, Ok, sym, ap, ◌∙◌, subst, arith, length-append}
 use Rattle.std.specs.List.{list_all}
 use Rattle.std.proofs.lemmas.Bool.{cases_eq, lt-ltb}
-use Rattle.strat_crash.specs.Image.{Image, HoldsBytes, Outside, window, patch}
-use Rattle.strat_crash.specs.Moments.{DiskView, Images, Since, TearsOnly, IsDurable}
+use Rattle.def_crash.specs.Image.{Image, HoldsBytes, Outside, window, patch}
+use Rattle.def_crash.specs.Moments.{DiskView, Images, Since, TearsOnly, IsDurable}
 use Rattle.strat_base.specs.Change.{Change, is_lawful}
-use Rattle.strat_format.specs.Layout.{region_at, region_size, other_region}
-use Rattle.strat_crash.proofs.ImageLemmas.{window_same, window_patch, outside_patch}
-use Rattle.strat_crash.proofs.MomentLemmas.{settled_at, tears_wider}
-use Rattle.strat_format.specs.Records.{records_bytes}
+use Rattle.def_bytes.specs.Layout.{region_at, region_size, other_region}
+use Rattle.def_crash.proofs.ImageLemmas.{window_same, window_patch, outside_patch}
+use Rattle.def_crash.proofs.MomentLemmas.{settled_at, tears_wider}
+use Rattle.def_bytes.specs.Records.{records_bytes}
 use Rattle.strat_journal.specs.Records.{journal_changes}
 use Rattle.strat_gate.specs.Raising.{BehindOrRaised}
 use Rattle.strat_journal.proofs.KeepLemmas.{behind_split}

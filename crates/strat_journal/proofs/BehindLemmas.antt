@@ -3,11 +3,11 @@ use Rattle.std.proofs.Common.{◌≡◌, ◌≢◌, ◌≤◌, ◌+◌, ℕ, zer
 use Rattle.std.proofs.lemmas.Bool.{cases_eq}
 use Rattle.std.proofs.lemmas.List.{length-take-le, take-append-drop, append_assoc}
 use Rattle.strat_base.specs.Change.{Change}
-use Rattle.strat_crash.specs.Image.{Image, HoldsBytes, Outside, patch}
-use Rattle.strat_crash.specs.Moments.{DiskView, Images}
-use Rattle.strat_crash.proofs.ImageLemmas.{window_same, window_patch, outside_patch}
-use Rattle.strat_format.specs.Layout.{region_at, region_size, other_region}
-use Rattle.strat_format.specs.Records.{records_bytes}
+use Rattle.def_crash.specs.Image.{Image, HoldsBytes, Outside, patch}
+use Rattle.def_crash.specs.Moments.{DiskView, Images}
+use Rattle.def_crash.proofs.ImageLemmas.{window_same, window_patch, outside_patch}
+use Rattle.def_bytes.specs.Layout.{region_at, region_size, other_region}
+use Rattle.def_bytes.specs.Records.{records_bytes}
 use Rattle.strat_gate.specs.Raising.{BehindOrRaised}
 use Rattle.strat_gate.proofs.RaisingLemmas.{patched_first, patched_twice}
 use Rattle.strat_journal.specs.Log.{Log, Stands, GivesAllOrNone, batch_joined, gate_of}

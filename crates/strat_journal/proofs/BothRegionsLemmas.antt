@@ -3,11 +3,11 @@ use Rattle.std.proofs.Common.{◌≡◌, ◌≤◌, ◌<◌, ◌-◌, ℕ, Bool,
 use Rattle.std.proofs.lemmas.Bool.{cases_Bool, cases_eq, cond-true, eq-eqb, lt-ltb, le-ltb}
 use Rattle.std.proofs.lemmas.List.{append-nil, length-map}
 use Rattle.strat_base.specs.Change.{Change}
-use Rattle.strat_crash.specs.Image.{Image}
-use Rattle.strat_format.specs.Damage.{Read, and_then, passed_or}
-use Rattle.strat_format.specs.Layout.{region_first, region_at, other_region, is_open}
-use Rattle.strat_format.specs.Records.{Logged, region_records, full_then, first_records, records_behind, journal_in_two}
-use Rattle.strat_format.proofs.TwoRegionsLemmas.{joined_to, join_short, join_full, behind_none, two_whole}
+use Rattle.def_crash.specs.Image.{Image}
+use Rattle.def_bytes.specs.Damage.{Read, and_then, passed_or}
+use Rattle.def_bytes.specs.Layout.{region_first, region_at, other_region, is_open}
+use Rattle.def_bytes.specs.Records.{Logged, region_records, full_then, first_records, records_behind, journal_in_two}
+use Rattle.def_bytes.proofs.TwoRegionsLemmas.{joined_to, join_short, join_full, behind_none, two_whole}
 use Rattle.strat_journal.specs.declared.journal.Logged.{Logged as Owned}
 use Rattle.strat_journal.specs.Records.{changes_in_order, journal_changes, logged_of}
 

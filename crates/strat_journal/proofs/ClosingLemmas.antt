@@ -2,11 +2,11 @@
 use Rattle.std.proofs.Common.{◌≡◌, ◌≢◌, ◌≤◌, ◌<◌, ℕ, false, inl, inr, List, [], ◌∷◌, length, Some, Ok, sym, ap, ◌∙◌, subst, arith}
 use Rattle.std.proofs.lemmas.List.{drop_all}
 use Rattle.strat_base.specs.Change.{Change}
-use Rattle.strat_crash.specs.Image.{Image, HoldsBytes, patch}
-use Rattle.strat_crash.specs.Moments.{DiskView, Images, Since, Passes, TearsOnly, IsDurable}
-use Rattle.strat_crash.proofs.MomentLemmas.{settled_at, now_since, now_since_start, since_earlier}
-use Rattle.strat_format.specs.Layout.{region_at, other_region}
-use Rattle.strat_format.specs.Records.{Logged, region_records, journal_of}
+use Rattle.def_crash.specs.Image.{Image, HoldsBytes, patch}
+use Rattle.def_crash.specs.Moments.{DiskView, Images, Since, Passes, TearsOnly, IsDurable}
+use Rattle.def_crash.proofs.MomentLemmas.{settled_at, now_since, now_since_start, since_earlier}
+use Rattle.def_bytes.specs.Layout.{region_at, other_region}
+use Rattle.def_bytes.specs.Records.{Logged, region_records, journal_of}
 use Rattle.strat_gate.specs.Gates.{EndsShut}
 use Rattle.strat_gate.proofs.RaisingLemmas.{patched_first}
 use Rattle.strat_journal.specs.Log.{Log, Stands, KeepsShortJournal, region_begun, region_turned, IsRegionShut}

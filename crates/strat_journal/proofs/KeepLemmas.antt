@@ -7,7 +7,7 @@ use Rattle.strat_base.specs.Numbers.{placed}
 use Rattle.strat_base.specs.Change.{Change, change_bytes, change_in, is_lawful}
 use Rattle.strat_base.proofs.ChangeLemmas.{change_in-bytes, length-change_bytes}
 use Rattle.strat_base.proofs.PlacedLemmas.{length-placed}
-use Rattle.strat_format.specs.Records.{records_bytes}
+use Rattle.def_bytes.specs.Records.{records_bytes}
 use Rattle.strat_journal.specs.Log.{Log, change_then, changes_in, room_for, Keeps}
 use Rattle.strat_journal.proofs.LaidLemmas.{records_bytes-append, all_lawful-append, length-records_bytes}
 

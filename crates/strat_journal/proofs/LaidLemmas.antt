@@ -3,14 +3,14 @@ use Rattle.std.proofs.Common.{◌≡◌, ◌≢◌, ◌≤◌, ◌<◌, ◌+◌,
 use Rattle.std.specs.List.{list_all}
 use Rattle.std.proofs.lemmas.Bool.{eqb-true, eq-eqb, and_parts, and_from, cond-true, cases_Bool, cases_eq}
 use Rattle.std.proofs.lemmas.List.{append-nil, length-map}
-use Rattle.strat_crash.specs.Image.{Image, HoldsBytes, Outside}
-use Rattle.strat_crash.proofs.ImageLemmas.{window_same}
+use Rattle.def_crash.specs.Image.{Image, HoldsBytes, Outside}
+use Rattle.def_crash.proofs.ImageLemmas.{window_same}
 use Rattle.strat_base.specs.Change.{Change, change_bytes, is_lawful}
-use Rattle.strat_format.specs.Layout.{region_at, region_size, other_region}
+use Rattle.def_bytes.specs.Layout.{region_at, region_size, other_region}
 use Rattle.strat_base.proofs.ChangeLemmas.{length-change_bytes}
 use Rattle.strat_journal.specs.Laid.{Laid}
-use Rattle.strat_format.specs.Damage.{Read, and_then}
-use Rattle.strat_format.specs.Records.{Logged, records_bytes, full_then, region_records, journal_of}
+use Rattle.def_bytes.specs.Damage.{Read, and_then}
+use Rattle.def_bytes.specs.Records.{Logged, records_bytes, full_then, region_records, journal_of}
 use Rattle.strat_journal.specs.Records.{logged_from, changes_in_order, journal_changes}
 use Rattle.strat_journal.proofs.RecordLemmas.{changes, none_text, laid_read, read_laid}
 

@@ -1,16 +1,16 @@
 -- How the records of a region are read one after the other.
-use Rattle.strat_crash.proofs.MomentLemmas.{reads_refl, reads_trans}
+use Rattle.def_crash.proofs.MomentLemmas.{reads_refl, reads_trans}
 use Rattle.std.proofs.Common.{map, ◌≡◌, ◌≢◌, ◌≤◌, ◌<◌, ◌+◌, ◌-◌, ◌*◌, ℕ, suc, List, [], ◌∷◌, ◌++◌, length, take, Some, None, Result, Ok, Err, Bool, true, refl, sym, ap, ◌∙◌, subst, arith, length-append, append_assoc}
 use Rattle.std.proofs.lemmas.Bool.{eqb-true, eq-eqb, and_from}
 use Rattle.std.proofs.lemmas.List.{append-nil, map-append}
-use Rattle.strat_crash.specs.Image.{Image, window}
-use Rattle.strat_crash.specs.Moments.{DiskView, OnlyReads}
+use Rattle.def_crash.specs.Image.{Image, window}
+use Rattle.def_crash.specs.Moments.{DiskView, OnlyReads}
 use Rattle.std.specs.List.{list_all}
 use Rattle.strat_base.specs.Change.{Change, change_bytes, change_in, is_lawful}
-use Rattle.strat_format.specs.Layout.{region_at, region_size, is_open}
+use Rattle.def_bytes.specs.Layout.{region_at, region_size, is_open}
 use Rattle.strat_journal.specs.declared.journal.Logged.{Logged as Owned}
-use Rattle.strat_format.specs.Damage.{put_first}
-use Rattle.strat_format.specs.Records.{Logged, records_bytes, block_of, record_then, records, first_records}
+use Rattle.def_bytes.specs.Damage.{put_first}
+use Rattle.def_bytes.specs.Records.{Logged, records_bytes, block_of, record_then, records, first_records}
 use Rattle.strat_journal.specs.Records.{logged_of}
 use Rattle.strat_journal.proofs.LaidLemmas.{joined, records_bytes-append, all_lawful-append}
 use Rattle.strat_journal.specs.RegionReader.{ReadSoFar, MatchesImage, ReadsOn, EndsRecord, AreRecords, Stored, StoredNone}

@@ -3,17 +3,17 @@ use Rattle.std.proofs.Common.{◌≡◌, ◌≢◌, ◌≤◌, ◌<◌, ◌+◌,
 use Rattle.std.specs.List.{list_all}
 use Rattle.std.proofs.lemmas.Bool.{eqb-true, eq-eqb, and_parts, and_from, cond-true, cases_Bool, cases_lt}
 use Rattle.std.proofs.lemmas.List.{take_at, drop_at, get_or_past}
-use Rattle.strat_crash.specs.Image.{Image, HoldsBytes, window}
+use Rattle.def_crash.specs.Image.{Image, HoldsBytes, window}
 use Rattle.strat_base.specs.Numbers.{AreBytes}
 use Rattle.strat_base.specs.Change.{Change, Put, Delete, Clone, DropVersion, change_bytes, change_in, is_lawful, BeginsWithChange}
-use Rattle.strat_crash.proofs.ImageLemmas.{length-window, window_at, window_split}
+use Rattle.def_crash.proofs.ImageLemmas.{length-window, window_at, window_split}
 use Rattle.strat_base.proofs.ChangeLemmas.{change_in-bytes, change_in-some}
-use Rattle.strat_base.proofs.TreeLemmas.{option_cases}
+use Rattle.strat_base.proofs.ResultFacts.{option_cases}
 use Rattle.strat_journal.specs.Laid.{Laid}
-use Rattle.strat_format.specs.Damage.{put_first}
-use Rattle.strat_format.specs.Records.{Logged, records_bytes, block_of, record_then, records}
+use Rattle.def_bytes.specs.Damage.{put_first}
+use Rattle.def_bytes.specs.Records.{Logged, records_bytes, block_of, record_then, records}
 use Rattle.strat_journal.specs.Records.{logged_from}
-use Rattle.strat_format.specs.Layout.{is_open}
+use Rattle.def_bytes.specs.Layout.{is_open}
 
 size_some : (change : Change) → 1 ≤ length (change_bytes change)
 size_some (Put version key value) = omega arith

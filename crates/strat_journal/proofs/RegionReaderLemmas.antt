@@ -4,15 +4,15 @@ use Rattle.std.specs.Option.{IsSome}
 use Rattle.std.proofs.lemmas.Result.{IfOk-from_err, on_ok_weaker}
 use Rattle.std.proofs.lemmas.List.{take_at, drop_at, append-nil, take-append-le}
 use Rattle.std.proofs.lemmas.Bool.{false≢true}
-use Rattle.strat_crash.specs.Image.{Image, HoldsBytes, window}
-use Rattle.strat_crash.specs.Moments.{DiskView, OnlyReads}
+use Rattle.def_crash.specs.Image.{Image, HoldsBytes, window}
+use Rattle.def_crash.specs.Moments.{DiskView, OnlyReads}
 use Rattle.strat_base.specs.Numbers.{AreBytes}
 use Rattle.strat_base.specs.Change.{Change, change_bytes, change_in, BeginsWithChange}
-use Rattle.strat_crash.proofs.ImageLemmas.{length-window, window_at, window_split}
-use Rattle.strat_crash.proofs.MomentLemmas.{at_told, reads_trans}
+use Rattle.def_crash.proofs.ImageLemmas.{length-window, window_at, window_split}
+use Rattle.def_crash.proofs.MomentLemmas.{at_told, reads_trans}
 use Rattle.strat_base.proofs.NumberLemmas.{AreBytes-take}
 use Rattle.strat_base.proofs.ChangeLemmas.{change_in-bytes, change_in-some, length-change_bytes}
-use Rattle.strat_base.proofs.TreeLemmas.{option_cases}
+use Rattle.strat_base.proofs.ResultFacts.{option_cases}
 use Rattle.strat_journal.specs.RegionReader.{ReadSoFar, IsReadSoFar, MatchesImage, IsConclusive, IsClear, ReadsOn, EndsRecord}
 use Rattle.strat_journal.proofs.RecordLemmas.{AreBytes-window}
 

@@ -2,11 +2,11 @@
 use Rattle.std.proofs.Common.{◌≡◌, ◌≤◌, ◌⊎◌, inl, inr, ℕ, List, ◌++◌, length, map, take, drop, Ok, sym, ap, ◌∙◌, arith}
 use Rattle.std.proofs.lemmas.List.{length-map, map-append, take_at, drop_at, take-append-drop, append_assoc}
 use Rattle.strat_base.specs.Change.{Change}
-use Rattle.strat_crash.specs.Image.{Image}
-use Rattle.strat_format.specs.Layout.{other_region}
-use Rattle.strat_format.specs.Records.{Logged, region_records, journal_of}
-use Rattle.strat_format.proofs.DamageLemmas.{and_then_ok}
-use Rattle.strat_format.proofs.TwoRegionsLemmas.{journal_cut, join_full}
+use Rattle.def_crash.specs.Image.{Image}
+use Rattle.def_bytes.specs.Layout.{other_region}
+use Rattle.def_bytes.specs.Records.{Logged, region_records, journal_of}
+use Rattle.def_bytes.proofs.DamageLemmas.{and_then_ok}
+use Rattle.def_bytes.proofs.TwoRegionsLemmas.{journal_cut, join_full}
 use Rattle.strat_journal.specs.Log.{Log, GivesAllOrNone}
 use Rattle.strat_journal.specs.Records.{changes_in_order, journal_changes}
 

@@ -2,11 +2,11 @@
 use Rattle.std.specs.Prelude.{◌≡◌, ◌≢◌, ◌⊎◌, ◌≤◌, ◌<◌, ℕ, zero, suc, ◌+◌, ◌*◌, Bool, true, false, List, [], ◌∷◌, ◌++◌, length, map, drop, slice_index, nat_lt, if◌then◌else◌, Option, Some, None, Ok, IsTrue, ◌↔◌}
 use Rattle.std.specs.List.{list_all}
 use Rattle.strat_base.specs.Change.{Change, change_bytes, change_in, is_lawful}
-use Rattle.strat_crash.specs.Image.{Image, patch}
-use Rattle.strat_format.specs.Layout.{region_at, other_region, open_flag}
-use Rattle.strat_crash.specs.Moments.{DiskView, Exposes, Images, IsDurable}
+use Rattle.def_crash.specs.Image.{Image, patch}
+use Rattle.def_bytes.specs.Layout.{region_at, other_region, open_flag}
+use Rattle.def_crash.specs.Moments.{DiskView, Exposes, Images, IsDurable}
 use Rattle.strat_journal.specs.declared.journal.Logged.{Logged}
-use Rattle.strat_format.specs.Records.{Logged as Record, records_bytes, journal_of, journal_in_two}
+use Rattle.def_bytes.specs.Records.{Logged as Record, records_bytes, journal_of, journal_in_two}
 use Rattle.strat_journal.specs.Records.{logged_of, journal_changes}
 
 -- what a journal holds: how many changes a region takes, the active region, whether the other one's first

@@ -1,9 +1,9 @@
 -- What a journal holds of a disk's records.
 use Rattle.std.specs.Prelude.{ℕ, ◌+◌, List, [], ◌∷◌, length, map, Ok}
-use Rattle.strat_crash.specs.Image.{Image}
+use Rattle.def_crash.specs.Image.{Image}
 use Rattle.strat_base.specs.Change.{Change, change_bytes}
-use Rattle.strat_format.specs.Damage.{Read, and_then}
-use Rattle.strat_format.specs.Records.{Logged, block_of, journal_of}
+use Rattle.def_bytes.specs.Damage.{Read, and_then}
+use Rattle.def_bytes.specs.Records.{Logged, block_of, journal_of}
 use Rattle.strat_journal.specs.declared.journal.Logged.{Logged as Owned}
 
 -- a change that was read and has its bytes itself, as one of a journal

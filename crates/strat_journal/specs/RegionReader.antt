@@ -1,12 +1,12 @@
 -- The front of a region that was read.
 use Rattle.std.specs.Prelude.{◌≡◌, ◌≢◌, ◌⊎◌, ◌≤◌, ◌<◌, ℕ, ◌+◌, ◌-◌, ◌%◌, ◌^◌, List, length, take, drop, slice_index, ◌∷◌, ◌++◌, true, map, Option, Some, None, ◌*◌, IsSome, Result, OnOk}
-use Rattle.strat_crash.specs.Image.{Image, window}
-use Rattle.strat_crash.specs.Moments.{DiskView, Exposes, OnlyReads}
+use Rattle.def_crash.specs.Image.{Image, window}
+use Rattle.def_crash.specs.Moments.{DiskView, Exposes, OnlyReads}
 use Rattle.std.specs.List.{list_all}
 use Rattle.strat_base.specs.Change.{Change, change_bytes, change_in, is_lawful}
 use Rattle.strat_journal.specs.declared.journal.Logged.{Logged}
-use Rattle.strat_format.specs.Records.{block_of, records_bytes}
-use Rattle.strat_format.specs.Layout.{open_flag}
+use Rattle.def_bytes.specs.Records.{block_of, records_bytes}
+use Rattle.def_bytes.specs.Layout.{open_flag}
 
 -- where a region begins, how many bytes it has, and the first of them
 pub record ReadSoFar : Type 0 where

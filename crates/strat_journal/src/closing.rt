@@ -1,17 +1,17 @@
 //! Closing a region before the journal goes on in the other one.
 
 ghost use Rattle.std.specs.Prelude.{◌≡◌, ◌≢◌, ◌≤◌, ◌<◌, ℕ, List, length, Some, Ok, OnOk};
-ghost use Rattle.strat_crash.specs.Faults.{CountsFaults, ReadsAtMost};
-ghost use Rattle.strat_crash.specs.Image.{Image};
-ghost use Rattle.strat_format.specs.Layout as places;
-ghost use Rattle.strat_crash.specs.Moments.{Exposes, Images, Since, Passes, TearsOnly, KeepsImages, IsDurable};
+ghost use Rattle.def_crash.specs.Faults.{CountsFaults, ReadsAtMost};
+ghost use Rattle.def_crash.specs.Image.{Image};
+ghost use Rattle.def_bytes.specs.Layout as places;
+ghost use Rattle.def_crash.specs.Moments.{Exposes, Images, Since, Passes, TearsOnly, KeepsImages, IsDurable};
 ghost use Rattle.strat_gate.specs.Gates.{EndsShut};
-ghost use Rattle.strat_format.specs.Records.{Logged, journal_of};
-ghost use Rattle.strat_format.specs.Layout.{IsRegion, open_flag};
+ghost use Rattle.def_bytes.specs.Records.{Logged, journal_of};
+ghost use Rattle.def_bytes.specs.Layout.{IsRegion, open_flag};
 
+use def_bytes::region_at;
 use strat_base::Failed;
 use strat_disk::Disk;
-use strat_format::region_at;
 use strat_gate::gate_ensure_shut;
 
 /// Shuts a region's first gate where it reads open, and writes nothing where it does not: at most one read,

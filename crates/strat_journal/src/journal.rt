@@ -3,21 +3,21 @@
 ghost use Rattle.std.specs.Prelude.{◌≡◌, ◌≤◌, ◌<◌, ℕ, ◌+◌, ◌-◌, [], ◌∷◌, ◌++◌, length, map, Some, IsTrue, IfOk, OnOk, OnErr};
 ghost use Rattle.strat_base.specs.Change.{is_lawful};
 ghost use Rattle.strat_base.specs.ChangeView.{change_of};
-ghost use Rattle.strat_crash.specs.Faults.{CountsFaults, ReadsAtMost};
-ghost use Rattle.strat_crash.specs.Image.{Image};
-ghost use Rattle.strat_format.specs.Layout as places;
-ghost use Rattle.strat_format.specs.Layout.{IsRegion};
-ghost use Rattle.strat_crash.specs.Moments.{Exposes, Since, Passes, TearsOnly, IsDurable};
+ghost use Rattle.def_crash.specs.Faults.{CountsFaults, ReadsAtMost};
+ghost use Rattle.def_crash.specs.Image.{Image};
+ghost use Rattle.def_bytes.specs.Layout as places;
+ghost use Rattle.def_bytes.specs.Layout.{IsRegion};
+ghost use Rattle.def_crash.specs.Moments.{Exposes, Since, Passes, TearsOnly, IsDurable};
 ghost use Rattle.strat_journal.specs.RegionReader.{AreRecords};
 ghost use Rattle.strat_journal.specs.Log.{Stands, GivesAllOrNone, HoldsBatch, KeepsShortJournal, batch_joined, batch_region, region_begun, region_turned, with_list, empty_log, IsRegionShut};
 
 use crate::closing::close_region;
 use crate::text::{behind_gate, move_to_front, put_record, put_records};
+use def_bytes::{RECORD_MAX, region_at};
 use std::alloc::Global;
 use std::marker::Model;
 use strat_base::{Change, Failed, NoMemory, OwnedChange};
 use strat_disk::Disk;
-use strat_format::{RECORD_MAX, region_at};
 use strat_gate::gate_commit;
 
 /// Most changes of a batch.

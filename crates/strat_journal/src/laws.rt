@@ -2,9 +2,9 @@
 
 ghost use Rattle.std.specs.Prelude.{◌≡◌, ◌≤◌, ℕ, List, Ok};
 ghost use Rattle.strat_base.specs.Change.{Change};
-ghost use Rattle.strat_crash.specs.Image.{Image, HoldsBytes};
+ghost use Rattle.def_crash.specs.Image.{Image, HoldsBytes};
 ghost use Rattle.strat_journal.specs.Laid.{Laid};
-ghost use Rattle.strat_format.specs.Records.{records};
+ghost use Rattle.def_bytes.specs.Records.{records};
 ghost use Rattle.strat_journal.specs.Records.{logged_from};
 
 /// Records that stand one after the other up to a closed gate are read, each with the block of its gate, and

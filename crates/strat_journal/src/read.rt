@@ -1,25 +1,25 @@
 //! Reading a journal at recovery.
 
 ghost use Rattle.std.specs.Prelude.{◌≡◌, ◌≢◌, ◌≤◌, ℕ, ◌+◌, ◌-◌, ◌*◌, map, Ok, Err, IfOk, IsErrOf, IsTrue, ◌↔◌, vec_len};
-ghost use Rattle.strat_crash.specs.Image.{Image};
-ghost use Rattle.strat_format.specs.Layout as places;
-ghost use Rattle.strat_crash.specs.Moments.{Exposes, OnlyReads};
-ghost use Rattle.strat_format.specs.SuperBlock.{IsLawful};
+ghost use Rattle.def_crash.specs.Image.{Image};
+ghost use Rattle.def_bytes.specs.Layout as places;
+ghost use Rattle.def_crash.specs.Moments.{Exposes, OnlyReads};
+ghost use Rattle.def_bytes.specs.SuperBlock.{IsLawful};
 ghost use Rattle.strat_base.specs.declared.failures.Trouble.TheVariants.{Damaged, Device};
 ghost use Rattle.strat_gate.specs.SuperView.{super_of};
 ghost use Rattle.strat_journal.specs.Log.{Restores, RecoversTo};
 ghost use Rattle.strat_journal.specs.RegionReader.{AreRecords};
-ghost use Rattle.strat_format.specs.Records.{first_records, records_behind, journal_in_two};
+ghost use Rattle.def_bytes.specs.Records.{first_records, records_behind, journal_in_two};
 ghost use Rattle.strat_journal.specs.Records.{logged_of};
-ghost use Rattle.strat_crash.specs.Faults.{HasCause, ReadsAtMost};
-ghost use Rattle.strat_format.specs.Layout.{IsRegion, is_open};
+ghost use Rattle.def_crash.specs.Faults.{HasCause, ReadsAtMost};
+ghost use Rattle.def_bytes.specs.Layout.{IsRegion, is_open};
 
 use crate::journal::{Journal, Logged};
 use crate::region_reader::RegionReader;
+use def_bytes::{region_at, region_first};
 use std::alloc::Global;
 use strat_base::Trouble;
 use strat_disk::Disk;
-use strat_format::{region_at, region_first};
 use strat_gate::{SuperBlock, gate_up};
 
 /// The first records of a region, up to its first closed gate or as many as are asked for, and their bytes. Reads each

@@ -1,23 +1,23 @@
 //! The front of a region, read block by block as far as its records are looked at.
 
 ghost use Rattle.std.specs.Prelude.{◌≡◌, ◌≢◌, ◌≤◌, ◌<◌, ℕ, ◌+◌, ◌-◌, [], length, take, slice_index, Some, IfOk, IfSome, IsErrOf, OnOk};
-ghost use Rattle.strat_crash.specs.Faults.{CountsFaults, HasCause};
+ghost use Rattle.def_crash.specs.Faults.{CountsFaults, HasCause};
 ghost use Rattle.std.specs.Bool.{OnTrue, OnFalse};
-ghost use Rattle.strat_crash.specs.Image.{Image};
-ghost use Rattle.strat_format.specs.Layout as places;
-ghost use Rattle.strat_format.specs.Layout.{IsRegion, open_flag};
+ghost use Rattle.def_crash.specs.Image.{Image};
+ghost use Rattle.def_bytes.specs.Layout as places;
+ghost use Rattle.def_bytes.specs.Layout.{IsRegion, open_flag};
 ghost use Rattle.strat_journal.specs.RegionReader.{MatchesImage, IsClear, IsConclusive, ReadsOn, HoldsRecord, EndsRecord, HoldsNoRecord, Stored, StoredNone};
-ghost use Rattle.strat_format.specs.Records.{block_of};
+ghost use Rattle.def_bytes.specs.Records.{block_of};
 ghost use Rattle.strat_base.specs.declared.failures.Trouble.TheVariants.{Device, Damaged};
-ghost use Rattle.strat_crash.specs.Moments.{Exposes};
+ghost use Rattle.def_crash.specs.Moments.{Exposes};
 
 use crate::journal::Logged;
+use def_bytes::{OPEN, region_at, region_blocks};
 use std::alloc::Global;
 use std::marker::Model;
 use strat_base::limits::BLOCK;
 use strat_base::{Failed, NoMemory, OwnedChange, Trouble, get_change};
 use strat_disk::Disk;
-use strat_format::{OPEN, region_at, region_blocks};
 
 /// The bytes of a region's first blocks. Room for the whole region is taken by `new`.
 #[derive(Drop)]

@@ -4,10 +4,10 @@ ghost use Rattle.std.specs.Prelude.{◌≡◌, ◌≤◌, ◌<◌, ◌+◌, ◌-
 ghost use Rattle.strat_base.specs.Change.{is_lawful, change_bytes};
 ghost use Rattle.strat_base.specs.ChangeView.{change_of};
 ghost use Rattle.strat_base.specs.Numbers.{placed};
-ghost use Rattle.strat_format.specs.Layout.{open_flag};
+ghost use Rattle.def_bytes.specs.Layout.{open_flag};
 
+use def_bytes::OPEN;
 use strat_base::{Change, put_change};
-use strat_format::OPEN;
 
 /// Writes a record and a closed gate after it into the buffer, and gives the offset of that gate.
 pub(crate) fn put_record(bytes: &mut Vec<u8>, at: usize, change: &Change<'_>) -> usize

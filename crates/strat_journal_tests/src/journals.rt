@@ -1,14 +1,14 @@
 //! Journals: the example's bytes, worked crashes, altered records, and regions that are full or stale.
 
 ghost use Rattle.std.specs.Prelude.{◌≡◌, ◌≤◌, ◌+◌, [], length, IfSome, OnOk};
-ghost use Rattle.strat_format.specs.SuperBlock.{IsLawful};
+ghost use Rattle.def_bytes.specs.SuperBlock.{IsLawful};
 ghost use Rattle.strat_gate.specs.SuperView.{super_of};
 
+use def_bytes::{region_at, region_blocks, region_first};
 use std::alloc::Global;
 use std::test::Fail;
 use strat_base::{Change, Failed, Trouble};
 use strat_disk::{Disk, FuseDisk, MemDisk};
-use strat_format::{region_at, region_blocks, region_first};
 use strat_gate::SuperBlock;
 use strat_journal::{Journal, Logged, close_region};
 

@@ -1,7 +1,7 @@
 //! Superblocks: the example's bytes, the ranges of the fields, and worked disks.
 
 ghost use Rattle.std.specs.Prelude.{◌≤◌};
-ghost use Rattle.strat_format.specs.SuperBlock.{IsLawful};
+ghost use Rattle.def_bytes.specs.SuperBlock.{IsLawful};
 ghost use Rattle.strat_gate.specs.SuperView.{super_of};
 
 use std::test::Fail;

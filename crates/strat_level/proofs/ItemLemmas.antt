@@ -9,7 +9,7 @@ use Rattle.strat_base.specs.EntryBytes.{fits_fields}
 use Rattle.strat_base.proofs.ListFacts.{all_at, all_from, map_same}
 use Rattle.strat_arena.specs.ArenaView.{KeyValue}
 use Rattle.strat_arena.specs.declared.items.Item.{Item}
-use Rattle.strat_state.specs.Setting.{set_entry}
+use Rattle.def_state.specs.Setting.{set_entry}
 use Rattle.strat_arena.specs.Items.{pair_of, said_by, entry_of_item, entries_of, have_pairs}
 use Rattle.strat_level.specs.Places.{compared, IsPlaceOf, IsPlaceFor}
 use Rattle.strat_level.proofs.PlaceLemmas.{set_at_place, set_between}

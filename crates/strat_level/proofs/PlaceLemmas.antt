@@ -8,8 +8,8 @@ use Rattle.std.specs.declared.cmp.Ordering.TheVariants.{Less, Equal, Greater}
 use Rattle.std.proofs.lemmas.Bool.{and_parts, cases_order}
 use Rattle.strat_base.specs.Entries.{Entry, is_ascending}
 use Rattle.strat_base.proofs.ListFacts.{Among}
-use Rattle.strat_state.specs.Setting.{set_entry}
-use Rattle.strat_state.proofs.SettingLemmas.{order, order_itself, order_tied, order_turned, order_back, order_trans, stands_first, first_of}
+use Rattle.def_state.specs.Setting.{set_entry}
+use Rattle.def_state.proofs.SettingLemmas.{order, order_itself, order_tied, order_turned, order_back, order_trans, stands_first, first_of}
 use Rattle.strat_level.specs.Places.{compared, IsPlaceOf, IsPlaceFor, IsStart, IsEnd}
 
 -- an element at a place is one of the list

@@ -14,8 +14,8 @@ use Rattle.strat_arena.specs.ArenaView.{KeyValue, ArenaView}
 use Rattle.strat_arena.specs.PoolView.{pool_entry, arena_at, shares_at, SameBeside}
 use Rattle.strat_arena.specs.declared.items.Item.{Item}
 use Rattle.strat_arena.specs.declared.pool.PoolEntry.{PoolEntry}
-use Rattle.strat_state.specs.Setting.{set_entry}
-use Rattle.strat_state.proofs.SettingLemmas.{set_ascending}
+use Rattle.def_state.specs.Setting.{set_entry}
+use Rattle.def_state.proofs.SettingLemmas.{set_ascending}
 use Rattle.strat_arena.specs.Items.{entries_of, have_pairs}
 use Rattle.strat_level.specs.Memtable.{ItemList, Memtable, entries_held, ListStands, MemtableStands}
 use Rattle.strat_level.specs.Places.{IsPlaceOf, IsPlaceFor}

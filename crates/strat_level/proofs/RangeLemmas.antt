@@ -18,12 +18,12 @@ use Rattle.strat_base.proofs.EntryLemmas.{same_bytes, is_of_key}
 use Rattle.strat_base.proofs.TreeLemmas.{ancestor_among, path_le}
 use Rattle.strat_arena.specs.ArenaView.{KeyValue}
 use Rattle.strat_arena.specs.declared.items.Item.{Item}
-use Rattle.strat_state.specs.Live.{live}
-use Rattle.strat_state.proofs.MapLemmas.{same_key}
-use Rattle.strat_state.proofs.LevelLemmas.{ascending_single}
-use Rattle.strat_state.proofs.LiveLemmas.{deciding_live}
-use Rattle.strat_state.proofs.GroupLemmas.{deciding_first}
-use Rattle.strat_state.proofs.SettingLemmas.{order_version}
+use Rattle.def_state.specs.Live.{live}
+use Rattle.def_state.proofs.MapLemmas.{same_key}
+use Rattle.def_state.proofs.LevelLemmas.{ascending_single}
+use Rattle.def_state.proofs.LiveLemmas.{deciding_live}
+use Rattle.def_state.proofs.GroupLemmas.{deciding_first}
+use Rattle.def_state.proofs.SettingLemmas.{order_version}
 use Rattle.strat_live.specs.Group.{is_descending, is_live_item}
 use Rattle.strat_live.proofs.GroupLemmas.{live_first}
 use Rattle.strat_level.specs.Places.{compared, IsStart, IsEnd, IsKeyRange}

@@ -10,7 +10,7 @@ ghost use Rattle.strat_base.specs.EntryBytes.{fits_fields};
 ghost use Rattle.strat_base.specs.EntryView.{entry_of};
 ghost use Rattle.strat_level.specs.Memtable.{entries_held, ListStands};
 ghost use Rattle.strat_level.specs.Places.{IsStart};
-ghost use Rattle.strat_state.specs.Live.{live};
+ghost use Rattle.def_state.specs.Live.{live};
 
 use crate::search::{key_range, start_of};
 use std::marker::Model;

@@ -10,8 +10,8 @@ ghost use Rattle.strat_base.specs.EntryBytes.{fits_fields, is_markable};
 ghost use Rattle.strat_base.specs.EntryView.{val_of};
 ghost use Rattle.strat_arena.specs.Items.{said_by};
 ghost use Rattle.strat_level.specs.Memtable.{ItemList, entries_held, ListStands, MemtableStands};
-ghost use Rattle.strat_state.specs.Live.{live};
-ghost use Rattle.strat_state.specs.Setting.{set_entry};
+ghost use Rattle.def_state.specs.Live.{live};
+ghost use Rattle.def_state.specs.Setting.{set_entry};
 
 use crate::search::place_of;
 use crate::view::ZeroView;

@@ -6,7 +6,7 @@ use Rattle.std.proofs.lemmas.List.Sums.{sum_by-cons}
 use Rattle.strat_base.specs.Tree.{Parents, parent_of, IsTree}
 use Rattle.strat_live.specs.Counting.{is_seen_above, is_begun, begun_count}
 use Rattle.strat_base.specs.Order.{descends}
-use Rattle.strat_state.specs.Counted.{own_at, sees_one, keys_at}
+use Rattle.def_state.specs.Counted.{own_at, sees_one, keys_at}
 use Rattle.strat_live.proofs.SeenLemmas.{seen_parts}
 use Rattle.strat_live.proofs.CountingLemmas.{one_if, none_equal, live_root, live_up}
 

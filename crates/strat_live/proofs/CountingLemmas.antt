@@ -8,7 +8,8 @@ use Rattle.std.proofs.lemmas.List.Sums.{sum_by-cons, sum_by_push, sum_by_more, s
 use Rattle.std.proofs.lemmas.List.Folds.{list_all-append, list_all-map}
 use Rattle.strat_base.specs.Tree.{Parents, parent_of, IsTree}
 use Rattle.strat_base.proofs.ListFacts.{any_among, all_at}
-use Rattle.strat_base.proofs.TreeLemmas.{option_cases, parent_older, along_path}
+use Rattle.strat_base.proofs.ResultFacts.{option_cases}
+use Rattle.strat_base.proofs.TreeLemmas.{parent_older, along_path}
 use Rattle.strat_arena.specs.declared.items.Item.{Item}
 use Rattle.strat_live.specs.Group.{is_descending}
 use Rattle.strat_live.specs.CountFields.{AreSmall}
@@ -17,7 +18,7 @@ use Rattle.strat_tree.proofs.PreorderLemmas.{ancestors_same}
 use Rattle.strat_live.specs.Tallies.{Tallies}
 use Rattle.strat_live.specs.Counting.{item_versions, are_below, is_seen_above, is_begun, begun_count, tallied, SameParents, IsTally, IsCount, AreAdded, AreSummed}
 use Rattle.strat_base.specs.Order.{descends}
-use Rattle.strat_state.specs.Counted.{sees_one, keys_at}
+use Rattle.def_state.specs.Counted.{sees_one, keys_at}
 use Rattle.strat_live.proofs.SeenLemmas.{seen_parts, seen_same, begun_same}
 
 -- 1 for a test that passes

@@ -8,7 +8,7 @@ use Rattle.strat_base.proofs.ListFacts.{Among, any_among, all_at}
 use Rattle.strat_base.proofs.EntryLemmas.{same_bytes, is_of_key}
 use Rattle.strat_base.proofs.TreeLemmas.{ancestor_among, path_le}
 use Rattle.strat_arena.specs.declared.items.Item.{Item}
-use Rattle.strat_state.specs.Live.{is_hidden_by, is_live}
+use Rattle.def_state.specs.Live.{is_hidden_by, is_live}
 use Rattle.strat_live.specs.Group.{is_descending, is_nearer, is_live_item}
 
 module _ (parents : Parents) (v : ℕ) (items : List Item) where

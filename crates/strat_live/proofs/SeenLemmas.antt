@@ -4,10 +4,11 @@ use Rattle.std.specs.List.{list_any}
 use Rattle.std.specs.Option.{option_map_or}
 use Rattle.std.proofs.lemmas.Bool.{eqb-true, eq-eqb}
 use Rattle.strat_base.specs.Tree.{Parents, parent_of, is_ancestor, IsTree}
-use Rattle.strat_base.proofs.TreeLemmas.{option_cases, parent_older, path_root, path_up}
+use Rattle.strat_base.proofs.ResultFacts.{option_cases}
+use Rattle.strat_base.proofs.TreeLemmas.{parent_older, path_root, path_up}
 use Rattle.strat_tree.proofs.PreorderLemmas.{path_same}
 use Rattle.strat_live.specs.Counting.{is_seen_above, is_begun, SameParents}
-use Rattle.strat_state.specs.Counted.{sees_one}
+use Rattle.def_state.specs.Counted.{sees_one}
 
 pub same_truth : (a b : Bool) → (a ≡ true → b ≡ true) → (b ≡ true → a ≡ true) → a ≡ b
 same_truth true b there back = sym (there refl)

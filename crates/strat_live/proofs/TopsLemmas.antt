@@ -7,9 +7,10 @@ use Rattle.std.proofs.lemmas.Bool.{and_parts, and_from, cases_eq, cases_lt, case
 use Rattle.std.proofs.lemmas.List.Edits.{length-insert, get_or-insert_at, get_or-insert_below, get_or-insert_above}
 use Rattle.strat_base.specs.Tree.{Parents, parent_of, path, is_ancestor, IsTree}
 use Rattle.strat_base.proofs.ListFacts.{Among, any_among, any_from, all_at}
-use Rattle.strat_base.proofs.TreeLemmas.{option_cases, parent_older, path_le, path_trans, on_path, on_root, from_path, self_on_path, ancestor_among, among_ancestor}
+use Rattle.strat_base.proofs.ResultFacts.{option_cases}
+use Rattle.strat_base.proofs.TreeLemmas.{parent_older, path_le, path_trans, on_path, on_root, from_path, self_on_path, ancestor_among, among_ancestor}
 use Rattle.strat_tree.specs.Preorder.{Numbering, IsPreorder}
-use Rattle.strat_state.specs.Counted.{sees_one}
+use Rattle.def_state.specs.Counted.{sees_one}
 use Rattle.strat_live.specs.declared.tops.Interval.{Interval}
 use Rattle.strat_live.specs.Counting.{is_seen_above}
 use Rattle.strat_base.specs.Order.{descends}

@@ -5,7 +5,7 @@ use Rattle.std.specs.List.{list_any, list_all}
 use Rattle.std.specs.Option.{option_map_or}
 use Rattle.strat_base.specs.Order.{descends}
 use Rattle.strat_base.specs.Tree.{Parents, parent_of}
-use Rattle.strat_state.specs.Counted.{own_at, sees_one, keys_at}
+use Rattle.def_state.specs.Counted.{own_at, sees_one, keys_at}
 use Rattle.strat_arena.specs.declared.items.Item.{Item}
 use Rattle.strat_tree.specs.Preorder.{IsPreorder}
 use Rattle.strat_live.specs.Tallies.{Tallies}

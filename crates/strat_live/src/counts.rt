@@ -5,7 +5,7 @@ ghost use Rattle.std.specs.Option.{option_map_or};
 ghost use Rattle.strat_arena.specs.declared.items.Item.{Item};
 ghost use Rattle.strat_base.specs.Tree.{Parents, parent_of, IsTree};
 ghost use Rattle.strat_live.specs.Counting.{item_versions, are_below, tallied, IsTally, IsCount, SameParents, AreAdded, AreSummed};
-ghost use Rattle.strat_state.specs.Counted.{own_at, keys_at};
+ghost use Rattle.def_state.specs.Counted.{own_at, keys_at};
 ghost use Rattle.strat_live.specs.Group.{is_descending};
 ghost use Rattle.strat_live.specs.Tallies.{items_counted};
 ghost use Rattle.strat_live.specs.Tops.{interval_of};

@@ -6,9 +6,9 @@ ghost use Rattle.strat_arena.specs.declared.items.Item.{Item};
 ghost use Rattle.strat_base.specs.Entries.{Entry, is_of};
 ghost use Rattle.strat_base.specs.Tree.{Parents, parent_of, IsTree};
 ghost use Rattle.strat_base.specs.Order.{descends};
-ghost use Rattle.strat_state.specs.Counted.{own_at, keys_at};
+ghost use Rattle.def_state.specs.Counted.{own_at, keys_at};
 ghost use Rattle.strat_live.specs.Group.{is_live_item};
-ghost use Rattle.strat_state.specs.Live.{is_live};
+ghost use Rattle.def_state.specs.Live.{is_live};
 
 /// An item of a key is live among those of its key exactly where its entry is live among theirs,
 /// whatever values they stand for. Nothing is asked of other items.

@@ -10,11 +10,11 @@ use Rattle.std.proofs.Math.Seq.{drop-append_seam}
 use Rattle.std.proofs.lemmas.List.{take_at, take_all}
 use Rattle.strat_base.specs.Numbers.{number, number_at}
 use Rattle.strat_base.proofs.NumberLemmas.{number_at_some, number-take}
-use Rattle.strat_crash.proofs.ImageLemmas.{window_split, length-window}
+use Rattle.def_crash.proofs.ImageLemmas.{window_split, length-window}
 use Rattle.strat_base.specs.declared.limits.TheConstants.{BLOCK}
-use Rattle.strat_crash.specs.Image.{Image, window}
-use Rattle.strat_format.specs.Chained.{link_at, may_follow, chain_from, chained_bytes}
-use Rattle.strat_format.specs.Damage.{Read, put_first}
+use Rattle.def_crash.specs.Image.{Image, window}
+use Rattle.def_bytes.specs.Chained.{link_at, may_follow, chain_from, chained_bytes}
+use Rattle.def_bytes.specs.Damage.{Read, put_first}
 use Rattle.strat_manifest.specs.Chains.{put_all, IsFollowed}
 
 -- a block is one of these

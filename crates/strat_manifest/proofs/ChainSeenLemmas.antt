@@ -10,7 +10,7 @@ use Rattle.strat_extent.specs.Blocks.{SpaceView, times_in, is_used, is_free}
 use Rattle.strat_extent.specs.Change.{IsMarked, SameBlocks, CanMark}
 use Rattle.strat_extent.proofs.BlockLemmas.{marked_or}
 use Rattle.strat_extent.proofs.CountLemmas.{inside_in, inside_below, inside_above, inside_le}
-use Rattle.strat_format.specs.Arrays.{blocks_of}
+use Rattle.def_bytes.specs.Arrays.{blocks_of}
 use Rattle.strat_manifest.specs.Chains.{AreSeen}
 
 -- an extent of one block

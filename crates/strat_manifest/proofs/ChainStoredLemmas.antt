@@ -1,11 +1,11 @@
 -- A manifest that was written into a chain of blocks is read from there.
 use Rattle.std.proofs.Common.{◌≡◌, ◌≤◌, ℕ, List, [], ◌∷◌, length, Ok, sym, ap, ◌∙◌, arith}
-use Rattle.strat_crash.specs.Image.{Image}
-use Rattle.strat_format.specs.Chain.{IsChain, next_block}
-use Rattle.strat_format.specs.Chained.{manifest_at}
-use Rattle.strat_format.specs.Layout.{newest_format}
-use Rattle.strat_format.specs.Manifest.{Manifest, SpellsManifest, manifest_bytes}
-use Rattle.strat_format.proofs.ChainLemmas.{chain_read}
+use Rattle.def_crash.specs.Image.{Image}
+use Rattle.def_bytes.specs.Chain.{IsChain, next_block}
+use Rattle.def_bytes.specs.Chained.{manifest_at}
+use Rattle.def_bytes.specs.Layout.{newest_format}
+use Rattle.def_bytes.specs.Manifest.{Manifest, SpellsManifest, manifest_bytes}
+use Rattle.def_bytes.proofs.ChainLemmas.{chain_read}
 use Rattle.strat_manifest.proofs.PrintLemmas.{manifest_size}
 
 pub some_bytes : (m : Manifest) → 29 ≤ length (manifest_bytes newest_format m)

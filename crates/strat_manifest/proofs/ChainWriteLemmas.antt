@@ -8,20 +8,20 @@ use Rattle.std.proofs.lemmas.Bool.{cases_lt}
 use Rattle.strat_base.specs.declared.descriptors.Extent.{Extent}
 use Rattle.strat_base.specs.Numbers.{be, placed}
 use Rattle.strat_base.proofs.NumberLemmas.{length-be}
-use Rattle.strat_crash.specs.Image.{Image, window, patch}
-use Rattle.strat_crash.specs.Blocks.{KeepsBlock, TearsBlocks}
-use Rattle.strat_crash.specs.Moments.{DiskView, Exposes, Passes, Writes}
-use Rattle.strat_crash.proofs.ImageLemmas.{window_same, window_patch, outside_patch, outside_same_above}
-use Rattle.strat_crash.proofs.BlockLemmas.{exposed_once, blocks_refl, blocks_trans}
-use Rattle.strat_crash.proofs.MomentLemmas.{at_told}
+use Rattle.def_crash.specs.Image.{Image, window, patch}
+use Rattle.def_crash.specs.Blocks.{KeepsBlock, TearsBlocks}
+use Rattle.def_crash.specs.Moments.{DiskView, Exposes, Passes, Writes}
+use Rattle.def_crash.proofs.ImageLemmas.{window_same, window_patch, outside_patch, outside_same_above}
+use Rattle.def_crash.proofs.BlockLemmas.{exposed_once, blocks_refl, blocks_trans}
+use Rattle.def_crash.proofs.MomentLemmas.{at_told}
 use Rattle.strat_extent.specs.Blocks.{SpaceView, AreRuns, inside, times_in, total_len, is_free}
 use Rattle.strat_extent.specs.Change.{IsMarked}
 use Rattle.strat_extent.proofs.BlockLemmas.{total_listed, marked_none}
 use Rattle.strat_extent.proofs.ChangeLemmas.{is_free_of}
 use Rattle.strat_extent.proofs.CountLemmas.{inside_in}
 use Rattle.strat_extent.proofs.RunLemmas.{none_below, none_above}
-use Rattle.strat_format.specs.Arrays.{blocks_of}
-use Rattle.strat_format.specs.Chain.{next_block, link_bytes, chain_length, HoldsChain, IsChain}
+use Rattle.def_bytes.specs.Arrays.{blocks_of}
+use Rattle.def_bytes.specs.Chain.{next_block, link_bytes, chain_length, HoldsChain, IsChain}
 use Rattle.strat_manifest.specs.Chains.{AreAbove, LeavesChain, PutsRun}
 
 -- a part from an offset on has all that follows

@@ -1,6 +1,6 @@
 -- Lists of items that are read one by one.
 use Rattle.std.proofs.Common.{◌≡◌, ◌+◌, ◌-◌, ◌<◌, ◌≤◌, ℕ, suc, List, [], ◌∷◌, ◌++◌, Some, None, refl, ap, arith, append_assoc, append-nil}
-use Rattle.strat_format.specs.Manifest.{Parsed, next, read_items}
+use Rattle.def_bytes.specs.Manifest.{Parsed, next, read_items}
 
 -- items that were read, and those that are read behind them
 unfoldable pub continued : {A : Type 0} → List A → Parsed (List A) → Parsed (List A)

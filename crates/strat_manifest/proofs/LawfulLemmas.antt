@@ -4,7 +4,7 @@ use Rattle.std.specs.List.{list_all}
 use Rattle.std.proofs.lemmas.Bool.{lt-ltb, le-ltb, and_from}
 use Rattle.std.proofs.lemmas.List.{drop_all}
 use Rattle.strat_base.specs.declared.descriptors.Extent.{Extent}
-use Rattle.strat_format.specs.Manifest.{is_rising, are_apart, are_older, is_counted}
+use Rattle.def_bytes.specs.Manifest.{is_rising, are_apart, are_older, is_counted}
 
 -- the first two ascend
 pub rising_on : (xs : List ℕ) → 2 ≤ length xs → get_or xs 0 0 < get_or xs 1 0 → is_rising (drop 1 xs) ≡ is_rising xs

@@ -9,10 +9,10 @@ use Rattle.std.proofs.lemmas.Option.{cond_some}
 use Rattle.strat_base.specs.Numbers.{be, AreBytes}
 use Rattle.strat_base.specs.declared.descriptors.LevelDesc.{LevelDesc}
 use Rattle.strat_base.proofs.EntryLemmas.{bytes_same}
-use Rattle.strat_base.proofs.TreeLemmas.{option_cases}
-use Rattle.strat_format.specs.Layout.{newest_format}
-use Rattle.strat_format.specs.Manifest.{Manifest, versions_in, is_lawful_manifest, level_bytes, manifest_bytes, SpellsManifest, Parsed, next, read_number, read_items, read_only, read_manifest, manifest_in}
-use Rattle.strat_format.proofs.ManifestLemmas.{read_number-be, pass_at, manifest_in-some, manifest_in-bytes}
+use Rattle.strat_base.proofs.ResultFacts.{option_cases}
+use Rattle.def_bytes.specs.Layout.{newest_format}
+use Rattle.def_bytes.specs.Manifest.{Manifest, versions_in, is_lawful_manifest, level_bytes, manifest_bytes, SpellsManifest, Parsed, next, read_number, read_items, read_only, read_manifest, manifest_in}
+use Rattle.def_bytes.proofs.ManifestLemmas.{read_number-be, pass_at, manifest_in-some, manifest_in-bytes}
 use Rattle.strat_manifest.specs.ManifestView.{manifest_of}
 use Rattle.strat_manifest.specs.Reading.{read_head, read_levels, read_behind}
 use Rattle.strat_manifest.specs.declared.manifest.Manifest.{Manifest as Declared}

@@ -8,10 +8,10 @@ use Rattle.strat_base.specs.declared.descriptors.Extent.{Extent}
 use Rattle.strat_base.specs.declared.descriptors.ArrayDesc.{ArrayDesc}
 use Rattle.strat_base.specs.declared.descriptors.LevelDesc.{LevelDesc}
 use Rattle.strat_base.proofs.NumberLemmas.{length-be}
-use Rattle.strat_format.proofs.ManifestLemmas.{pass_at}
+use Rattle.def_bytes.proofs.ManifestLemmas.{pass_at}
 use Rattle.std.proofs.lemmas.Bool.{leb-true}
-use Rattle.strat_format.specs.Layout.{newest_format}
-use Rattle.strat_format.specs.Manifest.{Manifest, versions_in, extent_bytes, array_bytes, level_bytes, manifest_bytes, list_bytes, is_lawful_manifest}
+use Rattle.def_bytes.specs.Layout.{newest_format}
+use Rattle.def_bytes.specs.Manifest.{Manifest, versions_in, extent_bytes, array_bytes, level_bytes, manifest_bytes, list_bytes, is_lawful_manifest}
 
 module _ {X : Type 0} (f : X → List ℕ) where
   -- the spelling of one more item

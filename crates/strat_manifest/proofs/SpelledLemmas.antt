@@ -8,7 +8,7 @@ use Rattle.strat_base.specs.declared.descriptors.Extent.{Extent}
 use Rattle.strat_base.specs.declared.descriptors.ArrayDesc.{ArrayDesc}
 use Rattle.strat_base.specs.declared.descriptors.LevelDesc.{LevelDesc}
 use Rattle.strat_base.proofs.NumberLemmas.{AreBytes-drop, be-number_1, be-number_4, be-number_8}
-use Rattle.strat_format.specs.Manifest.{Parsed, next, read_number, read_items, read_list, read_extent, read_array, read_level, list_bytes, extent_bytes, array_bytes, level_bytes}
+use Rattle.def_bytes.specs.Manifest.{Parsed, next, read_number, read_items, read_list, read_extent, read_array, read_level, list_bytes, extent_bytes, array_bytes, level_bytes}
 use Rattle.strat_manifest.specs.Reading.{read_head, read_levels}
 use Rattle.strat_manifest.specs.declared.parser.Head.{Head}
 

@@ -1,13 +1,13 @@
 -- A chain of blocks while it is read or written.
 use Rattle.std.specs.Prelude.{◌≡◌, ◌≤◌, ℕ, ◌+◌, ◌*◌, ◌==◌, List, [], ◌∷◌, ◌++◌, length, drop, Option, Some, IsSome, Ok, Err}
 use Rattle.std.specs.List.{AllByRecursion, list_any, range_with_len}
-use Rattle.strat_crash.specs.Image.{Image}
-use Rattle.strat_crash.specs.Moments.{DiskView, Exposes}
+use Rattle.def_crash.specs.Image.{Image}
+use Rattle.def_crash.specs.Moments.{DiskView, Exposes}
 use Rattle.strat_extent.specs.Blocks.{SpaceView, is_used}
-use Rattle.strat_format.specs.Chain.{HoldsChain, IsChain, next_block}
-use Rattle.strat_format.specs.Chained.{chain_from, chained_bytes, manifest_at}
-use Rattle.strat_format.specs.Damage.{Read}
-use Rattle.strat_format.specs.Manifest.{Manifest, manifest_bytes}
+use Rattle.def_bytes.specs.Chain.{HoldsChain, IsChain, next_block}
+use Rattle.def_bytes.specs.Chained.{chain_from, chained_bytes, manifest_at}
+use Rattle.def_bytes.specs.Damage.{Read}
+use Rattle.def_bytes.specs.Manifest.{Manifest, manifest_bytes}
 
 -- a space in which these blocks are used, and no other
 pub record AreSeen (s : SpaceView) (blocks : List ℕ) : Type 0 where

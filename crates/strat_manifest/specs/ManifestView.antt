@@ -1,6 +1,6 @@
 -- The manifest that a manifest in memory says.
 use Rattle.std.specs.Prelude.{suc, false, replicate, length}
-use Rattle.strat_format.specs.Manifest.{Manifest}
+use Rattle.def_bytes.specs.Manifest.{Manifest}
 use Rattle.strat_manifest.specs.declared.manifest.Manifest.{Manifest as Declared}
 
 -- the manifest of these fields: compacted is 0, and no version is dropped

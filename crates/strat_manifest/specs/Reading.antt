@@ -1,7 +1,7 @@
 -- What a function read from the front of bytes, beside what reading gives.
 use Rattle.std.specs.Prelude.{◌≡◌, ℕ, ◌-◌, List, Some, None, Result, Ok, Err}
 use Rattle.strat_base.specs.declared.descriptors.LevelDesc.{LevelDesc}
-use Rattle.strat_format.specs.Manifest.{Parsed, next, read_number, read_items, read_level}
+use Rattle.def_bytes.specs.Manifest.{Parsed, next, read_number, read_items, read_level}
 use Rattle.strat_manifest.specs.declared.manifest.ManifestFault.{ManifestFault}
 use Rattle.strat_manifest.specs.declared.manifest.Manifest.{Manifest}
 use Rattle.strat_manifest.specs.declared.parser.Head.{Head}

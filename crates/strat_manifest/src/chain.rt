@@ -2,13 +2,13 @@
 
 ghost use Rattle.std.specs.Prelude.{◌≡◌, ◌≤◌, ◌<◌, ◌+◌, ◌-◌, ◌*◌, ℕ, true, false, List, [], ◌∷◌, ◌++◌, length, Ok, Err, OnOk, IfOk, IfSome, IsErrOf};
 ghost use Rattle.strat_base.specs.declared.failures.Trouble.TheVariants.{Device, Damaged};
-ghost use Rattle.strat_crash.specs.Faults.{HasCause, ReadsAtMost};
-ghost use Rattle.strat_crash.specs.Image.{Image, window};
-ghost use Rattle.strat_crash.specs.Moments.{Exposes, OnlyReads};
+ghost use Rattle.def_crash.specs.Faults.{HasCause, ReadsAtMost};
+ghost use Rattle.def_crash.specs.Image.{Image, window};
+ghost use Rattle.def_crash.specs.Moments.{Exposes, OnlyReads};
 ghost use Rattle.strat_extent.specs.Blocks.{is_free};
-ghost use Rattle.strat_format.specs.Arrays.{blocks_of};
-ghost use Rattle.strat_format.specs.Chain.{chain_length};
-ghost use Rattle.strat_format.specs.Chained.{link_at, may_follow, chain_from, chained_bytes};
+ghost use Rattle.def_bytes.specs.Arrays.{blocks_of};
+ghost use Rattle.def_bytes.specs.Chain.{chain_length};
+ghost use Rattle.def_bytes.specs.Chained.{link_at, may_follow, chain_from, chained_bytes};
 ghost use Rattle.strat_manifest.specs.Chains.{AreSeen, IsFollowed};
 
 use std::alloc::Global;

@@ -3,14 +3,14 @@
 ghost use Rattle.std.specs.Prelude.{◌≡◌, ◌≤◌, ◌<◌, ◌+◌, ◌-◌, ◌*◌, ◌^◌, ℕ, Bool, true, take, drop, length, slice_index_or, IsSome, OnOk, OnErr, IfOk, IsErrOf};
 ghost use Rattle.strat_base.specs.declared.failures.Trouble.TheVariants.{NoMemory, Device, Damaged};
 ghost use Rattle.strat_base.specs.Numbers.{placed};
-ghost use Rattle.strat_crash.specs.Blocks.{TearsBlocks};
-ghost use Rattle.strat_crash.specs.Faults.{CountsFaults, HasCause};
-ghost use Rattle.strat_crash.specs.Image.{Image};
-ghost use Rattle.strat_crash.specs.Moments.{Exposes, Writes};
+ghost use Rattle.def_crash.specs.Blocks.{TearsBlocks};
+ghost use Rattle.def_crash.specs.Faults.{CountsFaults, HasCause};
+ghost use Rattle.def_crash.specs.Image.{Image};
+ghost use Rattle.def_crash.specs.Moments.{Exposes, Writes};
 ghost use Rattle.strat_extent.specs.Blocks.{AreRuns, times_in, total_len, is_free, used_count};
 ghost use Rattle.strat_extent.specs.Change.{IsMarked, SameBlocks, AreLowest};
-ghost use Rattle.strat_format.specs.Arrays.{blocks_of};
-ghost use Rattle.strat_format.specs.Chain.{IsChain, chain_length, next_block, link_bytes};
+ghost use Rattle.def_bytes.specs.Arrays.{blocks_of};
+ghost use Rattle.def_bytes.specs.Chain.{IsChain, chain_length, next_block, link_bytes};
 ghost use Rattle.strat_manifest.specs.Chains.{LeavesChain, PutsRun};
 
 use crate::chain::{PIECE, block_room, blocks_for};

@@ -2,8 +2,8 @@
 
 ghost use Rattle.std.specs.Prelude.{◌≡◌, ◌&&◌, ◌+◌, ◌^◌, ◌==◌, nat_le, nat_lt, map, [], ◌∷◌};
 ghost use Rattle.std.specs.List.{list_all};
-ghost use Rattle.strat_format.specs.Layout.{newest_format};
-ghost use Rattle.strat_format.specs.Manifest as rules;
+ghost use Rattle.def_bytes.specs.Layout.{newest_format};
+ghost use Rattle.def_bytes.specs.Manifest as rules;
 ghost use Rattle.strat_manifest.specs.ManifestView.{manifest_of};
 
 use crate::manifest::Manifest;
@@ -87,7 +87,7 @@ fn are_lawful_versions(xs: &[u32]) -> bool
 }
 
 /// Whether the numbers of an array may be those of one that is numbered below the next.
-#[tactic(auto, unfolding(strat_format::specs::Manifest::all_pass))]
+#[tactic(auto, unfolding(def_bytes::specs::Manifest::all_pass))]
 fn are_lawful_numbers(next_array: u64, a: &ArrayDesc) -> bool
     ensures ok { result ≡ rules.all_pass (nat_le 1 a.now.id ∷ nat_lt a.now.id next_array
         ∷ nat_le 1 a.now.entries ∷ nat_lt a.now.entries (2 ^ 32)
@@ -99,7 +99,7 @@ fn are_lawful_numbers(next_array: u64, a: &ArrayDesc) -> bool
 }
 
 /// Whether an array is numbered below the next one, and has its extents and its tag as a spelling has them.
-#[tactic(auto, unfolding(strat_format::specs::Manifest::all_pass))]
+#[tactic(auto, unfolding(def_bytes::specs::Manifest::all_pass))]
 fn is_lawful_array(next_array: u64, a: &ArrayDesc) -> bool
     ensures ok { result ≡ rules.is_lawful_array next_array a.now }
 {
@@ -157,7 +157,7 @@ fn numbers_rise(levels: &[LevelDesc]) -> bool
 }
 
 /// Whether a level is one of a store with so many versions.
-#[tactic(auto, unfolding(strat_format::specs::Manifest::all_pass))]
+#[tactic(auto, unfolding(def_bytes::specs::Manifest::all_pass))]
 fn is_lawful_level(versions: u32, next_array: u64, level: &LevelDesc) -> bool
     ensures ok { result ≡ rules.is_lawful_level versions next_array level.now }
 {
@@ -192,7 +192,7 @@ fn are_older(parents: &[u32]) -> bool
 }
 
 /// Whether the numbers in front of a manifest may be those of one.
-#[tactic(auto, unfolding(strat_format::specs::Manifest::all_pass))]
+#[tactic(auto, unfolding(def_bytes::specs::Manifest::all_pass))]
 fn are_lawful_counts(changes: u32, updates: u32, written: u64, next_array: u64) -> bool
     ensures ok { result ≡ rules.all_pass (nat_lt changes (2 ^ 32) ∷ nat_le updates changes
         ∷ nat_lt written (2 ^ 64) ∷ nat_le 1 next_array ∷ nat_lt next_array (2 ^ 64) ∷ []) }
@@ -201,7 +201,7 @@ fn are_lawful_counts(changes: u32, updates: u32, written: u64, next_array: u64) 
 }
 
 /// Whether a manifest has a spelling. One pass over it, O(size), with no memory taken.
-#[tactic(auto, unfolding(strat_format::specs::Manifest::all_pass), using(strat_format::proofs::MarkLemmas::none_marked, strat_format::proofs::MarkLemmas::unmarked_pruned))]
+#[tactic(auto, unfolding(def_bytes::specs::Manifest::all_pass), using(def_bytes::proofs::MarkLemmas::none_marked, def_bytes::proofs::MarkLemmas::unmarked_pruned))]
 pub(crate) fn is_lawful(m: &Manifest) -> bool
     ensures ok { result ≡ rules.is_lawful_manifest newest_format (manifest_of m.now) }
 {

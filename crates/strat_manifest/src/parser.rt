@@ -1,8 +1,8 @@
 //! Reading a manifest. Memory is taken for each item as it is read, and never for a count that stands in the bytes.
 
 ghost use Rattle.std.specs.Prelude.{◌≡◌, ◌==◌, ◌&&◌, length, ◌∷◌, [], ◌++◌, Some, None, OnOk, IfOk, IfErr};
-ghost use Rattle.strat_format.specs.Layout.{newest_format};
-ghost use Rattle.strat_format.specs.Manifest.{read_number, read_items, read_extent, read_array, read_level, is_lawful_manifest, manifest_in, SpellsManifest};
+ghost use Rattle.def_bytes.specs.Layout.{newest_format};
+ghost use Rattle.def_bytes.specs.Manifest.{read_number, read_items, read_extent, read_array, read_level, is_lawful_manifest, manifest_in, SpellsManifest};
 ghost use Rattle.strat_manifest.specs.ManifestView.{manifest_of};
 ghost use Rattle.strat_manifest.specs.Reading.{Reads, read_head, read_levels, read_behind};
 ghost use Rattle.strat_manifest.specs.declared.manifest.ManifestFault.TheVariants as fault;
@@ -54,7 +54,7 @@ fn take_numbers(
 }
 
 /// An extent.
-#[tactic(auto, unfolding(strat_format::specs::Manifest::read_extent))]
+#[tactic(auto, unfolding(def_bytes::specs::Manifest::read_extent))]
 fn take_extent(reader: &mut Reader<'_>) -> Result<Extent, ManifestFault>
     ensures ok { Reads read_extent reader.old result reader.new }
 {
@@ -77,7 +77,7 @@ fn take_extents(alloc: Global, n: u32, reader: &mut Reader<'_>) -> Result<Extent
 }
 
 /// The descriptor of an array.
-#[tactic(auto, unfolding(strat_format::specs::Manifest::read_array))]
+#[tactic(auto, unfolding(def_bytes::specs::Manifest::read_array))]
 fn take_array(alloc: Global, reader: &mut Reader<'_>) -> Result<ArrayDesc, ManifestFault>
     ensures ok { Reads read_array reader.old result reader.new }
 {
@@ -113,7 +113,7 @@ fn take_arrays(alloc: Global, n: u32, reader: &mut Reader<'_>) -> Result<Arrays,
 }
 
 /// The descriptor of a level.
-#[tactic(auto, unfolding(strat_format::specs::Manifest::read_level))]
+#[tactic(auto, unfolding(def_bytes::specs::Manifest::read_level))]
 fn take_level(alloc: Global, reader: &mut Reader<'_>) -> Result<LevelDesc, ManifestFault>
     ensures ok { Reads read_level reader.old result reader.new }
 {

@@ -3,8 +3,8 @@
 ghost use Rattle.std.specs.Prelude.{◌≡◌, ◌+◌, ◌*◌, ◌^◌, ◌≤◌, ◌<◌, ◌++◌, length, vec_len, vec_capacity, IfOk, IsTrue};
 ghost use Rattle.std.specs.List.{flat_map};
 ghost use Rattle.strat_base.specs.Numbers.{be};
-ghost use Rattle.strat_format.specs.Layout.{newest_format};
-ghost use Rattle.strat_format.specs.Manifest.{is_lawful_manifest, list_bytes, extent_bytes, array_bytes, level_bytes, manifest_bytes, SpellsManifest};
+ghost use Rattle.def_bytes.specs.Layout.{newest_format};
+ghost use Rattle.def_bytes.specs.Manifest.{is_lawful_manifest, list_bytes, extent_bytes, array_bytes, level_bytes, manifest_bytes, SpellsManifest};
 ghost use Rattle.strat_manifest.specs.ManifestView.{manifest_of};
 
 use crate::manifest::Manifest;

@@ -1,7 +1,7 @@
 //! Bytes that are read from the front on.
 
 ghost use Rattle.std.specs.Prelude.{◌≡◌, ◌==◌, length};
-ghost use Rattle.strat_format.specs.Manifest.{read_number};
+ghost use Rattle.def_bytes.specs.Manifest.{read_number};
 ghost use Rattle.strat_manifest.specs.Reading.{Reads};
 
 use crate::manifest::ManifestFault;
@@ -38,7 +38,7 @@ impl<'a> Reader<'a> {
     }
 
     /// The number in the next byte.
-    #[tactic(auto, unfolding(strat_format::specs::Manifest::read_number))]
+    #[tactic(auto, unfolding(def_bytes::specs::Manifest::read_number))]
     pub(crate) fn take_u8(&mut self) -> Result<u8, ManifestFault>
         ensures ok { Reads (read_number 1) self.old result self.new }
     {
@@ -50,7 +50,7 @@ impl<'a> Reader<'a> {
     }
 
     /// The number in the next four bytes.
-    #[tactic(auto, unfolding(strat_format::specs::Manifest::read_number))]
+    #[tactic(auto, unfolding(def_bytes::specs::Manifest::read_number))]
     pub(crate) fn take_u32(&mut self) -> Result<u32, ManifestFault>
         ensures ok { Reads (read_number 4) self.old result self.new }
     {
@@ -62,7 +62,7 @@ impl<'a> Reader<'a> {
     }
 
     /// The number in the next eight bytes.
-    #[tactic(auto, unfolding(strat_format::specs::Manifest::read_number))]
+    #[tactic(auto, unfolding(def_bytes::specs::Manifest::read_number))]
     pub(crate) fn take_u64(&mut self) -> Result<u64, ManifestFault>
         ensures ok { Reads (read_number 8) self.old result self.new }
     {

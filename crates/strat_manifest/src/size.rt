@@ -3,8 +3,8 @@
 
 ghost use Rattle.std.specs.Prelude.{◌≡◌, ◌≤◌, ◌-◌, ◌^◌, length, min, true, IsTrue};
 ghost use Rattle.std.specs.List.{flat_map};
-ghost use Rattle.strat_format.specs.Layout.{newest_format};
-ghost use Rattle.strat_format.specs.Manifest.{is_lawful_manifest, array_bytes, level_bytes, manifest_bytes};
+ghost use Rattle.def_bytes.specs.Layout.{newest_format};
+ghost use Rattle.def_bytes.specs.Manifest.{is_lawful_manifest, array_bytes, level_bytes, manifest_bytes};
 ghost use Rattle.strat_manifest.specs.ManifestView.{manifest_of};
 
 use crate::lawful::is_lawful;

@@ -3,17 +3,17 @@
 ghost use Rattle.std.specs.List.{list_all};
 ghost use Rattle.std.specs.Prelude.{◌≡◌, ◌≤◌, ◌<◌, ◌+◌, ◌-◌, ◌==◌, ℕ, length, Some, None, Ok, Err, IsSome, IfOk, OnErr, IsErrOf, IsTrue};
 ghost use Rattle.strat_base.specs.declared.failures.Trouble.TheVariants.{NoMemory, Device, Damaged};
-ghost use Rattle.strat_crash.specs.Blocks.{TearsBlocks};
-ghost use Rattle.strat_crash.specs.Faults.{HasCause, ReadsAtMost};
-ghost use Rattle.strat_crash.specs.Image.{Image};
-ghost use Rattle.strat_crash.specs.Moments.{Exposes, OnlyReads};
+ghost use Rattle.def_crash.specs.Blocks.{TearsBlocks};
+ghost use Rattle.def_crash.specs.Faults.{HasCause, ReadsAtMost};
+ghost use Rattle.def_crash.specs.Image.{Image};
+ghost use Rattle.def_crash.specs.Moments.{Exposes, OnlyReads};
 ghost use Rattle.strat_extent.specs.Blocks.{total_len, is_free, used_count};
 ghost use Rattle.strat_extent.specs.Change.{IsMarked, SameBlocks, AreLowest};
-ghost use Rattle.strat_format.specs.Arrays.{blocks_of};
-ghost use Rattle.strat_format.specs.Chain.{chain_length};
-ghost use Rattle.strat_format.specs.Chained.{manifest_filled, manifest_at};
-ghost use Rattle.strat_format.specs.Layout.{newest_format};
-ghost use Rattle.strat_format.specs.Manifest.{is_lawful_manifest, manifest_bytes};
+ghost use Rattle.def_bytes.specs.Arrays.{blocks_of};
+ghost use Rattle.def_bytes.specs.Chain.{chain_length};
+ghost use Rattle.def_bytes.specs.Chained.{manifest_filled, manifest_at};
+ghost use Rattle.def_bytes.specs.Layout.{newest_format};
+ghost use Rattle.def_bytes.specs.Manifest.{is_lawful_manifest, manifest_bytes};
 ghost use Rattle.strat_manifest.specs.Chains.{IsStored};
 ghost use Rattle.strat_manifest.specs.ManifestView.{manifest_of};
 

@@ -1,7 +1,7 @@
 -- A manifest for tests.
 use Rattle.std.specs.Prelude.{false, [], ◌∷◌}
 use Rattle.strat_base.specs.declared.descriptors.ArrayDesc.{ArrayDesc}
-use Rattle.strat_format.specs.Manifest.{Manifest}
+use Rattle.def_bytes.specs.Manifest.{Manifest}
 
 -- an array of two extents for versions 0 and 2
 abbrev pub first_array : ArrayDesc

@@ -1,8 +1,8 @@
 //! Manifests printed and parsed, against bytes that were written by hand.
 
 ghost use Rattle.std.specs.Prelude.{◌≡◌, ◌≤◌, ◌<◌, [], ◌∷◌, ◌++◌, length, IfOk, IsTrue};
-ghost use Rattle.strat_format.specs.Layout.{newest_format};
-ghost use Rattle.strat_format.specs.Manifest.{is_lawful_manifest, manifest_bytes};
+ghost use Rattle.def_bytes.specs.Layout.{newest_format};
+ghost use Rattle.def_bytes.specs.Manifest.{is_lawful_manifest, manifest_bytes};
 ghost use Rattle.strat_manifest.specs.ManifestView.{manifest_of};
 ghost use Rattle.strat_manifest_tests.specs.Sample.{first_array, second_array, sample_manifest};
 
@@ -55,7 +55,7 @@ fn is_printed_as(alloc: Global, manifest: &Manifest, bytes: &[u8]) -> bool
 }
 
 /// The manifest of an empty store, in memory.
-#[tactic(auto, unfolding(strat_format::specs::Manifest::all_pass, strat_format::specs::Manifest::manifest_bytes, strat_base::specs::Numbers::be))]
+#[tactic(auto, unfolding(def_bytes::specs::Manifest::all_pass, def_bytes::specs::Manifest::manifest_bytes, strat_base::specs::Numbers::be))]
 fn empty_manifest(alloc: Global) -> Manifest
     ensures kept { IsTrue (is_lawful_manifest newest_format (manifest_of result)) }
     ensures fits { length (manifest_bytes newest_format (manifest_of result)) ≤ 4096 }
@@ -185,7 +185,7 @@ fn manifest_of_two_arrays(alloc: Global) -> Result<Manifest, NoMemory>
 }
 
 /// Whether a manifest that is known to be the sample is printed as its bytes.
-#[tactic(auto, unfolding(strat_format::specs::Manifest::all_pass, strat_format::specs::Manifest::manifest_bytes, strat_base::specs::Numbers::be))]
+#[tactic(auto, unfolding(def_bytes::specs::Manifest::all_pass, def_bytes::specs::Manifest::manifest_bytes, strat_base::specs::Numbers::be))]
 fn sample_is_printed(alloc: Global, manifest: &Manifest) -> bool
     requires { manifest_of manifest.now ≡ sample_manifest }
 {

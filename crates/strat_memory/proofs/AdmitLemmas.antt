@@ -8,32 +8,32 @@ use Rattle.strat_base.proofs.ListFacts.{Among, all_at, all_from, among_flat}
 use Rattle.strat_base.specs.declared.descriptors.ArrayDesc.{ArrayDesc}
 use Rattle.strat_base.specs.declared.descriptors.Extent.{Extent}
 use Rattle.strat_base.specs.declared.descriptors.LevelDesc.{LevelDesc}
-use Rattle.strat_format.specs.Arrays.{blocks_of}
-use Rattle.strat_format.specs.Chained.{Chained, link_at, may_follow, chain_from, chained_bytes, manifest_filled, manifest_in_chain, manifest_at}
-use Rattle.strat_format.specs.Layout.{first_free, newest_format}
-use Rattle.strat_format.specs.Manifest.{Manifest, is_lawful_manifest, is_lawful_level, is_lawful_array, is_lawful_extent, is_rising, versions_in}
-use Rattle.strat_format.specs.SuperBlock.{Super}
-use Rattle.strat_format.proofs.ManifestLemmas.{pass_at}
-use Rattle.strat_recovery.specs.Head.{descriptors}
-use Rattle.strat_recovery.specs.Opening.{has_own_blocks, has_own_ids, has_own_versions, belongs}
-use Rattle.strat_recovery.proofs.OpeningLemmas.{manifest_tests, level_tests, map_some}
-use Rattle.strat_recovery.proofs.PassedLemmas.{array_tests, belonging_tests}
-use Rattle.strat_standing.proofs.ListLemmas.{contained_among}
-use Rattle.strat_standing.proofs.NextLemmas.{pass_more, pass_none}
-use Rattle.strat_standing.proofs.OccupiedLemmas
-use Rattle.strat_standing.specs.Contents.{Contents, named_blocks}
-use Rattle.strat_standing.specs.Occupied.{IsSpaceOf, arrays_in, extents_of}
+use Rattle.def_bytes.specs.Arrays.{blocks_of}
+use Rattle.def_bytes.specs.Chained.{Chained, link_at, may_follow, chain_from, chained_bytes, manifest_filled, manifest_in_chain, manifest_at}
+use Rattle.def_bytes.specs.Layout.{first_free, newest_format}
+use Rattle.def_bytes.specs.Manifest.{Manifest, is_lawful_manifest, is_lawful_level, is_lawful_array, is_lawful_extent, is_rising, versions_in}
+use Rattle.def_bytes.specs.SuperBlock.{Super}
+use Rattle.def_bytes.proofs.ManifestLemmas.{pass_at}
+use Rattle.def_recovery.specs.Head.{descriptors}
+use Rattle.def_recovery.specs.Opening.{has_own_blocks, has_own_ids, has_own_versions, belongs}
+use Rattle.def_recovery.proofs.OpeningLemmas.{manifest_tests, level_tests, map_some}
+use Rattle.def_recovery.proofs.PassedLemmas.{array_tests, belonging_tests}
+use Rattle.def_publish.proofs.ListLemmas.{contained_among}
+use Rattle.def_publish.proofs.NextLemmas.{pass_more, pass_none}
+use Rattle.def_publish.proofs.OccupiedLemmas
+use Rattle.def_publish.specs.Contents.{Contents, named_blocks}
+use Rattle.def_publish.specs.Occupied.{IsSpaceOf, arrays_in, extents_of}
 use Rattle.strat_extent.specs.Blocks.{SpaceView}
-use Rattle.strat_state.specs.Level.{is_distinct}
+use Rattle.def_state.specs.Level.{is_distinct}
 use Rattle.strat_memory.specs.Belonging.{UsesJust}
 use Rattle.strat_memory.specs.Held.{ArePlaced}
 use Rattle.strat_memory.specs.Admitting.{MayBePlaced, counts_belong, count_tests, chained_of, IsAdmitted}
 use Rattle.strat_memory.specs.declared.admitting.Published.{Published}
 use Rattle.strat_base.specs.Marks.{none_dropped}
-use Rattle.strat_crash.specs.Image.{Image}
-use Rattle.strat_format.specs.Chain.{chain_length}
-use Rattle.strat_format.specs.Damage.{put_first}
-use Rattle.strat_format.proofs.DamageLemmas.{and_then_ok, passed_ok, found_ok, put_first_ok}
+use Rattle.def_crash.specs.Image.{Image}
+use Rattle.def_bytes.specs.Chain.{chain_length}
+use Rattle.def_bytes.specs.Damage.{put_first}
+use Rattle.def_bytes.proofs.DamageLemmas.{and_then_ok, passed_ok, found_ok, put_first_ok}
 
 -- the tests that a manifest belongs, one by one
 module _ (sb : Super) (y : Chained) where

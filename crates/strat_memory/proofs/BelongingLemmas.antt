@@ -6,7 +6,7 @@ use Rattle.std.proofs.lemmas.List.Sums.{sum_by-cons, sum_by-append}
 use Rattle.std.specs.List.{sum_by}
 use Rattle.strat_base.specs.declared.descriptors.ArrayDesc.{ArrayDesc}
 use Rattle.strat_base.specs.declared.descriptors.LevelDesc.{LevelDesc}
-use Rattle.strat_standing.specs.Occupied.{arrays_in}
+use Rattle.def_publish.specs.Occupied.{arrays_in}
 
 -- a number that stands still at an end is at most one below that end exactly where it is so itself
 pub capped : (n m : ℕ) → m < 4294967296 → leb (min n (2 ^ 64 - 1)) m ≡ leb n m

@@ -10,8 +10,8 @@ use Rattle.std.specs.declared.cmp.Ordering.TheVariants.{Less, Equal, Greater}
 use Rattle.strat_base.specs.Entries.{is_tagged}
 use Rattle.strat_base.specs.declared.descriptors.ArrayDesc.{ArrayDesc}
 use Rattle.strat_base.specs.declared.descriptors.LevelDesc.{LevelDesc}
-use Rattle.strat_standing.specs.Occupied.{arrays_in}
-use Rattle.strat_state.specs.Level.{is_distinct}
+use Rattle.def_publish.specs.Occupied.{arrays_in}
+use Rattle.def_state.specs.Level.{is_distinct}
 use Rattle.strat_memory.specs.Belonging.{are_new}
 
 pub new_step : (has later : ℕ → Bool) (k : ℕ) (xs : List ℕ) → has k ≡ false → ((q : ℕ) → later q ≡ cond (is_eq (nat_cmp k q)) true (has q)) → are_new later xs ≡ are_new has (k ∷ xs)

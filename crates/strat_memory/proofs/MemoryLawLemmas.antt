@@ -6,8 +6,8 @@ use Rattle.strat_base.specs.Change as change
 use Rattle.strat_base.specs.Entries.{Entry}
 use Rattle.strat_base.specs.Tree.{Parents, is_known, parent_of, depth, has_child, with_child}
 use Rattle.strat_base.proofs.ListFacts.{fold-push, filter_map-append}
-use Rattle.strat_crash.specs.Image.{Image}
-use Rattle.strat_format.specs.Arrays.{all_some}
+use Rattle.def_crash.specs.Image.{Image}
+use Rattle.def_bytes.specs.Arrays.{all_some}
 use Rattle.strat_model.specs.Answer.{Answer, plain, accepts}
 use Rattle.strat_model.specs.Pairs.{Pairs, set, unset, value_of}
 use Rattle.strat_model.specs.Plain.{update_refusal, clone_refusal}
@@ -17,27 +17,27 @@ use Rattle.strat_model.specs.Table.{Cursor, Table, parents_of}
 use Rattle.strat_model.specs.declared.replies.Refusal.{Refusal}
 use Rattle.strat_model.specs.declared.replies.Refusal.TheVariants as why
 use Rattle.strat_model.specs.declared.replies.Reply.TheVariants as reply
-use Rattle.strat_recovery.specs.Head.{Head, head_versions, head_updates, head_changes, head_marks}
-use Rattle.strat_recovery.specs.Opened.{level_on, parents_in}
-use Rattle.strat_recovery.specs.Opening.{state_of}
-use Rattle.strat_recovery.specs.StateTable.{table_of, request_for}
-use Rattle.strat_recovery.proofs.HeadLemmas.{state_with}
-use Rattle.strat_recovery.proofs.OpeningLemmas.{map_some}
-use Rattle.strat_recovery.proofs.RowLemmas.{rows_many, parents_are, rows_known, rows_frozen}
-use Rattle.strat_recovery.proofs.StateTableLemmas.{accepts_same}
-use Rattle.strat_state.specs.Reading.{live_of, level_zero}
-use Rattle.strat_state.specs.Setting.{set_entry, set_all}
-use Rattle.strat_state.specs.Sound.{is_accepted, accepts_change, IsSound}
-use Rattle.strat_state.specs.State.{State, versions_of, journal_updates, updates_of, changes_of, tree_after, update_of, marks_of, marks_after, map_at, is_living}
-use Rattle.strat_state.proofs.SoundLemmas.{sound_tree}
-use Rattle.strat_state.proofs.UpdateLemmas.{all_lives}
+use Rattle.def_recovery.specs.Head.{Head, head_versions, head_updates, head_changes, head_marks}
+use Rattle.def_recovery.specs.Opened.{level_on, parents_in}
+use Rattle.def_recovery.specs.Opening.{state_of}
+use Rattle.def_meaning.specs.StateTable.{table_of, request_for}
+use Rattle.def_recovery.proofs.HeadLemmas.{state_with}
+use Rattle.def_recovery.proofs.OpeningLemmas.{map_some}
+use Rattle.def_meaning.proofs.RowLemmas.{rows_many, parents_are, rows_known, rows_frozen}
+use Rattle.def_meaning.proofs.StateTableLemmas.{accepts_same}
+use Rattle.def_state.specs.Reading.{live_of, level_zero}
+use Rattle.def_state.specs.Setting.{set_entry, set_all}
+use Rattle.def_state.specs.Sound.{is_accepted, accepts_change, IsSound}
+use Rattle.def_state.specs.State.{State, versions_of, journal_updates, updates_of, changes_of, tree_after, update_of, marks_of, marks_after, map_at, is_living}
+use Rattle.def_state.proofs.SoundLemmas.{sound_tree}
+use Rattle.def_state.proofs.UpdateLemmas.{all_lives}
 use Rattle.strat_memory.specs.Memory.{Memory, refusal_of_update, refusal_of_clone, refusal_of_change, memory_after, HasRoomFor, reply_to, info_told, stat_told, emptied, fresh_memory, table_with, IsMemoryOf}
-use Rattle.strat_promotion.proofs.PaidLemmas.{updates_few}
+use Rattle.def_promote.proofs.PaidLemmas.{updates_few}
 use Rattle.strat_memory.proofs.MemoryLemmas.{left_few}
 use Rattle.strat_memory.proofs.ThreeTests.{three_none, three_pass, three_refuse}
 use Rattle.strat_base.specs.Marks.{Marks, none_dropped, is_dropped}
 use Rattle.strat_base.proofs.MarkLemmas.{living_child, living_at}
-use Rattle.strat_state.proofs.UndroppedLemmas.{there_made, open_made, none_after}
+use Rattle.def_state.proofs.UndroppedLemmas.{there_made, open_made, none_after}
 use Rattle.std.proofs.lemmas.Bool.{not_from_false}
 
 -- of three tests that refuse in turn none does where all pass

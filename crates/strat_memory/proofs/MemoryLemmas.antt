@@ -20,12 +20,12 @@ use Rattle.strat_base.specs.Order.{entry_cmp}
 use Rattle.strat_base.specs.Tree.{Parents, is_known, has_child, with_child}
 use Rattle.strat_base.proofs.EntryLemmas.{bytes_same}
 use Rattle.strat_base.proofs.ListFacts.{all_at, all_from, find_some, get_among}
-use Rattle.strat_format.specs.Manifest.{are_older}
+use Rattle.def_bytes.specs.Manifest.{are_older}
 use Rattle.strat_level.specs.Memtable.{ItemList, entries_held}
-use Rattle.strat_recovery.specs.TableOver.{are_known}
-use Rattle.strat_state.specs.Reading.{live_of}
-use Rattle.strat_state.specs.Setting.{set_entry, set_all}
-use Rattle.strat_state.proofs.SettingLemmas.{set_among}
+use Rattle.def_meaning.specs.TableOver.{are_known}
+use Rattle.def_state.specs.Reading.{live_of}
+use Rattle.def_state.specs.Setting.{set_entry, set_all}
+use Rattle.def_state.proofs.SettingLemmas.{set_among}
 use Rattle.strat_model.specs.declared.replies.Refusal.TheVariants as why
 use Rattle.strat_memory.specs.Memory.{Memory, refusal_of_update, refusal_of_clone}
 use Rattle.strat_memory.proofs.ThreeTests.{three_none}

@@ -8,24 +8,24 @@ use Rattle.strat_cursor.specs.Cursors.{are_named, arrays_named}
 use Rattle.strat_cursor.specs.Held.{HeldCursors, no_cursors}
 use Rattle.strat_cursor.specs.Looking.{HaveOwnIds, arrays_there}
 use Rattle.strat_extent.specs.Blocks.{times_in}
-use Rattle.strat_format.proofs.ManifestLemmas.{pass_at}
-use Rattle.strat_format.specs.Layout.{first_free, newest_format}
-use Rattle.strat_format.specs.Chained.{Chained}
-use Rattle.strat_format.specs.Manifest.{is_lawful_manifest, versions_in, is_lawful_array, is_lawful_level}
-use Rattle.strat_format.specs.SuperBlock.{Super}
-use Rattle.strat_recovery.proofs.OpeningLemmas.{manifest_tests, level_tests}
-use Rattle.strat_recovery.proofs.PassedLemmas.{array_tests, belonging_tests}
-use Rattle.strat_recovery.specs.Head.{descriptors}
-use Rattle.strat_recovery.specs.Opening.{belongs, has_own_versions}
-use Rattle.strat_standing.proofs.ListLemmas.{contained_among}
-use Rattle.strat_standing.specs.Occupied.{extents_of}
-use Rattle.strat_state.specs.Level.{is_distinct}
+use Rattle.def_bytes.proofs.ManifestLemmas.{pass_at}
+use Rattle.def_bytes.specs.Layout.{first_free, newest_format}
+use Rattle.def_bytes.specs.Chained.{Chained}
+use Rattle.def_bytes.specs.Manifest.{is_lawful_manifest, versions_in, is_lawful_array, is_lawful_level}
+use Rattle.def_bytes.specs.SuperBlock.{Super}
+use Rattle.def_recovery.proofs.OpeningLemmas.{manifest_tests, level_tests}
+use Rattle.def_recovery.proofs.PassedLemmas.{array_tests, belonging_tests}
+use Rattle.def_recovery.specs.Head.{descriptors}
+use Rattle.def_recovery.specs.Opening.{belongs, has_own_versions}
+use Rattle.def_publish.proofs.ListLemmas.{contained_among}
+use Rattle.def_publish.specs.Occupied.{extents_of}
+use Rattle.def_state.specs.Level.{is_distinct}
 use Rattle.strat_memory.proofs.OwnLemmas.{once_counted}
 use Rattle.strat_memory.specs.Held.{AreKept, ArePlaced, arrays_held, blocks_named}
 use Rattle.strat_memory.specs.Memory.{Memory}
 use Rattle.strat_base.proofs.ListFacts.{Among, all_at, among_split, among_in_flat}
 use Rattle.strat_base.specs.Entries.{is_tagged}
-use Rattle.strat_state.proofs.LevelLemmas.{tagged_among}
+use Rattle.def_state.proofs.LevelLemmas.{tagged_among}
 
 -- each array of lawful levels is lawful, and its versions are there
 pub array_lawful : (versions next : ℕ) (ds : List LevelDesc) → list_all (is_lawful_level versions next) ds ≡ true → list_all has_own_versions ds ≡ true → (a : ArrayDesc)

@@ -2,17 +2,17 @@
 use Rattle.std.proofs.Common.{◌≡◌, ◌≤◌, ◌+◌, ◌*◌, ℕ, true, [], Option, Some, None, Ok, refl, sym, ap, ◌∙◌, subst, arith, true≢false}
 use Rattle.std.specs.Prelude.{IsSome}
 use Rattle.strat_base.proofs.ListFacts.{Among, among_left}
-use Rattle.strat_crash.specs.Image.{Image, SameIn}
-use Rattle.strat_crash.specs.Moments.{DiskView, Exposes, Images, Passes, TearsOnly, OnlyReads, IsDurable}
-use Rattle.strat_crash.proofs.BlockLemmas.{keeps_refl}
-use Rattle.strat_crash.proofs.ImageLemmas.{outside_same, outside_same_above}
-use Rattle.strat_crash.proofs.MomentLemmas.{now_since_start, settled_at}
-use Rattle.strat_format.specs.Chained.{manifest_at}
-use Rattle.strat_format.specs.Layout.{region_at, region_size, other_region, first_free}
-use Rattle.strat_format.specs.SuperBlock.{newest_in}
-use Rattle.strat_recovery.specs.Opening.{belongs}
-use Rattle.strat_standing.proofs.LocalLemmas.{SameOn, manifest_local}
-use Rattle.strat_standing.proofs.PlaceLemmas.{places, newest_local, named_behind}
+use Rattle.def_crash.specs.Image.{Image, SameIn}
+use Rattle.def_crash.specs.Moments.{DiskView, Exposes, Images, Passes, TearsOnly, OnlyReads, IsDurable}
+use Rattle.def_crash.proofs.BlockLemmas.{keeps_refl}
+use Rattle.def_crash.proofs.ImageLemmas.{outside_same, outside_same_above}
+use Rattle.def_crash.proofs.MomentLemmas.{now_since_start, settled_at}
+use Rattle.def_bytes.specs.Chained.{manifest_at}
+use Rattle.def_bytes.specs.Layout.{region_at, region_size, other_region, first_free}
+use Rattle.def_bytes.specs.SuperBlock.{newest_in}
+use Rattle.def_recovery.specs.Opening.{belongs}
+use Rattle.def_publish.proofs.LocalLemmas.{SameOn, manifest_local}
+use Rattle.def_publish.proofs.PlaceLemmas.{places, newest_local, named_behind}
 use Rattle.strat_memory.specs.Held.{Held, IsConsistent, IsOnDisk, contents_held}
 
 pub told_some : (o : Option Image) (f : Image) → o ≡ Some f → IsSome o

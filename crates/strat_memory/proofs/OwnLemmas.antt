@@ -16,16 +16,16 @@ use Rattle.strat_extent.proofs.ChangeLemmas.{free_bounds, is_free_of, uses_used,
 use Rattle.strat_extent.proofs.CountLemmas.{inside_bounds, times_append}
 use Rattle.strat_extent.specs.Blocks.{SpaceView, inside, times_in, is_used, uses}
 use Rattle.strat_extent.specs.Change.{IsMarked, CanMark}
-use Rattle.strat_format.specs.Arrays.{blocks_of}
-use Rattle.strat_format.specs.Layout.{first_free}
-use Rattle.strat_format.specs.Manifest.{Manifest, is_lawful_extent}
-use Rattle.strat_format.specs.SuperBlock.{Super}
-use Rattle.strat_recovery.specs.Opening.{has_own_blocks}
-use Rattle.strat_standing.proofs.ListLemmas.{among_contained, contained_among}
-use Rattle.strat_standing.proofs.OccupiedLemmas.{named_times, marked_more, marked_space, uses_both}
-use Rattle.strat_standing.specs.Contents.{Contents, named_blocks}
-use Rattle.strat_standing.specs.Occupied.{IsSpaceOf, UsesMore, arrays_in, extents_of}
-use Rattle.strat_state.specs.Level.{is_distinct}
+use Rattle.def_bytes.specs.Arrays.{blocks_of}
+use Rattle.def_bytes.specs.Layout.{first_free}
+use Rattle.def_bytes.specs.Manifest.{Manifest, is_lawful_extent}
+use Rattle.def_bytes.specs.SuperBlock.{Super}
+use Rattle.def_recovery.specs.Opening.{has_own_blocks}
+use Rattle.def_publish.proofs.ListLemmas.{among_contained, contained_among}
+use Rattle.def_publish.proofs.OccupiedLemmas.{named_times, marked_more, marked_space, uses_both}
+use Rattle.def_publish.specs.Contents.{Contents, named_blocks}
+use Rattle.def_publish.specs.Occupied.{IsSpaceOf, UsesMore, arrays_in, extents_of}
+use Rattle.def_state.specs.Level.{is_distinct}
 use Rattle.strat_memory.specs.Belonging.{UsesJust}
 
 -- what can be marked together can be marked in two parts, and the second part after the first

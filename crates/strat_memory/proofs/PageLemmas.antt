@@ -6,14 +6,14 @@ use Rattle.std.proofs.lemmas.Bool.{cases_Bool, eqb-true}
 use Rattle.std.proofs.lemmas.Result.{err_from_is_err_and}
 use Rattle.strat_arena.specs.declared.pool.PoolEntry.{PoolEntry}
 use Rattle.strat_array.specs.Kept.{Blocks}
-use Rattle.strat_array.proofs.SearchLemmas.{err_of}
+use Rattle.strat_base.proofs.ResultFacts.{err_of}
 use Rattle.strat_base.proofs.ListFacts.{Among, any_among, among_in_flat}
 use Rattle.strat_base.specs.Tree.{Parents}
 use Rattle.strat_base.specs.declared.descriptors.ArrayDesc.{ArrayDesc}
-use Rattle.strat_crash.specs.Image.{Image}
-use Rattle.strat_crash.specs.Moments.{DiskView, Exposes}
+use Rattle.def_crash.specs.Image.{Image}
+use Rattle.def_crash.specs.Moments.{DiskView, Exposes}
 use Rattle.strat_model.specs.Pairs.{Pairs}
-use Rattle.strat_recovery.proofs.BadLemmas.{contained_at}
+use Rattle.def_recovery.proofs.BadLemmas.{contained_at}
 use Rattle.strat_cursor.specs.Cursors.{OpenCursor, CursorsView, IsMapPinned, MayGoOn, TellsNext, arrays_named, is_opened, moved_at}
 use Rattle.strat_cursor.specs.Held.{HeldCursor, IsMapHeld, cursor_held, cursors_held, opened_held}
 use Rattle.strat_cursor.specs.Looking.{LooksThrough, NamesNoBlock}

@@ -1,17 +1,17 @@
 -- What a store pays for its arrays, while its disk is read and its journal grows.
 use Rattle.std.proofs.Common.{◌≡◌, ◌≤◌, ◌*◌, ℕ, zero, suc, List, [], ◌∷◌, Some, sym, ◌∙◌, subst, arith}
 use Rattle.strat_base.specs.Change.{Change}
-use Rattle.strat_crash.proofs.MomentLemmas.{each_then}
-use Rattle.strat_crash.specs.Image.{Image}
-use Rattle.strat_crash.specs.Moments.{DiskView, Passes, OnlyReads}
-use Rattle.strat_crash.specs.Trail.{At, Trail}
+use Rattle.def_crash.proofs.MomentLemmas.{each_then}
+use Rattle.def_crash.specs.Image.{Image}
+use Rattle.def_crash.specs.Moments.{DiskView, Passes, OnlyReads}
+use Rattle.def_crash.specs.Trail.{At, Trail}
 use Rattle.strat_model.specs.Table.{Table}
-use Rattle.strat_standing.proofs.PartsLemmas.{reads_state}
-use Rattle.strat_standing.specs.Appending.{with_batch}
-use Rattle.strat_standing.specs.Contents.{Contents, contents_state}
-use Rattle.strat_standing.specs.Standing.{ReadsAs, ShowsTable, ContentsStand}
-use Rattle.strat_state.proofs.SpaceLemmas.{stored_twice}
-use Rattle.strat_state.specs.State.{State, IsPaid, stored, updates_of}
+use Rattle.def_publish.proofs.PartsLemmas.{reads_state}
+use Rattle.def_publish.specs.Appending.{with_batch}
+use Rattle.def_publish.specs.Contents.{Contents, contents_state}
+use Rattle.def_publish.specs.Standing.{ReadsAs, ShowsTable, ContentsStand}
+use Rattle.def_state.proofs.SpaceLemmas.{stored_twice}
+use Rattle.def_state.specs.State.{State, IsPaid, stored, updates_of}
 use Rattle.strat_memory.specs.Paying.{IsPaidIn, ArePaidSince, StoreTwoSince}
 
 -- an image of contents whose state is paid for

@@ -6,10 +6,10 @@ use Rattle.std.proofs.Math.ListN.{set}
 use Rattle.std.specs.List.{list_all}
 use Rattle.strat_base.proofs.ListFacts.{Among, all_at, among_left, among_right}
 use Rattle.strat_base.specs.declared.descriptors.LevelDesc.{LevelDesc}
-use Rattle.strat_format.specs.Manifest.{is_rising}
+use Rattle.def_bytes.specs.Manifest.{is_rising}
 use Rattle.strat_level.specs.Levels.{level_numbered}
-use Rattle.strat_recovery.specs.Opening.{has_own_versions}
-use Rattle.strat_standing.proofs.ListLemmas.{among_contained}
+use Rattle.def_recovery.specs.Opening.{has_own_versions}
+use Rattle.def_publish.proofs.ListLemmas.{among_contained}
 use Rattle.strat_cursor.specs.Looking.{levels_there}
 use Rattle.strat_memory.specs.Admitting.{FitsInMemory, MayBePlaced}
 use Rattle.strat_memory.proofs.TagLemmas.{rising_parts}

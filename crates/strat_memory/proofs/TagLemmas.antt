@@ -7,11 +7,11 @@ use Rattle.strat_base.proofs.ListFacts.{Among}
 use Rattle.strat_base.specs.Entries.{is_tagged}
 use Rattle.strat_base.specs.declared.descriptors.ArrayDesc.{ArrayDesc}
 use Rattle.strat_base.specs.declared.descriptors.LevelDesc.{LevelDesc}
-use Rattle.strat_format.specs.Manifest.{is_rising}
+use Rattle.def_bytes.specs.Manifest.{is_rising}
 use Rattle.strat_level.specs.Levels.{HaveDisjointTags, is_for, arrays_for}
-use Rattle.strat_recovery.specs.Opening.{has_own_versions}
-use Rattle.strat_state.proofs.LevelLemmas.{tagged_among, among_tagged}
-use Rattle.strat_state.specs.Level.{is_distinct}
+use Rattle.def_recovery.specs.Opening.{has_own_versions}
+use Rattle.def_state.proofs.LevelLemmas.{tagged_among, among_tagged}
+use Rattle.def_state.specs.Level.{is_distinct}
 use Rattle.strat_memory.proofs.OwnLemmas.{counted, counted_cons, counted_among, among_counted, once_counted}
 
 pub rising_parts : (x : ℕ) (xs : List ℕ) → is_rising (x ∷ xs) ≡ true → ((y : ℕ) → Among y xs → x < y) × (is_rising xs ≡ true)

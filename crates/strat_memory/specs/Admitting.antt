@@ -2,17 +2,17 @@
 use Rattle.std.specs.Prelude.{◌≤◌, nat_le, Bool, List, [], ◌∷◌, map, sum_by, Contains, IsTrue}
 use Rattle.std.specs.List.{list_all}
 use Rattle.strat_base.specs.declared.descriptors.LevelDesc.{LevelDesc}
-use Rattle.strat_format.specs.Arrays.{blocks_of}
-use Rattle.strat_format.specs.Chained.{Chained}
-use Rattle.strat_format.specs.Manifest.{Manifest, is_lawful_manifest, is_rising, versions_in, all_pass}
-use Rattle.strat_format.specs.SuperBlock.{Super}
+use Rattle.def_bytes.specs.Arrays.{blocks_of}
+use Rattle.def_bytes.specs.Chained.{Chained}
+use Rattle.def_bytes.specs.Manifest.{Manifest, is_lawful_manifest, is_rising, versions_in, all_pass}
+use Rattle.def_bytes.specs.SuperBlock.{Super}
 use Rattle.strat_level.specs.Levels.{desc_leads}
 use Rattle.strat_manifest.specs.ManifestView.{manifest_of}
-use Rattle.strat_recovery.specs.Head.{descriptors}
-use Rattle.strat_recovery.specs.Opening.{belongs, is_filled, has_few_publications}
+use Rattle.def_recovery.specs.Head.{descriptors}
+use Rattle.def_recovery.specs.Opening.{belongs, is_filled, has_few_publications}
 use Rattle.strat_memory.specs.Held.{ArePlaced}
 use Rattle.strat_memory.specs.declared.admitting.Published.{Published}
-use Rattle.strat_format.specs.Layout.{newest_format}
+use Rattle.def_bytes.specs.Layout.{newest_format}
 
 -- a level may come into memory: it has a place among 22, a horizon, tags that rise, and leads that can be counted
 pub record FitsInMemory (level : LevelDesc) : Type 0 where

@@ -5,27 +5,27 @@ use Rattle.strat_array.specs.Kept.{Blocks}
 use Rattle.strat_base.specs.Change.{is_lawful}
 use Rattle.strat_base.specs.declared.descriptors.ArrayDesc.{ArrayDesc}
 use Rattle.strat_base.specs.declared.descriptors.LevelDesc.{LevelDesc}
-use Rattle.strat_crash.specs.Image.{Image}
-use Rattle.strat_crash.specs.Moments.{DiskView, Exposes, Images}
+use Rattle.def_crash.specs.Image.{Image}
+use Rattle.def_crash.specs.Moments.{DiskView, Exposes, Images}
 use Rattle.strat_extent.specs.Blocks.{times_in, total_len}
-use Rattle.strat_format.specs.Arrays.{blocks_of}
-use Rattle.strat_format.specs.Chained.{Chained, manifest_at}
-use Rattle.strat_format.specs.Layout.{first_free, newest_format}
-use Rattle.strat_format.specs.Manifest.{is_lawful_manifest}
-use Rattle.strat_format.specs.SuperBlock.{Super, IsLawful, newest_in}
+use Rattle.def_bytes.specs.Arrays.{blocks_of}
+use Rattle.def_bytes.specs.Chained.{Chained, manifest_at}
+use Rattle.def_bytes.specs.Layout.{first_free, newest_format}
+use Rattle.def_bytes.specs.Manifest.{is_lawful_manifest}
+use Rattle.def_bytes.specs.SuperBlock.{Super, IsLawful, newest_in}
 use Rattle.strat_journal.specs.Log.{Log}
 use Rattle.strat_level.specs.Levels.{level_numbered}
 use Rattle.strat_model.specs.Run.{Position}
 use Rattle.strat_model.specs.Table.{Cursor, Table}
-use Rattle.strat_recovery.specs.Head.{Head, descriptors}
-use Rattle.strat_recovery.specs.Opened.{parents_in}
-use Rattle.strat_recovery.specs.Opening.{belongs}
-use Rattle.strat_recovery.specs.StateTable.{table_of}
-use Rattle.strat_standing.specs.Contents.{Contents, contents_state}
-use Rattle.strat_standing.specs.Occupied.{extents_of}
-use Rattle.strat_standing.specs.Standing.{ContentsStand}
-use Rattle.strat_state.specs.Level.{Level}
-use Rattle.strat_state.specs.Sound.{are_accepted}
+use Rattle.def_recovery.specs.Head.{Head, descriptors}
+use Rattle.def_recovery.specs.Opened.{parents_in}
+use Rattle.def_recovery.specs.Opening.{belongs}
+use Rattle.def_meaning.specs.StateTable.{table_of}
+use Rattle.def_publish.specs.Contents.{Contents, contents_state}
+use Rattle.def_publish.specs.Occupied.{extents_of}
+use Rattle.def_publish.specs.Standing.{ContentsStand}
+use Rattle.def_state.specs.Level.{Level}
+use Rattle.def_state.specs.Sound.{are_accepted}
 use Rattle.strat_cursor.specs.Cursors.{MayGoOn, are_named, arrays_named}
 use Rattle.strat_cursor.specs.Held.{HeldCursor, AreRowsOf}
 use Rattle.strat_cursor.specs.Looking.{AreCachedFrom, HaveOwnIds, levels_there, arrays_there}

@@ -6,17 +6,17 @@ use Rattle.strat_base.specs.Tree.{Parents, is_known, parent_of, depth, has_child
 use Rattle.strat_base.specs.declared.descriptors.LevelDesc.{LevelDesc}
 use Rattle.strat_base.specs.declared.descriptors.ArrayDesc.{ArrayDesc}
 use Rattle.strat_cursor.specs.Cursors.{retired_all}
-use Rattle.strat_crash.specs.Image.{Image}
+use Rattle.def_crash.specs.Image.{Image}
 use Rattle.strat_cursor.specs.Held.{AreRowsOf, HeldCursor, HeldCursors, no_cursors}
 use Rattle.strat_model.specs.Table.{Cursor, Table}
 use Rattle.strat_model.specs.declared.replies.Refusal.{Refusal}
 use Rattle.strat_model.specs.declared.replies.Refusal.TheVariants as why
 use Rattle.strat_model.specs.declared.replies.Reply.{Reply}
 use Rattle.strat_model.specs.declared.replies.Reply.TheVariants as reply
-use Rattle.strat_recovery.specs.Head.{Head, head_versions, head_updates, head_changes, head_marks}
-use Rattle.strat_state.specs.Setting.{set_entry, set_all}
-use Rattle.strat_recovery.specs.StateTable.{table_of}
-use Rattle.strat_state.specs.State.{State, update_of}
+use Rattle.def_recovery.specs.Head.{Head, head_versions, head_updates, head_changes, head_marks}
+use Rattle.def_state.specs.Setting.{set_entry, set_all}
+use Rattle.def_meaning.specs.StateTable.{table_of}
+use Rattle.def_state.specs.State.{State, update_of}
 use Rattle.strat_cursor.specs.Looking.{arrays_asked}
 use Rattle.strat_base.specs.Marks.{none_dropped}
 

@@ -7,7 +7,7 @@ use Rattle.strat_cursor.specs.Cursors.{OpenCursor}
 use Rattle.strat_cursor.specs.Held.{cursors_held}
 use Rattle.strat_cursor.specs.Pins.{ArePinned, shares_of}
 use Rattle.strat_level.specs.Memtable.{Memtable, entries_held, MemtableStands}
-use Rattle.strat_recovery.specs.TableOver.{are_known}
+use Rattle.def_meaning.specs.TableOver.{are_known}
 use Rattle.strat_memory.specs.Memory.{Memory}
 use Rattle.strat_memory.specs.declared.memory.Memory.TheInside.{Inside}
 use Rattle.strat_base.specs.Marks.{none_dropped}

@@ -1,9 +1,9 @@
 -- What a store pays for its arrays: how many entries it stored and wrote.
 use Rattle.std.specs.Prelude.{◌≡◌, ◌≤◌, ℕ, ◌*◌, Some}
-use Rattle.strat_crash.specs.Image.{Image}
-use Rattle.strat_crash.specs.Moments.{DiskView, Since}
-use Rattle.strat_recovery.specs.Opening.{reads_as}
-use Rattle.strat_state.specs.State.{State, IsPaid, stored, updates_of}
+use Rattle.def_crash.specs.Image.{Image}
+use Rattle.def_crash.specs.Moments.{DiskView, Since}
+use Rattle.def_recovery.specs.Opening.{reads_as}
+use Rattle.def_state.specs.State.{State, IsPaid, stored, updates_of}
 
 -- the state that an image reads as, if it reads as one, is paid for
 abbrev pub IsPaidIn : Image → Type 0

@@ -2,7 +2,7 @@
 use Rattle.std.specs.Prelude.{ℕ, false, []}
 use Rattle.strat_array.specs.Kept.{Blocks}
 use Rattle.strat_gate.specs.SuperView.{super_of}
-use Rattle.strat_recovery.specs.Head.{Head}
+use Rattle.def_recovery.specs.Head.{Head}
 use Rattle.strat_memory.specs.Held.{Held}
 use Rattle.strat_memory.specs.declared.open_store.OpenStore.{OpenStore}
 use Rattle.strat_memory.specs.Admitting.{chained_of}

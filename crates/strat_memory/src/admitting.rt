@@ -2,18 +2,18 @@
 
 ghost use Rattle.std.specs.List.{list_all};
 ghost use Rattle.std.specs.Prelude.{◌≡◌, ◌≤◌, IfOk, IfSome, IfNone, IsTrue, false, nat_lt};
-ghost use Rattle.strat_format.specs.Arrays.{blocks_of};
-ghost use Rattle.strat_format.specs.Layout as places;
-ghost use Rattle.strat_format.specs.Manifest.{is_lawful_manifest};
+ghost use Rattle.def_bytes.specs.Arrays.{blocks_of};
+ghost use Rattle.def_bytes.specs.Layout as places;
+ghost use Rattle.def_bytes.specs.Manifest.{is_lawful_manifest};
 ghost use Rattle.strat_gate.specs.SuperView.{super_of};
 ghost use Rattle.strat_manifest.specs.ManifestView.{manifest_of};
-ghost use Rattle.strat_recovery.specs.Opening.{belongs};
-ghost use Rattle.strat_standing.specs.Contents.{Contents, named_blocks};
+ghost use Rattle.def_recovery.specs.Opening.{belongs};
+ghost use Rattle.def_publish.specs.Contents.{Contents, named_blocks};
 ghost use Rattle.strat_memory.specs.Belonging.{UsesJust};
-ghost use Rattle.strat_recovery.specs.Opening.{has_own_versions};
+ghost use Rattle.def_recovery.specs.Opening.{has_own_versions};
 ghost use Rattle.strat_memory.specs.Held.{ArePlaced};
 ghost use Rattle.strat_memory.specs.Admitting.{FitsInMemory, MayBePlaced, counts_belong, chained_of, IsAdmitted};
-ghost use Rattle.strat_format.specs.Layout.{newest_format};
+ghost use Rattle.def_bytes.specs.Layout.{newest_format};
 
 use crate::belonging::{
     all_filled, has_few_leads, has_few_publications, has_low_tags, ids_are_distinct,
@@ -79,7 +79,7 @@ fn place_levels(alloc: Global, listed: LevelList) -> Result<Option<Levels>, NoMe
 
 /// Whether a store with this superblock may have a manifest of such counts and such arrays, each taken alone. O(extents of
 /// all arrays).
-#[tactic(auto, unfolding(strat_format::specs::Manifest::all_pass))]
+#[tactic(auto, unfolding(def_bytes::specs::Manifest::all_pass))]
 fn counts_are_plausible(sb: &SuperBlock, manifest: &Manifest) -> bool
     ensures ok { result ≡ counts_belong (super_of sb.now) (manifest_of manifest.now) }
 {

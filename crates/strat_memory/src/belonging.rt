@@ -5,21 +5,21 @@ ghost use Rattle.std.specs.List.{flat_map, list_all, sum_by};
 ghost use Rattle.std.specs.Ordering.{nat_cmp};
 ghost use Rattle.std.specs.Prelude.{◌≡◌, ℕ, List, map, ◌≤◌, ◌+◌, ◌-◌, ◌*◌, ◌^◌, ◌&&◌, ◌++◌, [], nat_le, nat_lt, min, false, MatchBool, IfOk, IfSome, IfNone, IsTrue};
 ghost use Rattle.strat_extent.specs.Change.{CanMark};
-ghost use Rattle.strat_format.specs.Arrays.{blocks_of};
-ghost use Rattle.strat_format.specs.Layout as places;
-ghost use Rattle.strat_format.specs.Manifest.{Manifest, is_lawful_extent};
-ghost use Rattle.strat_format.specs.SuperBlock.{Super};
-ghost use Rattle.strat_recovery.specs.Opening.{has_own_blocks, is_filled};
-ghost use Rattle.strat_standing.specs.Contents.{Contents, named_blocks};
-ghost use Rattle.strat_standing.specs.Occupied.{IsSpaceOf, UsesMore, arrays_in, extents_of};
-ghost use Rattle.strat_state.specs.Level.{is_distinct};
+ghost use Rattle.def_bytes.specs.Arrays.{blocks_of};
+ghost use Rattle.def_bytes.specs.Layout as places;
+ghost use Rattle.def_bytes.specs.Manifest.{Manifest, is_lawful_extent};
+ghost use Rattle.def_bytes.specs.SuperBlock.{Super};
+ghost use Rattle.def_recovery.specs.Opening.{has_own_blocks, is_filled};
+ghost use Rattle.def_publish.specs.Contents.{Contents, named_blocks};
+ghost use Rattle.def_publish.specs.Occupied.{IsSpaceOf, UsesMore, arrays_in, extents_of};
+ghost use Rattle.def_state.specs.Level.{is_distinct};
 ghost use Rattle.strat_memory.specs.Belonging.{UsesJust, are_new};
 
+use def_bytes::first_free;
 use std::alloc::Global;
 use std::collections::BTreeSet;
 use strat_base::{ArrayDesc, Extent, Extents, LevelDesc, NoMemory, Version};
 use strat_extent::Space;
-use strat_format::first_free;
 
 /// The leads of arrays, or 2^64 - 1 where there are more.
 fn leads_of_arrays(arrays: &[ArrayDesc]) -> u64

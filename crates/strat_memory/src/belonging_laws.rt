@@ -3,9 +3,9 @@
 ghost use Rattle.std.specs.List.{flat_map, list_all};
 ghost use Rattle.std.specs.Prelude.{◌≡◌, ◌<◌, ℕ, false, true, nat_lt, IsTrue};
 ghost use Rattle.strat_base.specs.declared.descriptors.LevelDesc.{LevelDesc};
-ghost use Rattle.strat_format.specs.Manifest.{is_rising};
+ghost use Rattle.def_bytes.specs.Manifest.{is_rising};
 ghost use Rattle.strat_level.specs.Levels.{HaveDisjointTags, arrays_for};
-ghost use Rattle.strat_recovery.specs.Opening.{has_own_versions};
+ghost use Rattle.def_recovery.specs.Opening.{has_own_versions};
 
 /// A level whose tags are disjoint and below its horizon has versions of its own, where each tag rises, as a spelling
 /// has it. A level where two arrays are for one version has not.

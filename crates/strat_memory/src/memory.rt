@@ -10,20 +10,20 @@ ghost use Rattle.strat_base.specs.EntryView.{val_of};
 ghost use Rattle.strat_base.specs.Tree.{is_known, with_child, IsTree};
 ghost use Rattle.strat_base.specs.declared.limits.TheConstants.{PAIRS_MAX, VERSIONS_MAX};
 ghost use Rattle.strat_base.specs.declared.limits.TheConstants.{CURSORS_MAX as the_most};
-ghost use Rattle.strat_crash.specs.Faults.{HasCause};
-ghost use Rattle.strat_crash.specs.Image.{Image};
-ghost use Rattle.strat_crash.specs.Moments.{Exposes};
+ghost use Rattle.def_crash.specs.Faults.{HasCause};
+ghost use Rattle.def_crash.specs.Image.{Image};
+ghost use Rattle.def_crash.specs.Moments.{Exposes};
 ghost use Rattle.strat_cursor.specs.Cursors.{MayGoOn, TellsNext, arrays_named, arrays_of_number, closed_at, is_opened, moved_at, retired_by};
 ghost use Rattle.strat_cursor.specs.Held.{HeldCursor, IsMapHeld};
 ghost use Rattle.strat_cursor.specs.Looking.{LooksThrough, MayBeFound, NamesNoBlock, ReadsArrays, arrays_there};
 ghost use Rattle.strat_cursor.specs.Ranges.{FillsPage};
 ghost use Rattle.strat_cursor.specs.declared.cursors.CursorFault.TheVariants as start_fault;
 ghost use Rattle.strat_cursor.specs.declared.cursors.NextFault.TheVariants as next_fault;
-ghost use Rattle.strat_format.specs.Manifest.{are_older};
+ghost use Rattle.def_bytes.specs.Manifest.{are_older};
 ghost use Rattle.strat_level.specs.Memtable.{entries_held, ListStands};
 ghost use Rattle.strat_model.specs.Pairs.{Pairs};
-ghost use Rattle.strat_recovery.specs.TableOver.{are_known};
-ghost use Rattle.strat_state.specs.Reading.{live_of};
+ghost use Rattle.def_meaning.specs.TableOver.{are_known};
+ghost use Rattle.def_state.specs.Reading.{live_of};
 ghost use Rattle.strat_memory.specs.Memory.{refusal_of_update, refusal_of_clone, refusal_of_change, with_update, memory_after, HasRoomFor, reply_to, info_told, stat_told, emptied, fresh_memory, KeepsRows, cursor_from, with_cursor};
 ghost use Rattle.strat_base.specs.Marks.{is_dropped};
 
@@ -411,7 +411,7 @@ impl Memory {
             → Exposes (D.view disk.old) f → MayGoOn f next c cache.old
             → IsMapHeld f self.old.parents c m → TellsNext m c limit out.new more) }
         ensures len { IfOk result (λ more. FillsPage limit (length out.new) more) }
-        ensures end { IfOk result (λ more. self.new ≡ record self.old {
+        ensures state { IfOk result (λ more. self.new ≡ record self.old {
           cursors = record self.old.cursors {
             opened = moved_at number more out.new self.old.cursors.opened;
           };
@@ -437,7 +437,7 @@ impl Memory {
     /// kept no longer. O(retired arrays * arrays of all cursors).
     pub fn close_cursor(&mut self, number: u64) -> bool
         ensures ok { result ≡ is_opened number self.old.cursors.opened }
-        ensures end { self.new ≡ record self.old { cursors = closed_at number self.old.cursors } }
+        ensures state { self.new ≡ record self.old { cursors = closed_at number self.old.cursors } }
         ensures none { result ≡ false → self.new ≡ self.old }
     {
         self.cursors.close(&mut self.pool, number)

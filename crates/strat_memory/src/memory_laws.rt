@@ -4,20 +4,20 @@
 ghost use Rattle.std.specs.Prelude.{◌≡◌, ◌<◌, ◌≤◌, ℕ, List, [], ◌∷◌, ◌++◌, length, Some, None, IsTrue, false, is_some, not};
 ghost use Rattle.strat_base.specs.Change.{Change};
 ghost use Rattle.strat_base.specs.Tree.{is_known};
-ghost use Rattle.strat_crash.specs.Image.{Image};
+ghost use Rattle.def_crash.specs.Image.{Image};
 ghost use Rattle.strat_model.specs.Answer.{plain};
 ghost use Rattle.strat_model.specs.Request.{Get, Info, Stat};
 ghost use Rattle.strat_model.specs.Step.{step, refuses};
 ghost use Rattle.strat_model.specs.Table.{Cursor};
 ghost use Rattle.strat_model.specs.declared.replies.Refusal.{Refusal};
 ghost use Rattle.strat_model.specs.declared.replies.Refusal.TheVariants as why;
-ghost use Rattle.strat_recovery.specs.Head.{Head, head_versions, head_updates, head_changes, head_marks};
-ghost use Rattle.strat_recovery.specs.Opened.{parents_in};
-ghost use Rattle.strat_recovery.specs.Opening.{state_of};
-ghost use Rattle.strat_recovery.specs.StateTable.{request_for};
-ghost use Rattle.strat_state.specs.Reading.{live_of, level_zero};
-ghost use Rattle.strat_state.specs.Sound.{is_accepted, accepts_change, IsSound};
-ghost use Rattle.strat_state.specs.State.{State};
+ghost use Rattle.def_recovery.specs.Head.{Head, head_versions, head_updates, head_changes, head_marks};
+ghost use Rattle.def_recovery.specs.Opened.{parents_in};
+ghost use Rattle.def_recovery.specs.Opening.{state_of};
+ghost use Rattle.def_meaning.specs.StateTable.{request_for};
+ghost use Rattle.def_state.specs.Reading.{live_of, level_zero};
+ghost use Rattle.def_state.specs.Sound.{is_accepted, accepts_change, IsSound};
+ghost use Rattle.def_state.specs.State.{State};
 ghost use Rattle.strat_memory.specs.Memory.{Memory, refusal_of_change, memory_after, HasRoomFor, reply_to, info_told, stat_told, emptied, fresh_memory, table_with, IsMemoryOf};
 ghost use Rattle.strat_base.specs.Marks.{Marks, none_dropped};
 

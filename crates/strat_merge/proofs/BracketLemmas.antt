@@ -3,7 +3,7 @@ use Rattle.std.proofs.Common.{◌≡◌, ◌≢◌, ◌≤◌, ◌<◌, ℕ, zer
 use Rattle.std.proofs.lemmas.Bool.{cases_lt, true≢false}
 use Rattle.std.proofs.lemmas.Option.{slice_get_past}
 use Rattle.std.specs.Option.{option_and_then}
-use Rattle.strat_base.proofs.TreeLemmas.{option_cases}
+use Rattle.strat_base.proofs.ResultFacts.{option_cases}
 use Rattle.std.proofs.lemmas.List.{get_or-set_same, get_or-set_other}
 use Rattle.strat_base.specs.Entries.{Entry}
 use Rattle.strat_merge.specs.Runs.{RunView, head_at}

@@ -11,21 +11,21 @@ use Rattle.std.proofs.lemmas.Cmp.{nat_list_cmp_total, upto}
 use Rattle.std.proofs.lemmas.List.{map-set}
 use Rattle.std.proofs.lemmas.List.Folds.{list_all-append}
 use Rattle.std.proofs.lemmas.Option.{slice_get-map}
-use Rattle.strat_crash.specs.Image.{Image}
-use Rattle.strat_crash.specs.Faults.{one_more}
-use Rattle.strat_crash.specs.Moments.{DiskView, Exposes}
+use Rattle.def_crash.specs.Image.{Image}
+use Rattle.def_crash.specs.Faults.{one_more}
+use Rattle.def_crash.specs.Moments.{DiskView, Exposes}
 use Rattle.strat_base.specs.Order.{key_cmp}
 use Rattle.strat_base.specs.Entries.{Entry, is_of, is_at, is_ascending}
 use Rattle.strat_base.specs.EntryBytes.{fits_fields}
 use Rattle.strat_base.proofs.ListFacts.{Among, all_at, all_from, find_some, find_none, get_among, among_flat}
 use Rattle.strat_base.proofs.EntryLemmas.{same_bytes, is_of_key, is_at_key, is_at_version, at_key_version}
-use Rattle.strat_base.proofs.TreeLemmas.{option_cases}
-use Rattle.strat_state.proofs.MapLemmas.{same_key}
-use Rattle.strat_state.proofs.SettingLemmas.{order_tied}
-use Rattle.strat_state.proofs.ReadingLemmas.{find-append, or_none}
-use Rattle.strat_plan.specs.Groups.{grouped_entries}
-use Rattle.strat_plan.proofs.ListLemmas.{filter_every, map_among, some_length}
-use Rattle.strat_promotion.specs.Merging.{rest_of}
+use Rattle.strat_base.proofs.ResultFacts.{option_cases}
+use Rattle.def_state.proofs.MapLemmas.{same_key}
+use Rattle.def_state.proofs.SettingLemmas.{order_tied}
+use Rattle.def_state.proofs.ReadingLemmas.{find-append, or_none}
+use Rattle.def_split.specs.Groups.{grouped_entries}
+use Rattle.def_split.proofs.ListLemmas.{filter_every, map_among, some_length}
+use Rattle.def_promote.specs.Merging.{rest_of}
 use Rattle.strat_merge.specs.Runs.{RunView, IsEntryRun, head_at, lefts}
 use Rattle.strat_merge.specs.Bracket.{is_ahead}
 use Rattle.strat_merge.specs.Gathered.{are_under, TakesNext, CountsTaken, last_entry, with_next, Leads, LeadsAside, PassesOne, AreGathered, Gathers}

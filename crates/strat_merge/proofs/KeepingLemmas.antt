@@ -18,9 +18,9 @@ use Rattle.strat_base.proofs.ListFacts.{Among, all_at, all_from, map_same, among
 use Rattle.strat_base.proofs.EntryLemmas.{is_of_key, same_bytes}
 use Rattle.strat_base.proofs.TreeLemmas.{path_le, ancestor_among, parent_older}
 use Rattle.strat_base.specs.Order.{entry_cmp}
-use Rattle.strat_state.proofs.GroupLemmas.{deciding_group}
-use Rattle.strat_plan.proofs.ListLemmas.{filter_every, map_among, among_map}
-use Rattle.strat_promotion.specs.Purge.{is_valued, is_needed, purged}
+use Rattle.def_state.proofs.GroupLemmas.{deciding_group}
+use Rattle.def_split.proofs.ListLemmas.{filter_every, map_among, among_map}
+use Rattle.def_promote.specs.Purge.{is_valued, is_needed, purged}
 use Rattle.strat_live.specs.Group.{is_descending, is_live_item}
 use Rattle.strat_live.specs.Counting.{are_below}
 use Rattle.strat_live.proofs.GroupLemmas.{live_first}

@@ -12,7 +12,7 @@ use Rattle.strat_base.specs.Order.{key_cmp, entry_cmp}
 use Rattle.strat_base.specs.Entries.{Entry, is_at, is_ascending}
 use Rattle.strat_base.proofs.ListFacts.{Among, all_at, find_some, get_among}
 use Rattle.strat_base.proofs.EntryLemmas.{is_at_key, is_at_version}
-use Rattle.strat_base.proofs.TreeLemmas.{option_cases}
+use Rattle.strat_base.proofs.ResultFacts.{option_cases}
 use Rattle.strat_merge.specs.Bracket.{is_ahead}
 
 -- entries by key, and then the greater version first

@@ -8,10 +8,10 @@ use Rattle.strat_base.specs.Order.{entry_cmp}
 use Rattle.std.proofs.lemmas.Bool.{cases_lt}
 use Rattle.std.proofs.lemmas.Nat.{mul-le}
 use Rattle.std.proofs.lemmas.List.{length-map}
-use Rattle.strat_crash.specs.Faults.{HasCause, one_more}
-use Rattle.strat_crash.specs.Image.{Image}
-use Rattle.strat_crash.specs.Moments.{DiskView, Exposes, OnlyReads}
-use Rattle.strat_crash.proofs.MomentLemmas.{reads_refl, reads_trans}
+use Rattle.def_crash.specs.Faults.{HasCause, one_more}
+use Rattle.def_crash.specs.Image.{Image}
+use Rattle.def_crash.specs.Moments.{DiskView, Exposes, OnlyReads}
+use Rattle.def_crash.proofs.MomentLemmas.{reads_refl, reads_trans}
 use Rattle.strat_arena.specs.ArenaView.{KeyValue}
 use Rattle.strat_arena.specs.declared.items.Item.{Item}
 use Rattle.strat_base.specs.declared.failures.Trouble.{Trouble}
@@ -20,8 +20,8 @@ use Rattle.strat_base.specs.Entries.{Entry, is_of}
 use Rattle.strat_base.specs.EntryBytes.{fits_fields}
 use Rattle.strat_base.proofs.ListFacts.{Among, all_at, get_among}
 use Rattle.strat_base.proofs.EntryLemmas.{is_of_key}
-use Rattle.strat_base.proofs.TreeLemmas.{option_cases}
-use Rattle.strat_plan.proofs.ListLemmas.{map_among}
+use Rattle.strat_base.proofs.ResultFacts.{option_cases}
+use Rattle.def_split.proofs.ListLemmas.{map_among}
 use Rattle.strat_merge.specs.Runs.{RunView, IsEntryRun, head_at, lefts, blocks_left, IsBadFor}
 use Rattle.strat_merge.specs.Bracket.{is_ahead, IsTournament}
 use Rattle.strat_merge.specs.Reading.{ReadsRuns}

@@ -8,11 +8,11 @@ use Rattle.strat_base.specs.Entries.{Entry, is_of, is_at, is_ascending}
 use Rattle.strat_base.specs.EntryBytes.{fits_fields}
 use Rattle.strat_arena.specs.ArenaView.{KeyValue}
 use Rattle.strat_arena.specs.declared.items.Item.{Item}
-use Rattle.strat_crash.specs.Moments.{DiskView}
+use Rattle.def_crash.specs.Moments.{DiskView}
 use Rattle.strat_live.specs.Group.{is_descending}
 use Rattle.strat_live.specs.Counting.{are_below}
-use Rattle.strat_plan.specs.Groups.{grouped_entries}
-use Rattle.strat_promotion.specs.Merging.{IsNext, rest_of}
+use Rattle.def_split.specs.Groups.{grouped_entries}
+use Rattle.def_promote.specs.Merging.{IsNext, rest_of}
 use Rattle.strat_merge.specs.Runs.{RunView, head_at, Advances}
 use Rattle.strat_merge.specs.Bracket.{is_ahead}
 use Rattle.strat_arena.specs.Items.{entries_of, have_pairs}

@@ -1,9 +1,9 @@
 -- What a merge does to the disk, and which of its errors name a block.
 use Rattle.std.specs.Prelude.{ℕ, List, map, Result, IsErrOf}
 use Rattle.std.specs.List.{Contains}
-use Rattle.strat_crash.specs.Faults.{HasCause}
-use Rattle.strat_crash.specs.Image.{Image}
-use Rattle.strat_crash.specs.Moments.{DiskView, Exposes, OnlyReads}
+use Rattle.def_crash.specs.Faults.{HasCause}
+use Rattle.def_crash.specs.Image.{Image}
+use Rattle.def_crash.specs.Moments.{DiskView, Exposes, OnlyReads}
 use Rattle.strat_merge.specs.Runs.{RunView, blocks_left, ReadsLeft, IsBadFor}
 
 -- runs were read: the device's error has its cause, another names a block that was still to be read and is bad for one

@@ -10,7 +10,7 @@ ghost use Rattle.strat_live.specs.Counting.{are_below};
 ghost use Rattle.strat_live.specs.Group.{is_descending};
 ghost use Rattle.strat_arena.specs.Items.{entries_of};
 ghost use Rattle.strat_merge.specs.Keeping.{is_put_at, is_kept, kept_items};
-ghost use Rattle.strat_promotion.specs.Purge.{purged};
+ghost use Rattle.def_promote.specs.Purge.{purged};
 
 use crate::group::GroupBuf;
 use strat_arena::Item;

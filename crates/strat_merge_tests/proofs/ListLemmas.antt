@@ -15,7 +15,7 @@ use Rattle.strat_base.specs.Entries.{Entry, is_ascending}
 use Rattle.strat_base.specs.EntryBytes.{fits_fields}
 use Rattle.strat_base.specs.EntryView.{entry_of}
 use Rattle.strat_base.proofs.ListFacts.{Among}
-use Rattle.strat_crash.specs.Moments.{DiskView}
+use Rattle.def_crash.specs.Moments.{DiskView}
 use Rattle.strat_merge.specs.Runs.{Advances, ReadsFront}
 use Rattle.strat_merge.proofs.OrderLemmas.{all_before, ascending_more}
 use Rattle.strat_merge_tests.specs.ListRuns.{is_entry_list, IsBehind, list_view, ascending_left}

@@ -5,9 +5,9 @@ ghost use Rattle.std.specs.List.{Contains};
 ghost use Rattle.strat_base.specs.EntryBytes.{fits_fields};
 ghost use Rattle.strat_base.specs.EntryView.{entry_of};
 ghost use Rattle.strat_base.specs.declared.failures.Fault.TheVariants.{Damaged, Device};
-ghost use Rattle.strat_crash.specs.Faults.{HasCause, CountsFaults, ReadsAtMost};
-ghost use Rattle.strat_crash.specs.Image.{Image};
-ghost use Rattle.strat_crash.specs.Moments.{Exposes, OnlyReads};
+ghost use Rattle.def_crash.specs.Faults.{HasCause, CountsFaults, ReadsAtMost};
+ghost use Rattle.def_crash.specs.Image.{Image};
+ghost use Rattle.def_crash.specs.Moments.{Exposes, OnlyReads};
 ghost use Rattle.strat_merge.specs.Runs.{Advances, ReadsFront};
 ghost use Rattle.strat_merge_tests.specs.ListRuns.{is_entry_list, IsBehind, list_view, list_law};
 

@@ -2,21 +2,21 @@
 use Rattle.std.proofs.Common.{◌≡◌, ◌≢◌, ◌<◌, ℕ, ◌+◌, ◌*◌, inl, inr, [], length, Some, None, Ok, Option, IfSome, refl, sym, ap, subst, ◌∙◌, arith}
 use Rattle.std.proofs.lemmas.Bool.{le-leb}
 use Rattle.std.proofs.lemmas.List.{length-replicate}
-use Rattle.strat_format.specs.Chain.{link_bytes}
-use Rattle.strat_crash.specs.Image.{Image, Outside, SameIn, patch, window}
-use Rattle.strat_format.specs.Layout.{region_at, first_free}
-use Rattle.strat_format.specs.Manifest.{manifest_bytes}
-use Rattle.strat_crash.specs.Moments.{DiskView, Images, Since, Passes, TearsOnly, IsDurable}
+use Rattle.def_bytes.specs.Chain.{link_bytes}
+use Rattle.def_crash.specs.Image.{Image, Outside, SameIn, patch, window}
+use Rattle.def_bytes.specs.Layout.{region_at, first_free}
+use Rattle.def_bytes.specs.Manifest.{manifest_bytes}
+use Rattle.def_crash.specs.Moments.{DiskView, Images, Since, Passes, TearsOnly, IsDurable}
 use Rattle.strat_base.specs.Numbers.{be}
-use Rattle.strat_format.specs.SuperBlock.{Super, slot_in, newer, verdict, chosen_in, newest_in}
-use Rattle.strat_crash.proofs.ImageLemmas.{over_below, outside_same_above, window_same, window_patch}
-use Rattle.strat_crash.proofs.MomentLemmas.{now_since_start, at_told, settled_at}
-use Rattle.strat_format.proofs.SuperBlockLemmas.{slot_closed}
+use Rattle.def_bytes.specs.SuperBlock.{Super, slot_in, newer, verdict, chosen_in, newest_in}
+use Rattle.def_crash.proofs.ImageLemmas.{over_below, outside_same_above, window_same, window_patch}
+use Rattle.def_crash.proofs.MomentLemmas.{now_since_start, at_told, settled_at}
+use Rattle.def_bytes.proofs.SuperBlockLemmas.{slot_closed}
 use Rattle.strat_gate.specs.Laying.{LaysOver, OldOrNew}
-use Rattle.strat_format.proofs.TwoRegionsLemmas.{journal_none}
-use Rattle.strat_format.specs.Records.{journal_in_two}
-use Rattle.strat_state.specs.Sound.{journal_max, IsSound}
-use Rattle.strat_state.specs.State.{deep, fresh_state, IsPaid}
+use Rattle.def_bytes.proofs.TwoRegionsLemmas.{journal_none}
+use Rattle.def_bytes.specs.Records.{journal_in_two}
+use Rattle.def_state.specs.Sound.{journal_max, IsSound}
+use Rattle.def_state.specs.State.{deep, fresh_state, IsPaid}
 use Rattle.strat_open.specs.Format.{new_block, IsNewDisk, IsShut, IsNewStore, IsNoneOrNew, super_for}
 use Rattle.strat_open.proofs.NewStoreLemmas.{head_found, state_found}
 use Rattle.strat_open.proofs.ShutLemmas.{StaysBlank}

@@ -1,12 +1,12 @@
 -- The block of a new store's manifest, spelled into zeros.
 use Rattle.std.proofs.Common.{◌≡◌, ℕ, zero, suc, ◌+◌, List, [], ◌∷◌, ◌++◌, replicate, refl, ap, ◌∙◌, arith}
-use Rattle.strat_format.specs.Chain.{link_bytes}
-use Rattle.strat_format.specs.Manifest.{manifest_bytes, new_manifest}
+use Rattle.def_bytes.specs.Chain.{link_bytes}
+use Rattle.def_bytes.specs.Manifest.{manifest_bytes, new_manifest}
 use Rattle.strat_base.specs.Numbers.{be, placed}
-use Rattle.strat_format.specs.SuperBlock.{spelled, zeros}
-use Rattle.strat_format.proofs.SuperBlockLemmas.{spelled_next}
+use Rattle.def_bytes.specs.SuperBlock.{spelled, zeros}
+use Rattle.def_bytes.proofs.SuperBlockLemmas.{spelled_next}
 use Rattle.strat_open.specs.Format.{new_block}
-use Rattle.strat_format.specs.Layout.{newest_format}
+use Rattle.def_bytes.specs.Layout.{newest_format}
 
 -- zeros are zeros in front of zeros
 zeros_joined : (k m : ℕ) → zeros (k + m) ≡ zeros k ++ zeros m

@@ -6,19 +6,19 @@ use Rattle.std.proofs.lemmas.List.{take_all, drop_all}
 use Rattle.strat_base.specs.declared.limits.TheConstants.{BLOCK}
 use Rattle.strat_base.specs.Change.{Change}
 use Rattle.strat_base.specs.Numbers.{be}
-use Rattle.strat_crash.specs.Image.{Image, window}
-use Rattle.strat_format.specs.Chain.{link_bytes, chain_length, HoldsChain, IsChain}
-use Rattle.strat_format.specs.Chained.{Chained, manifest_at}
-use Rattle.strat_format.specs.Damage.{Read, and_then, passed_or}
-use Rattle.strat_format.specs.Layout.{first_free, newest_format, shortest_manifest}
-use Rattle.strat_format.specs.Manifest.{Manifest, manifest_bytes, all_pass, SpellsManifest, new_manifest}
-use Rattle.strat_format.specs.Records.{Logged, journal_in_two}
-use Rattle.strat_format.specs.SuperBlock.{Super, in_range, chosen_in, verdict, newest_in}
-use Rattle.strat_format.proofs.ChainLemmas.{chain_read}
-use Rattle.strat_recovery.specs.Head.{Head}
-use Rattle.strat_recovery.specs.Opened.{parents_in}
-use Rattle.strat_recovery.specs.Opening.{belongs, recover_manifest, accepted_in, recover_journal, recover_slot, recover, opened, state_of, reads_as}
-use Rattle.strat_state.specs.State.{fresh_state}
+use Rattle.def_crash.specs.Image.{Image, window}
+use Rattle.def_bytes.specs.Chain.{link_bytes, chain_length, HoldsChain, IsChain}
+use Rattle.def_bytes.specs.Chained.{Chained, manifest_at}
+use Rattle.def_bytes.specs.Damage.{Read, and_then, passed_or}
+use Rattle.def_bytes.specs.Layout.{first_free, newest_format, shortest_manifest}
+use Rattle.def_bytes.specs.Manifest.{Manifest, manifest_bytes, all_pass, SpellsManifest, new_manifest}
+use Rattle.def_bytes.specs.Records.{Logged, journal_in_two}
+use Rattle.def_bytes.specs.SuperBlock.{Super, in_range, chosen_in, verdict, newest_in}
+use Rattle.def_bytes.proofs.ChainLemmas.{chain_read}
+use Rattle.def_recovery.specs.Head.{Head}
+use Rattle.def_recovery.specs.Opened.{parents_in}
+use Rattle.def_recovery.specs.Opening.{belongs, recover_manifest, accepted_in, recover_journal, recover_slot, recover, opened, state_of, reads_as}
+use Rattle.def_state.specs.State.{fresh_state}
 use Rattle.strat_open.specs.Format.{new_block}
 
 -- a superblock that is read in a slot

@@ -3,29 +3,29 @@ use Rattle.std.proofs.Common.{◌≡◌, ◌≢◌, ◌<◌, ◌≤◌, ◌⊎�
 use Rattle.std.specs.Prelude.{IsTrue, IfErr, IsErrOf, ◌↔◌}
 use Rattle.strat_base.specs.declared.descriptors.ArrayDesc.{ArrayDesc}
 use Rattle.strat_array.specs.Kept.{Blocks}
-use Rattle.strat_crash.specs.Faults.{HasCause, Rose}
-use Rattle.strat_crash.specs.Image.{Image, Outside}
-use Rattle.strat_crash.specs.Moments.{DiskView, Exposes, Images, Since, Passes, TearsOnly, IsDurable, KeepsImages, OnlyReads}
-use Rattle.strat_crash.specs.Trail.{Trail}
-use Rattle.strat_crash.proofs.MomentLemmas.{each_then, leaves_refl, leaves_tears, passes_trans, reads_trans, settled_at, since_now, at_told, reads_keep_durable}
-use Rattle.strat_crash.proofs.TrailLemmas.{trail_of_one}
+use Rattle.def_crash.specs.Faults.{HasCause, Rose}
+use Rattle.def_crash.specs.Image.{Image, Outside}
+use Rattle.def_crash.specs.Moments.{DiskView, Exposes, Images, Since, Passes, TearsOnly, IsDurable, KeepsImages, OnlyReads}
+use Rattle.def_crash.specs.Trail.{Trail}
+use Rattle.def_crash.proofs.MomentLemmas.{each_then, leaves_refl, leaves_tears, passes_trans, reads_trans, settled_at, since_now, at_told, reads_keep_durable}
+use Rattle.def_crash.proofs.TrailLemmas.{trail_of_one}
 use Rattle.strat_cursor.specs.Held.{no_cursors}
-use Rattle.strat_format.specs.Chained.{manifest_at}
-use Rattle.strat_format.specs.Layout.{region_at, other_region}
-use Rattle.strat_format.specs.SuperBlock.{Super}
+use Rattle.def_bytes.specs.Chained.{manifest_at}
+use Rattle.def_bytes.specs.Layout.{region_at, other_region}
+use Rattle.def_bytes.specs.SuperBlock.{Super}
 use Rattle.strat_gate.specs.SuperView.{super_of}
 use Rattle.strat_journal.specs.Log.{IsStale}
 use Rattle.strat_model.specs.Table.{Table}
-use Rattle.strat_recovery.specs.Head.{Head, descriptors}
-use Rattle.strat_recovery.specs.StateTable.{table_of}
-use Rattle.strat_standing.specs.Contents.{Contents, contents_head, contents_state}
-use Rattle.strat_standing.specs.Standing.{ReadsAs, ShowsTable, LeavesContent, ContentsStand}
-use Rattle.strat_standing.proofs.FreeLemmas.{shows_contents}
-use Rattle.strat_standing.proofs.GateLemmas.{gate_kept, gate_stands, opened_stands}
-use Rattle.strat_standing.proofs.ListLemmas.{contained_among}
-use Rattle.strat_standing.proofs.PartsLemmas.{reads_head, reads_state, StateParts, state_parts}
-use Rattle.strat_standing.proofs.PlaceLemmas.{one_super}
-use Rattle.strat_state.specs.Sound.{IsSound}
+use Rattle.def_recovery.specs.Head.{Head, descriptors}
+use Rattle.def_meaning.specs.StateTable.{table_of}
+use Rattle.def_publish.specs.Contents.{Contents, contents_head, contents_state}
+use Rattle.def_publish.specs.Standing.{ReadsAs, ShowsTable, LeavesContent, ContentsStand}
+use Rattle.def_publish.proofs.FreeLemmas.{shows_contents}
+use Rattle.def_publish.proofs.GateLemmas.{gate_kept, gate_stands, opened_stands}
+use Rattle.def_publish.proofs.ListLemmas.{contained_among}
+use Rattle.def_publish.proofs.PartsLemmas.{reads_head, reads_state, StateParts, state_parts}
+use Rattle.def_publish.proofs.PlaceLemmas.{one_super}
+use Rattle.def_state.specs.Sound.{IsSound}
 use Rattle.strat_open.specs.declared.attach_fault.AttachFault.{AttachFault}
 use Rattle.strat_open.specs.declared.attach_fault.AttachFault.TheVariants.{Device}
 use Rattle.strat_open.specs.Following.{ChangesGateAlone, FollowsFrom, IsOpenedAs, LeavesOpening}

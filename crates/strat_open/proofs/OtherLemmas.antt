@@ -1,8 +1,8 @@
 -- What formatting leaves alone.
 use Rattle.std.proofs.Common.{◌≤◌, ◌<◌, ℕ, ◌+◌, inl, inr, refl, ◌∙◌}
 use Rattle.std.proofs.lemmas.Bool.{cases_lt}
-use Rattle.strat_crash.specs.Moments.{DiskView, Passes, TearsOnly}
-use Rattle.strat_crash.proofs.MomentLemmas.{since_now, since_split, now_since_start}
+use Rattle.def_crash.specs.Moments.{DiskView, Passes, TearsOnly}
+use Rattle.def_crash.proofs.MomentLemmas.{since_now, since_split, now_since_start}
 use Rattle.strat_open.specs.Format.{IsFormatted, KeepsOthers}
 
 -- a call that tears only what formatting may write

@@ -8,29 +8,29 @@ use Rattle.strat_base.specs.declared.failures.Trouble.TheVariants.{NoMemory, Dev
 use Rattle.strat_open.specs.declared.attach_fault.AttachFault.{AttachFault}
 use Rattle.strat_open.specs.declared.attach_fault.AttachFault.TheVariants as fault
 use Rattle.strat_open.specs.Causes.{of_trouble}
-use Rattle.strat_crash.specs.Image.{Image}
-use Rattle.strat_format.specs.Chained.{Chained, manifest_at}
-use Rattle.strat_format.specs.Damage.{Read, and_then, passed_or, put_first}
-use Rattle.strat_format.specs.Manifest.{Manifest, are_older, versions_in}
-use Rattle.strat_format.proofs.DamageLemmas.{put_first_ok}
+use Rattle.def_crash.specs.Image.{Image}
+use Rattle.def_bytes.specs.Chained.{Chained, manifest_at}
+use Rattle.def_bytes.specs.Damage.{Read, and_then, passed_or, put_first}
+use Rattle.def_bytes.specs.Manifest.{Manifest, are_older, versions_in}
+use Rattle.def_bytes.proofs.DamageLemmas.{put_first_ok}
 use Rattle.strat_base.specs.Change.{Change}
 use Rattle.strat_base.specs.Tree.{Parents}
-use Rattle.strat_format.specs.Records.{Logged, journal_in_two}
-use Rattle.strat_recovery.specs.Head.{Head}
-use Rattle.strat_recovery.specs.Opened.{parents_in}
-use Rattle.strat_recovery.specs.Opening.{belongs, recover_manifest, accepted_in, recover_journal, recover_head, recover_slot, recover}
-use Rattle.strat_state.specs.Sound.{is_accepted, are_accepted}
-use Rattle.strat_state.specs.State.{tree_after, marks_after}
+use Rattle.def_bytes.specs.Records.{Logged, journal_in_two}
+use Rattle.def_recovery.specs.Head.{Head}
+use Rattle.def_recovery.specs.Opened.{parents_in}
+use Rattle.def_recovery.specs.Opening.{belongs, recover_manifest, accepted_in, recover_journal, recover_head, recover_slot, recover}
+use Rattle.def_state.specs.Sound.{is_accepted, are_accepted}
+use Rattle.def_state.specs.State.{tree_after, marks_after}
 use Rattle.strat_memory.specs.Memory.{Memory, memory_after, IsMemoryOf}
 use Rattle.strat_open.proofs.RedoLemmas.{accepted_by, any_marks, memory_follows_all}
-use Rattle.strat_format.specs.SuperBlock.{Super, newest_in}
-use Rattle.strat_format.proofs.ManifestLemmas.{pass_at}
-use Rattle.strat_recovery.proofs.OpeningLemmas.{manifest_tests}
-use Rattle.strat_recovery.proofs.PassedLemmas.{belonging_tests}
+use Rattle.def_bytes.specs.SuperBlock.{Super, newest_in}
+use Rattle.def_bytes.proofs.ManifestLemmas.{pass_at}
+use Rattle.def_recovery.proofs.OpeningLemmas.{manifest_tests}
+use Rattle.def_recovery.proofs.PassedLemmas.{belonging_tests}
 use Rattle.strat_memory.specs.Admitting.{chained_of, IsAdmitted}
 use Rattle.strat_memory.specs.declared.admitting.Published.{Published}
 use Rattle.strat_base.specs.Marks.{Marks}
-use Rattle.strat_format.specs.Layout.{newest_format}
+use Rattle.def_bytes.specs.Layout.{newest_format}
 use Rattle.strat_memory.proofs.AdmitLemmas.{manifest_low}
 
 -- what was admitted may be loaded

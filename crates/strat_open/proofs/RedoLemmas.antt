@@ -7,18 +7,18 @@ use Rattle.std.proofs.lemmas.List.{map_more, drop_more, take_all, drop_all}
 use Rattle.strat_base.proofs.ListFacts.{fold-push}
 use Rattle.strat_base.specs.Change.{Change, Put, Delete, Clone, DropVersion, is_lawful}
 use Rattle.strat_base.specs.Tree.{Parents}
-use Rattle.strat_format.specs.Damage.{Read, and_then, put_first}
-use Rattle.strat_format.specs.Manifest.{Manifest}
-use Rattle.strat_format.specs.Records.{Logged}
-use Rattle.strat_format.specs.SuperBlock.{Super}
+use Rattle.def_bytes.specs.Damage.{Read, and_then, put_first}
+use Rattle.def_bytes.specs.Manifest.{Manifest}
+use Rattle.def_bytes.specs.Records.{Logged}
+use Rattle.def_bytes.specs.SuperBlock.{Super}
 use Rattle.strat_model.specs.declared.replies.Refusal.{Refusal}
-use Rattle.strat_recovery.specs.Opening.{accepted_in}
-use Rattle.strat_state.specs.State.{tree_after, marks_after}
+use Rattle.def_recovery.specs.Opening.{accepted_in}
+use Rattle.def_state.specs.State.{tree_after, marks_after}
 use Rattle.strat_memory.specs.Memory.{Memory, refusal_of_change, memory_after, HasRoomFor, IsMemoryOf}
 use Rattle.strat_memory.proofs.MemoryLawLemmas.{accepted_same, memory_follows}
 use Rattle.strat_base.specs.Marks.{Marks, none_dropped}
-use Rattle.strat_state.specs.Sound.{is_accepted, are_accepted}
-use Rattle.strat_state.proofs.UndroppedLemmas.{there_made, open_made, none_after}
+use Rattle.def_state.specs.Sound.{is_accepted, are_accepted}
+use Rattle.def_state.proofs.UndroppedLemmas.{there_made, open_made, none_after}
 
 -- the changes of the first records
 abbrev pub changes_before : ℕ → List Logged → List Change

@@ -1,10 +1,10 @@
 -- What is shut when gates are closed one after the other, and what a crash leaves of the slots meanwhile.
 use Rattle.std.proofs.Common.{◌≡◌, ◌≢◌, ◌≤◌, ℕ, ◌-◌, inl, inr, [], ◌∷◌, get_or, Some, IfSome, sym, ap, ◌∙◌, arith}
-use Rattle.strat_crash.specs.Image.{Image, Outside, patch}
-use Rattle.strat_format.specs.Layout.{region_at}
-use Rattle.strat_crash.specs.Moments.{DiskView, Images, Since, Passes, TearsOnly, KeepsImages}
-use Rattle.strat_crash.proofs.ImageLemmas.{below, inside, above, lies, over_below, over_inside, over_above}
-use Rattle.strat_crash.proofs.MomentLemmas.{now_since_start, each_then, at_told}
+use Rattle.def_crash.specs.Image.{Image, Outside, patch}
+use Rattle.def_bytes.specs.Layout.{region_at}
+use Rattle.def_crash.specs.Moments.{DiskView, Images, Since, Passes, TearsOnly, KeepsImages}
+use Rattle.def_crash.proofs.ImageLemmas.{below, inside, above, lies, over_below, over_inside, over_above}
+use Rattle.def_crash.proofs.MomentLemmas.{now_since_start, each_then, at_told}
 use Rattle.strat_gate.specs.Gates.{EndsShut}
 use Rattle.strat_open.specs.Format.{IsBlank, IsShut}
 

@@ -1,17 +1,17 @@
 -- What a crash leaves of a disk on which a store was opened and carried out commands.
 use Rattle.std.specs.Prelude.{◌≡◌, ◌≤◌, ◌⊎◌, ℕ, List, [], ◌∷◌, Some, false, Ok}
-use Rattle.strat_crash.specs.Image.{Image, Outside}
-use Rattle.strat_crash.specs.Moments.{DiskView, Exposes, Images, Since, KeepsImages}
-use Rattle.strat_crash.specs.Trail.{At, Trail}
+use Rattle.def_crash.specs.Image.{Image, Outside}
+use Rattle.def_crash.specs.Moments.{DiskView, Exposes, Images, Since, KeepsImages}
+use Rattle.def_crash.specs.Trail.{At, Trail}
 use Rattle.strat_cursor.specs.Held.{no_cursors}
-use Rattle.strat_format.specs.Chained.{manifest_at}
-use Rattle.strat_format.specs.Layout.{region_at, other_region}
-use Rattle.strat_format.specs.SuperBlock.{Super, newest_in}
+use Rattle.def_bytes.specs.Chained.{manifest_at}
+use Rattle.def_bytes.specs.Layout.{region_at, other_region}
+use Rattle.def_bytes.specs.SuperBlock.{Super, newest_in}
 use Rattle.strat_model.specs.Table.{Table}
-use Rattle.strat_recovery.specs.Opening.{recover}
-use Rattle.strat_recovery.specs.StateTable.{table_of}
-use Rattle.strat_standing.specs.Contents.{Contents, contents_state}
-use Rattle.strat_standing.specs.Standing.{ShowsTable}
+use Rattle.def_recovery.specs.Opening.{recover}
+use Rattle.def_meaning.specs.StateTable.{table_of}
+use Rattle.def_publish.specs.Contents.{Contents, contents_state}
+use Rattle.def_publish.specs.Standing.{ShowsTable}
 use Rattle.strat_memory.specs.Held.{Held, head_held, IsOnDisk, StandsWith}
 use Rattle.strat_memory.specs.Paying.{IsPaidIn, ArePaidSince, StoreTwoSince}
 

@@ -1,16 +1,16 @@
 -- A disk that was just formatted.
 use Rattle.std.specs.Prelude.{◌≡◌, ◌≢◌, ◌⊎◌, ℕ, List, [], Some, None, Ok, ◌≤◌, ◌<◌, ◌+◌, ◌*◌}
-use Rattle.strat_crash.specs.Image.{Image}
-use Rattle.strat_format.specs.Layout.{region_at, first_free, open_flag, shortest_manifest, newest_format}
-use Rattle.strat_crash.specs.Moments.{DiskView, Exposes, Images, Since}
-use Rattle.strat_state.specs.State.{fresh_state}
-use Rattle.strat_format.specs.SuperBlock.{Super, newest_in}
+use Rattle.def_crash.specs.Image.{Image}
+use Rattle.def_bytes.specs.Layout.{region_at, first_free, open_flag, shortest_manifest, newest_format}
+use Rattle.def_crash.specs.Moments.{DiskView, Exposes, Images, Since}
+use Rattle.def_state.specs.State.{fresh_state}
+use Rattle.def_bytes.specs.SuperBlock.{Super, newest_in}
 use Rattle.strat_model.specs.Table.{fresh}
-use Rattle.strat_recovery.specs.Head.{Head}
-use Rattle.strat_recovery.specs.Opening.{recover, reads_as}
-use Rattle.strat_format.specs.Chain.{link_bytes}
-use Rattle.strat_format.specs.Manifest.{manifest_bytes, new_manifest}
-use Rattle.strat_standing.specs.Standing.{ShowsTable}
+use Rattle.def_recovery.specs.Head.{Head}
+use Rattle.def_recovery.specs.Opening.{recover, reads_as}
+use Rattle.def_bytes.specs.Chain.{link_bytes}
+use Rattle.def_bytes.specs.Manifest.{manifest_bytes, new_manifest}
+use Rattle.def_publish.specs.Standing.{ShowsTable}
 use Rattle.strat_memory.specs.Paying.{IsPaidIn}
 
 -- the superblock of a new store: the first generation, with the manifest in the first free block

@@ -1,5 +1,5 @@
 -- The fields of a store that was read and is not open.
-use Rattle.strat_recovery.specs.Head.{Head}
+use Rattle.def_recovery.specs.Head.{Head}
 use Rattle.strat_memory.specs.Held.{IsConsistent}
 use Rattle.strat_memory.specs.RecoveredFields.{head_recovered, held_of, empty_cache}
 use Rattle.strat_open.specs.declared.reading.Reading.TheInside.{Inside}

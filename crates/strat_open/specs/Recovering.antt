@@ -1,16 +1,16 @@
 -- What recovery finds in an image.
 use Rattle.std.specs.Prelude.{◌≡◌, Bool, length, Some, Ok, IsTrue, ◌↔◌}
-use Rattle.strat_crash.specs.Image.{Image}
-use Rattle.strat_format.specs.Chained.{manifest_at}
-use Rattle.strat_format.specs.SuperBlock.{newest_in}
+use Rattle.def_crash.specs.Image.{Image}
+use Rattle.def_bytes.specs.Chained.{manifest_at}
+use Rattle.def_bytes.specs.SuperBlock.{newest_in}
 use Rattle.strat_gate.specs.SuperView.{super_of}
 use Rattle.strat_journal.specs.Log.{IsStale}
-use Rattle.strat_recovery.specs.Opening.{recover}
-use Rattle.strat_standing.specs.Contents.{Contents, contents_state}
-use Rattle.strat_standing.specs.Standing.{ReadsAs}
-use Rattle.strat_state.specs.Sound.{IsSound}
+use Rattle.def_recovery.specs.Opening.{recover}
+use Rattle.def_publish.specs.Contents.{Contents, contents_state}
+use Rattle.def_publish.specs.Standing.{ReadsAs}
+use Rattle.def_state.specs.Sound.{IsSound}
 use Rattle.strat_memory.specs.declared.open_store.OpenStore.{OpenStore}
-use Rattle.strat_format.specs.Layout.{newest_format}
+use Rattle.def_bytes.specs.Layout.{newest_format}
 use Rattle.strat_memory.specs.Admitting.{chained_of}
 use Rattle.strat_memory.specs.RecoveredFields.{head_recovered}
 

@@ -1,20 +1,20 @@
 //! Making a new store.
 
 ghost use Rattle.std.specs.Prelude.{◌≡◌, ◌≢◌, ◌≤◌, OnOk, IsErrOf};
-ghost use Rattle.strat_crash.specs.Faults.{CountsFaults, HasCause};
-ghost use Rattle.strat_crash.specs.Image.{Image};
-ghost use Rattle.strat_crash.specs.Moments.{Exposes, Since, Passes};
-ghost use Rattle.strat_format.specs.SuperBlock.{AreLimits};
+ghost use Rattle.def_crash.specs.Faults.{CountsFaults, HasCause};
+ghost use Rattle.def_crash.specs.Image.{Image};
+ghost use Rattle.def_crash.specs.Moments.{Exposes, Since, Passes};
+ghost use Rattle.def_bytes.specs.SuperBlock.{AreLimits};
 ghost use Rattle.strat_open.specs.declared.formatting.FormatFault.TheVariants as fault;
 ghost use Rattle.strat_open.specs.Format.{IsNewDisk, IsBlank, IsShut, IsNoneOrNew, KeepsOthers};
-ghost use Rattle.strat_format.specs.Layout.{open_flag};
+ghost use Rattle.def_bytes.specs.Layout.{open_flag};
 
 use crate::new_manifest::write_manifest;
+use def_bytes::{MANIFEST_MIN, first_free, region_at};
 use std::alloc::Global;
 use strat_base::Failed;
 use strat_base::limits::BLOCK;
 use strat_disk::Disk;
-use strat_format::{MANIFEST_MIN, first_free, region_at};
 use strat_gate::{SuperBlock, gate_ensure_shut, lay};
 use thiserror::Error;
 

@@ -2,16 +2,16 @@
 //! will be number 1, there is one version, and no level.
 
 ghost use Rattle.std.specs.Prelude.{◌≡◌, ◌≤◌, ◌*◌};
-ghost use Rattle.strat_crash.specs.Faults.{CountsFaults};
-ghost use Rattle.strat_crash.specs.Moments.{WritesThrough};
-ghost use Rattle.strat_format.specs.SuperBlock.{zeros};
+ghost use Rattle.def_crash.specs.Faults.{CountsFaults};
+ghost use Rattle.def_crash.specs.Moments.{WritesThrough};
+ghost use Rattle.def_bytes.specs.SuperBlock.{zeros};
 ghost use Rattle.strat_open.specs.Format.{new_block};
-ghost use Rattle.strat_format.specs.Layout.{first_free};
+ghost use Rattle.def_bytes.specs.Layout.{first_free};
 
+use def_bytes::first_free;
 use strat_base::limits::BLOCK;
 use strat_base::{Failed, put_u32, put_u64};
 use strat_disk::{Disk, write_through};
-use strat_format::first_free;
 use strat_gate::SuperBlock;
 
 /// Spells the manifest's block into one of zeros.

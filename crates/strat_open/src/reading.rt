@@ -1,19 +1,19 @@
 //! Reading a store without opening it: what recovery finds is taken into memory, and nothing is written.
 
 ghost use Rattle.std.specs.Prelude.{◌≡◌, ◌≤◌, ◌+◌, ℕ, length, filter_map, Ok, Err, Some, None, IfOk, IsErrOf};
-ghost use Rattle.strat_crash.specs.Faults.{HasCause, ReadsAtMost};
-ghost use Rattle.strat_crash.specs.Image.{Image};
-ghost use Rattle.strat_crash.specs.Moments.{Exposes, OnlyReads};
-ghost use Rattle.strat_format.specs.Chain.{chain_length};
-ghost use Rattle.strat_format.specs.Layout.{region_blocks};
+ghost use Rattle.def_crash.specs.Faults.{HasCause, ReadsAtMost};
+ghost use Rattle.def_crash.specs.Image.{Image};
+ghost use Rattle.def_crash.specs.Moments.{Exposes, OnlyReads};
+ghost use Rattle.def_bytes.specs.Chain.{chain_length};
+ghost use Rattle.def_bytes.specs.Layout.{region_blocks};
 ghost use Rattle.strat_base.specs.Tree.{IsTree};
 ghost use Rattle.strat_level.specs.Memtable.{entries_held, ListStands};
-ghost use Rattle.strat_state.specs.Setting.{set_all};
-ghost use Rattle.strat_state.specs.State.{update_of};
+ghost use Rattle.def_state.specs.Setting.{set_all};
+ghost use Rattle.def_state.specs.State.{update_of};
 ghost use Rattle.strat_gate.specs.SuperView.{super_of};
 ghost use Rattle.strat_manifest.specs.ManifestView.{manifest_of};
-ghost use Rattle.strat_recovery.specs.Head.{head_versions, journal_count, head_changes, head_updates};
-ghost use Rattle.strat_recovery.specs.Opening.{recover};
+ghost use Rattle.def_recovery.specs.Head.{head_versions, journal_count, head_changes, head_updates};
+ghost use Rattle.def_recovery.specs.Opening.{recover};
 ghost use Rattle.strat_open.specs.declared.attach_fault.AttachFault.TheVariants as fault;
 
 use crate::attach_fault::AttachFault;
@@ -36,7 +36,7 @@ pub struct Reading {
 }
 
 impl Model for Reading {
-    ghost use Rattle.strat_recovery.specs.Head.{Head};
+    ghost use Rattle.def_recovery.specs.Head.{Head};
     ghost use Rattle.strat_open.specs.ReadingFields.{head_read, IsWholeReading};
 
     ghost Value = { Head };

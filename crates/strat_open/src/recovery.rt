@@ -5,22 +5,22 @@ ghost use Rattle.std.specs.List.{list_all};
 ghost use Rattle.strat_array.specs.Kept.{Blocks};
 ghost use Rattle.strat_base.specs.Change.{is_lawful};
 ghost use Rattle.strat_base.specs.declared.failures.Trouble.TheVariants.{Damaged, Device};
-ghost use Rattle.strat_crash.specs.Faults.{CountsFaults, HasCause, ReadsAtMost};
-ghost use Rattle.strat_crash.specs.Image.{Image};
-ghost use Rattle.strat_crash.specs.Moments.{Exposes, Since, Passes, TearsOnly, KeepsImages, IsDurable, OnlyReads};
+ghost use Rattle.def_crash.specs.Faults.{CountsFaults, HasCause, ReadsAtMost};
+ghost use Rattle.def_crash.specs.Image.{Image};
+ghost use Rattle.def_crash.specs.Moments.{Exposes, Since, Passes, TearsOnly, KeepsImages, IsDurable, OnlyReads};
 ghost use Rattle.strat_cursor.specs.Held.{no_cursors};
-ghost use Rattle.strat_format.specs.Chain.{chain_length};
-ghost use Rattle.strat_format.specs.Chained.{manifest_at};
-ghost use Rattle.strat_format.specs.Layout.{region_blocks, region_at, other_region, newest_format};
-ghost use Rattle.strat_format.specs.SuperBlock.{IsLawful, newest_in};
+ghost use Rattle.def_bytes.specs.Chain.{chain_length};
+ghost use Rattle.def_bytes.specs.Chained.{manifest_at};
+ghost use Rattle.def_bytes.specs.Layout.{region_blocks, region_at, other_region, newest_format};
+ghost use Rattle.def_bytes.specs.SuperBlock.{IsLawful, newest_in};
 ghost use Rattle.strat_gate.specs.SuperView.{super_of};
 ghost use Rattle.strat_journal.specs.Log.{IsStale};
 ghost use Rattle.strat_journal.specs.Records.{logged_of};
-ghost use Rattle.strat_recovery.specs.Opened.{parents_in};
-ghost use Rattle.strat_recovery.specs.Opening.{accepted_in, recover_manifest, recover_journal, recover_head, recover};
-ghost use Rattle.strat_standing.specs.Contents.{Contents};
-ghost use Rattle.strat_standing.specs.Standing.{ReadsAs, ContentsStand};
-ghost use Rattle.strat_state.specs.Sound.{are_accepted};
+ghost use Rattle.def_recovery.specs.Opened.{parents_in};
+ghost use Rattle.def_recovery.specs.Opening.{accepted_in, recover_manifest, recover_journal, recover_head, recover};
+ghost use Rattle.def_publish.specs.Contents.{Contents};
+ghost use Rattle.def_publish.specs.Standing.{ReadsAs, ContentsStand};
+ghost use Rattle.def_state.specs.Sound.{are_accepted};
 ghost use Rattle.strat_open.specs.Following.{IsOpenedAs, IsUnchanged, LeavesOpening};
 ghost use Rattle.strat_memory.specs.Held.{IsConsistent, IsLogBehind};
 ghost use Rattle.strat_memory.specs.Memory.{refusal_of_change, memory_after, HasRoomFor, IsMemoryOf};
@@ -87,7 +87,7 @@ fn load_memory(alloc: Global, sb: &SuperBlock, published: &Published) -> Result<
       manifest = (chained_of published.now).manifest;
       journal = [];
     }) m) }
-    ensures end { IfOk result (λ m. m.cursors ≡ no_cursors) }
+    ensures cursors { IfOk result (λ m. m.cursors ≡ no_cursors) }
 {
     let mut memory = Memory::new(alloc, sb.mem, sb.changes_max, sb.versions_max)?;
     memory.load(
@@ -158,7 +158,7 @@ fn recover_memory(
       manifest = (chained_of published.now).manifest;
       journal = map (λ l. l.change) logged.now;
     }) m) }
-    ensures end { IfOk result (λ m. m.cursors ≡ no_cursors) }
+    ensures cursors { IfOk result (λ m. m.cursors ≡ no_cursors) }
     ensures fits { OnOk result (IsTrue (list_all is_lawful (map (λ l. l.change) logged.now))) }
     ensures damaged { (block : ℕ) → IsErrOf result (Damaged block)
         → accepted_in sb.now.changes_max sb.now.versions_max
@@ -196,7 +196,7 @@ fn read_journal<D: Disk>(
       manifest = (chained_of published.now).manifest;
       journal = r.0.list;
     }) r.1) }
-    ensures end { IfOk result (λ r. r.1.cursors ≡ no_cursors) }
+    ensures cursors { IfOk result (λ r. r.1.cursors ≡ no_cursors) }
     ensures damaged { (block : ℕ) → IsErrOf result (Damaged block) → (f : Image)
         → Exposes (D.view disk.old) f
         → recover_journal f (super_of sb.now) (chained_of published.now).manifest ≡ Err block }
@@ -225,7 +225,7 @@ fn recover_at<D: Disk>(
         → newest_in f ≡ Ok (Some (slot, super_of sb)) → IsRecoveredFrom f r) }
     ensures kept { IfOk result (λ r. (cached : Blocks) → IsConsistent (held_of r cached)) }
     ensures ok { IfOk result (λ r. r.sb ≡ sb) }
-    ensures end { IfOk result (λ r. r.memory.cursors ≡ no_cursors) }
+    ensures cursors { IfOk result (λ r. r.memory.cursors ≡ no_cursors) }
     ensures damaged { (block : ℕ) → IsErrOf result (Damaged block) → (f : Image)
         → Exposes (D.view disk.old) f → recover_head f (super_of sb) ≡ Err block }
     ensures same { OnlyReads (D.view disk.old) (D.view disk.new) }
@@ -255,7 +255,7 @@ pub(crate) fn recover_store<D: Disk>(alloc: Global, disk: &mut D) -> Result<Open
     ensures found { IfOk result (λ r. (f : Image) → Exposes (D.view disk.old) f
         → IsRecoveredFrom f r) }
     ensures kept { IfOk result (λ r. (cached : Blocks) → IsConsistent (held_of r cached)) }
-    ensures end { IfOk result (λ r. r.memory.cursors ≡ no_cursors) }
+    ensures cursors { IfOk result (λ r. r.memory.cursors ≡ no_cursors) }
     ensures none { IsErrOf result fault.NotAStore → (f : Image)
         → Exposes (D.view disk.old) f → recover f ≡ Ok None }
     ensures damaged { (block : ℕ) → IsErrOf result (fault.Damaged block) → (f : Image)

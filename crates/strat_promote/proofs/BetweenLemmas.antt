@@ -8,13 +8,13 @@ use Rattle.strat_array.proofs.StayLemmas.{pushed_stay}
 use Rattle.strat_array.proofs.TakesLemmas.{used_agree}
 use Rattle.strat_base.specs.Entries.{Entry}
 use Rattle.strat_base.specs.declared.descriptors.Extent.{Extent}
-use Rattle.strat_crash.specs.Blocks.{AgreeOn, KeepsTaken}
-use Rattle.strat_crash.specs.Image.{Image}
+use Rattle.def_crash.specs.Blocks.{AgreeOn, KeepsTaken}
+use Rattle.def_crash.specs.Image.{Image}
 use Rattle.strat_extent.specs.Blocks.{SpaceView, is_free}
-use Rattle.strat_format.specs.Arrays.{blocks_of}
+use Rattle.def_bytes.specs.Arrays.{blocks_of}
 use Rattle.strat_merge.specs.MergerFields.{consumed_of}
-use Rattle.strat_plan.specs.Groups.{grouped_entries}
-use Rattle.strat_promotion.specs.Merging.{Merges}
+use Rattle.def_split.specs.Groups.{grouped_entries}
+use Rattle.def_promote.specs.Merging.{Merges}
 use Rattle.strat_split.specs.PlanSeen.{plan_seen}
 use Rattle.strat_promote.specs.Between.{KeepsItsBlocks, HasUsedBlocks}
 use Rattle.strat_promote.specs.Closing.{all_extents}

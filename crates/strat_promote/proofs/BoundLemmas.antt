@@ -4,13 +4,13 @@ use Rattle.std.specs.List.{slice_get}
 use Rattle.strat_array.specs.Progress.{ArrayProgress}
 use Rattle.strat_base.specs.Entries.{Entry}
 use Rattle.strat_base.specs.Tree.{Parents}
-use Rattle.strat_crash.specs.Image.{Image}
+use Rattle.def_crash.specs.Image.{Image}
 use Rattle.strat_merge.specs.Runs.{RunView}
-use Rattle.strat_plan.specs.Groups.{grouped_entries}
-use Rattle.strat_plan.specs.Plan.{Plan}
-use Rattle.strat_plan.specs.Planned.{is_taken}
-use Rattle.strat_promotion.specs.Merging.{MergesTo, rest_of}
-use Rattle.strat_promotion.specs.Purge.{is_needed, purged}
+use Rattle.def_split.specs.Groups.{grouped_entries}
+use Rattle.def_split.specs.Plan.{Plan}
+use Rattle.def_split.specs.Planned.{is_taken}
+use Rattle.def_promote.specs.Merging.{MergesTo, rest_of}
+use Rattle.def_promote.specs.Purge.{is_needed, purged}
 use Rattle.strat_split.specs.PlanSeen.{plan_seen}
 use Rattle.strat_promote.specs.Job.{Job, runs_in, input_count, groups_kept, part_content}
 use Rattle.strat_promote.specs.Written.{IsWriting}

@@ -8,14 +8,14 @@ use Rattle.std.proofs.lemmas.List.Filters.{length-filter_both}
 use Rattle.strat_base.specs.Entries.{Entry, is_at, is_of}
 use Rattle.strat_base.proofs.EntryLemmas.{at_key_version, is_of_key}
 use Rattle.strat_base.proofs.ListFacts.{all_at, among_filter, find_some}
-use Rattle.strat_state.proofs.LevelLemmas.{ascending_single}
-use Rattle.strat_promotion.proofs.UnionLemmas.{find_at, single_fits}
-use Rattle.strat_crash.specs.Image.{Image}
+use Rattle.def_state.proofs.LevelLemmas.{ascending_single}
+use Rattle.def_promote.proofs.UnionLemmas.{find_at, single_fits}
+use Rattle.def_crash.specs.Image.{Image}
 use Rattle.strat_merge.specs.Gathered.{TakesNext, CountsTaken}
 use Rattle.strat_merge.specs.Runs.{RunView, head_at, lefts}
-use Rattle.strat_plan.specs.Groups.{grouped_entries}
-use Rattle.strat_plan.proofs.ListLemmas.{filter_both, filter_le}
-use Rattle.strat_promotion.specs.Merging.{IsNext, MergesTo, rest_of}
+use Rattle.def_split.specs.Groups.{grouped_entries}
+use Rattle.def_split.proofs.ListLemmas.{filter_both, filter_le}
+use Rattle.def_promote.specs.Merging.{IsNext, MergesTo, rest_of}
 use Rattle.strat_promote.specs.Budget.{TakesOneKey, TakesSome, IsNearLimit}
 use Rattle.strat_promote.specs.Counted.{AreRunsOf}
 use Rattle.strat_promote.specs.InputFields.{input_seen}

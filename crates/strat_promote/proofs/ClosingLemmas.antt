@@ -10,11 +10,11 @@ use Rattle.strat_array.specs.Taking.{AreUsed}
 use Rattle.strat_array.proofs.EntriesOnLemmas.{entries_on-kept}
 use Rattle.strat_array.proofs.TakesLemmas.{used_agree}
 use Rattle.strat_base.specs.Entries.{Entry}
-use Rattle.strat_crash.specs.Image.{Image}
-use Rattle.strat_crash.specs.Moments.{DiskView, Exposes}
-use Rattle.strat_crash.specs.Blocks.{TearsBlocks}
+use Rattle.def_crash.specs.Image.{Image}
+use Rattle.def_crash.specs.Moments.{DiskView, Exposes}
+use Rattle.def_crash.specs.Blocks.{TearsBlocks}
 use Rattle.strat_extent.specs.Blocks.{SpaceView, is_free}
-use Rattle.strat_format.specs.Arrays.{blocks_of, entries_on}
+use Rattle.def_bytes.specs.Arrays.{blocks_of, entries_on}
 use Rattle.strat_promote.specs.Spaces.{TakesMore}
 use Rattle.strat_promote.specs.Closing.{all_extents, AreAllUsed, AreSealed}
 use Rattle.strat_promote.proofs.SpacesLemmas.{takes_trans, takes_all, used_all, torn_on, others_stay}

@@ -8,8 +8,8 @@ use Rattle.strat_array.specs.Progress.{ArrayProgress}
 use Rattle.strat_array.specs.Pushed.{AreMaximal}
 use Rattle.strat_array.specs.Within.{AreWithin}
 use Rattle.strat_base.specs.declared.descriptors.ArrayDesc.{ArrayDesc}
-use Rattle.strat_plan.specs.Plan.{Plan, members}
-use Rattle.strat_plan.specs.Plan as defined
+use Rattle.def_split.specs.Plan.{Plan, members}
+use Rattle.def_split.specs.Plan as defined
 use Rattle.strat_split.specs.PlanSeen.{part_seen, plan_seen}
 use Rattle.strat_split.specs.declared.parts.Part.{Part}
 use Rattle.strat_split.specs.declared.parts.Plan as made

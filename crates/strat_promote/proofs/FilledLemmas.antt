@@ -17,10 +17,10 @@ use Rattle.strat_base.specs.Order.{key_cmp, entry_cmp}
 use Rattle.strat_base.specs.Tree.{Parents}
 use Rattle.strat_base.proofs.EntryLemmas.{is_of_key}
 use Rattle.strat_base.proofs.ListFacts.{all_at, all_from}
-use Rattle.strat_crash.specs.Blocks.{TearsBlocks}
-use Rattle.strat_crash.specs.Image.{Image}
-use Rattle.strat_crash.specs.Moments.{DiskView, Exposes}
-use Rattle.strat_crash.proofs.BlockLemmas.{blocks_refl}
+use Rattle.def_crash.specs.Blocks.{TearsBlocks}
+use Rattle.def_crash.specs.Image.{Image}
+use Rattle.def_crash.specs.Moments.{DiskView, Exposes}
+use Rattle.def_crash.proofs.BlockLemmas.{blocks_refl}
 use Rattle.strat_extent.specs.Blocks.{SpaceView, is_free}
 use Rattle.strat_array.specs.Progress.{ArrayProgress}
 use Rattle.strat_array.specs.Pushed.{IsEndOf, IsPushed}

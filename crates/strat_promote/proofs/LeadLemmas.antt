@@ -10,17 +10,17 @@ use Rattle.std.proofs.lemmas.List.Elements.{Contains-append_right}
 use Rattle.strat_base.specs.Entries.{Entry, is_ascending}
 use Rattle.strat_base.specs.EntryBytes.{fits_fields}
 use Rattle.strat_base.proofs.ListFacts.{Among, all_from}
-use Rattle.strat_base.proofs.TreeLemmas.{option_cases}
-use Rattle.strat_crash.specs.Blocks.{AgreeOn}
-use Rattle.strat_crash.specs.Image.{Image, window}
-use Rattle.strat_crash.proofs.ImageLemmas.{window_same}
-use Rattle.strat_format.specs.Block.{block_in, block_front, fits_block}
-use Rattle.strat_format.specs.Arrays.{block_on, entries_on}
-use Rattle.strat_format.proofs.BlockLemmas.{block_in-some}
-use Rattle.strat_state.proofs.SettingLemmas.{order, order_trans, stands_first, first_of}
+use Rattle.strat_base.proofs.ResultFacts.{option_cases}
+use Rattle.def_crash.specs.Blocks.{AgreeOn}
+use Rattle.def_crash.specs.Image.{Image, window}
+use Rattle.def_crash.proofs.ImageLemmas.{window_same}
+use Rattle.def_bytes.specs.Block.{block_in, block_front, fits_block}
+use Rattle.def_bytes.specs.Arrays.{block_on, entries_on}
+use Rattle.def_bytes.proofs.BlockLemmas.{block_in-some}
+use Rattle.def_state.proofs.SettingLemmas.{order, order_trans, stands_first, first_of}
 use Rattle.strat_array.specs.Kept.{Kept}
-use Rattle.strat_crash.specs.Moments.{DiskView, Exposes}
-use Rattle.strat_crash.specs.Faults.{ReadsAtMost}
+use Rattle.def_crash.specs.Moments.{DiskView, Exposes}
+use Rattle.def_crash.specs.Faults.{ReadsAtMost}
 use Rattle.strat_merge.specs.Runs.{ReadsFront}
 use Rattle.std.proofs.lemmas.List.{append-nil}
 use Rattle.strat_promote.specs.LeadRuns.{BlockReading, entries_at_hand, key_alone, misfit_from}

@@ -13,14 +13,14 @@ use Rattle.strat_base.specs.declared.failures.Fault.TheVariants as fault
 use Rattle.strat_base.specs.declared.failures.Trouble.{Trouble}
 use Rattle.strat_base.specs.declared.failures.Trouble.TheVariants as trouble
 use Rattle.strat_base.specs.Troubles.{as_trouble}
-use Rattle.strat_base.proofs.TreeLemmas.{option_cases}
-use Rattle.strat_format.specs.Arrays.{blocks_of}
-use Rattle.strat_crash.specs.Image.{Image}
-use Rattle.strat_crash.specs.Moments.{DiskView, Exposes, OnlyReads}
-use Rattle.strat_crash.proofs.MomentLemmas.{reads_refl, reads_trans}
+use Rattle.strat_base.proofs.ResultFacts.{option_cases}
+use Rattle.def_bytes.specs.Arrays.{blocks_of}
+use Rattle.def_crash.specs.Image.{Image}
+use Rattle.def_crash.specs.Moments.{DiskView, Exposes, OnlyReads}
+use Rattle.def_crash.proofs.MomentLemmas.{reads_refl, reads_trans}
 use Rattle.strat_merge.specs.Runs.{IsEntryRun, Advances, ReadsFront}
-use Rattle.strat_plan.proofs.ListLemmas.{filter_ascending}
-use Rattle.strat_state.proofs.SettingLemmas.{order, order_trans, stands_first, first_of}
+use Rattle.def_split.proofs.ListLemmas.{filter_ascending}
+use Rattle.def_state.proofs.SettingLemmas.{order, order_trans, stands_first, first_of}
 use Rattle.strat_promote.specs.LeadRuns.{BlockReading, entries_from, misfit_from, read_out, ReadsNext, IsPast, PassesOver, begins_with_lead, is_settled, leads_from}
 use Rattle.strat_promote.specs.Leads.{comes_after, last_of, entries_after, misfit_after}
 use Rattle.strat_promote.proofs.LeadLemmas.{is_less, first_before_all, ascends_both, read_ascends, nothing_after, no_misfit, entries_step, misfit_step, last_same, last_among, front_refl, front_trans, entries_same, misfit_same}

@@ -12,22 +12,22 @@ use Rattle.strat_base.specs.declared.descriptors.ArrayDesc.{ArrayDesc}
 use Rattle.strat_base.specs.declared.descriptors.Extent.{Extent}
 use Rattle.strat_base.specs.declared.descriptors.LevelDesc.{LevelDesc}
 use Rattle.strat_base.proofs.ListFacts.{Among, all_at, all_from, among_split, among_flat, among_left, among_right, filter_among}
-use Rattle.strat_crash.specs.Image.{Image}
-use Rattle.strat_crash.specs.Moments.{DiskView, Exposes}
-use Rattle.strat_format.specs.Arrays.{blocks_of, entries_on}
+use Rattle.def_crash.specs.Image.{Image}
+use Rattle.def_crash.specs.Moments.{DiskView, Exposes}
+use Rattle.def_bytes.specs.Arrays.{blocks_of, entries_on}
 use Rattle.strat_level.specs.Memtable.{entries_held}
 use Rattle.strat_merge.specs.Runs.{RunView}
-use Rattle.strat_plan.specs.Groups.{grouped_entries, AreGroups, array_of_groups}
-use Rattle.strat_plan.specs.Plan.{horizon_of}
-use Rattle.strat_plan.proofs.ListLemmas.{map_among}
-use Rattle.strat_promotion.specs.Merging.{Merges}
-use Rattle.strat_promotion.specs.Purge.{is_needed, purged}
-use Rattle.strat_promotion.proofs.MergingLemmas.{merged}
-use Rattle.strat_promotion.proofs.PromotedLemmas.{over_are}
-use Rattle.strat_promotion.proofs.UnionLemmas.{found_among}
+use Rattle.def_split.specs.Groups.{grouped_entries, AreGroups, array_of_groups}
+use Rattle.def_split.specs.Plan.{horizon_of}
+use Rattle.def_split.proofs.ListLemmas.{map_among}
+use Rattle.def_promote.specs.Merging.{Merges}
+use Rattle.def_promote.specs.Purge.{is_needed, purged}
+use Rattle.def_promote.proofs.MergingLemmas.{merged}
+use Rattle.def_promote.proofs.PromotedLemmas.{over_are}
+use Rattle.def_promote.proofs.UnionLemmas.{found_among}
 use Rattle.strat_split.specs.PlanSeen.{part_seen, plan_seen}
 use Rattle.strat_split.specs.declared.parts.Plan.{Plan}
-use Rattle.strat_state.proofs.LevelLemmas.{ascending_single}
+use Rattle.def_state.proofs.LevelLemmas.{ascending_single}
 use Rattle.strat_promote.specs.Closing.{AreSealed, IsDescriptor, IsDescribed}
 use Rattle.strat_promote.specs.Filled.{IsFilling}
 use Rattle.strat_promote.specs.Job.{Job, runs_in, groups_kept, arrays_to, part_content}

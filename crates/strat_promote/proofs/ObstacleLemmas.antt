@@ -5,8 +5,8 @@ use Rattle.std.proofs.lemmas.Result.{err_from_is_err_and}
 use Rattle.strat_base.specs.declared.failures.Trouble.{Trouble}
 use Rattle.strat_base.specs.declared.failures.Trouble.TheVariants as trouble
 use Rattle.strat_array.specs.Pushed.{HasReason}
-use Rattle.strat_crash.specs.Faults.{HasCause}
-use Rattle.strat_crash.specs.Moments.{DiskView}
+use Rattle.def_crash.specs.Faults.{HasCause}
+use Rattle.def_crash.specs.Moments.{DiskView}
 use Rattle.strat_merge.specs.Reading.{ReadsRuns}
 use Rattle.strat_merge.specs.Runs.{RunView}
 use Rattle.strat_promote.specs.Obstacles.{as_obstacle, MeetsObstacle}

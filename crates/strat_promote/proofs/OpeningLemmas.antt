@@ -9,10 +9,10 @@ use Rattle.std.proofs.lemmas.Grind.{flat_map-append}
 use Rattle.strat_base.specs.Entries.{Entry}
 use Rattle.strat_base.specs.declared.descriptors.ArrayDesc.{ArrayDesc}
 use Rattle.strat_base.specs.declared.descriptors.LevelDesc.{LevelDesc}
-use Rattle.strat_crash.specs.Image.{Image}
-use Rattle.strat_crash.specs.Faults.{ReadsAtMost}
-use Rattle.strat_crash.specs.Moments.{DiskView, Exposes, OnlyReads}
-use Rattle.strat_format.specs.Arrays.{blocks_of}
+use Rattle.def_crash.specs.Image.{Image}
+use Rattle.def_crash.specs.Faults.{ReadsAtMost}
+use Rattle.def_crash.specs.Moments.{DiskView, Exposes, OnlyReads}
+use Rattle.def_bytes.specs.Arrays.{blocks_of}
 use Rattle.strat_level.specs.Levels.{level_numbered}
 use Rattle.strat_merge.specs.Gathered.{are_under}
 use Rattle.strat_merge.specs.Runs.{RunView, blocks_left, IsBadFor, ReadsFront}

@@ -7,7 +7,7 @@ use Rattle.strat_array.specs.Within.{AreWithin}
 use Rattle.strat_base.specs.declared.descriptors.ArrayDesc.{ArrayDesc}
 use Rattle.strat_base.specs.declared.descriptors.Extent.{Extent}
 use Rattle.strat_base.specs.declared.descriptors.LevelDesc.{LevelDesc}
-use Rattle.strat_plan.specs.Plan.{Plan}
+use Rattle.def_split.specs.Plan.{Plan}
 use Rattle.strat_promote.specs.Closing.{IsDescribed, IsDescriptor}
 use Rattle.strat_promote.specs.Owned.{OwnsItsBlocks}
 

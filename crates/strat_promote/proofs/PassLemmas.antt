@@ -4,28 +4,29 @@ use Rattle.std.specs.List.{slice_get, find, Contains}
 use Rattle.std.specs.Option.{option_map_or}
 use Rattle.std.proofs.lemmas.Bool.{ltb-true, leb-true, le-leb}
 use Rattle.std.proofs.lemmas.List.{length-map, map-append}
-use Rattle.strat_crash.specs.Image.{Image}
+use Rattle.def_crash.specs.Image.{Image}
 use Rattle.strat_base.specs.Tree.{Parents, parent_of, IsTree}
 use Rattle.strat_base.specs.Entries.{Entry, is_at}
 use Rattle.strat_base.specs.declared.descriptors.ArrayDesc.{ArrayDesc}
 use Rattle.strat_base.proofs.ListFacts.{Among, all_at, all_from}
-use Rattle.strat_base.proofs.TreeLemmas.{option_cases, parent_older}
-use Rattle.strat_state.specs.Live.{first_some}
+use Rattle.strat_base.proofs.ResultFacts.{option_cases}
+use Rattle.strat_base.proofs.TreeLemmas.{parent_older}
+use Rattle.def_state.specs.Live.{first_some}
 use Rattle.strat_arena.specs.ArenaView.{KeyValue}
 use Rattle.strat_arena.specs.Items.{entries_of, entry_of_item}
 use Rattle.strat_arena.specs.declared.items.Item.{Item}
 use Rattle.strat_live.specs.Counting.{SameParents, item_versions, IsTally}
 use Rattle.strat_live.specs.Tallies.{Tallies}
 use Rattle.strat_tree.proofs.PreorderLemmas.{path_same}
-use Rattle.strat_plan.specs.Groups.{grouped_entries, group_versions}
-use Rattle.strat_plan.proofs.ListLemmas.{filter_same}
-use Rattle.strat_promotion.proofs.MergingLemmas.{merged_more}
+use Rattle.def_split.specs.Groups.{grouped_entries, group_versions}
+use Rattle.def_split.proofs.ListLemmas.{filter_same}
+use Rattle.def_promote.proofs.MergingLemmas.{merged_more}
 use Rattle.std.proofs.Math.Nat.{min-eq_left}
-use Rattle.strat_promotion.specs.Purge.{is_valued, is_needed, purged}
+use Rattle.def_promote.specs.Purge.{is_valued, is_needed, purged}
 use Rattle.strat_merge.specs.Gathered.{are_under, TakesNext, CountsTaken}
 use Rattle.strat_merge.specs.Runs.{RunView, IsEntryRun, lefts, blocks_left, IsBadFor, NoneLeft}
 use Rattle.strat_promote.specs.Job.{Job, runs_in, input_count, groups_kept}
-use Rattle.strat_promotion.specs.Merging.{MergesTo, Merges}
+use Rattle.def_promote.specs.Merging.{MergesTo, Merges}
 use Rattle.strat_promote.specs.Counted.{AreReadOf, AreRunsOf}
 use Rattle.strat_promote.specs.Taken.{group_kept, TakesKept}
 

@@ -13,24 +13,24 @@ use Rattle.strat_base.specs.EntryBytes.{fits_fields}
 use Rattle.strat_base.specs.Tree.{Parents, IsTree}
 use Rattle.strat_base.specs.declared.limits.TheConstants.{BLOCK}
 use Rattle.strat_base.proofs.ListFacts.{Among, all_at, among_range, range_among}
-use Rattle.strat_crash.specs.Image.{Image, window}
-use Rattle.strat_format.specs.Arrays.{blocks_of, entries_on}
-use Rattle.strat_format.specs.Block.{block_in, block_front}
-use Rattle.strat_format.proofs.BlockLemmas.{block_in-some}
-use Rattle.strat_plan.specs.Groups.{SplitsGroups, array_of_groups, grouped_entries, group_versions, level_of_groups, own_of}
-use Rattle.strat_plan.specs.Plan.{Plan, horizon_of, members, part_at, part_of}
-use Rattle.strat_plan.proofs.CountedLemmas.{own_groups, sum_le, sum_own, sum_same}
-use Rattle.strat_plan.proofs.LawLemmas.{groups_described}
-use Rattle.strat_plan.proofs.ListLemmas.{among_map, distinct_labelled, distinct_range}
-use Rattle.strat_plan.specs.Planned.{is_taken}
-use Rattle.strat_promotion.specs.Merging.{MergesTo, Merges, rest_of}
-use Rattle.strat_promotion.specs.Purge.{purged}
-use Rattle.strat_promotion.proofs.MergingLemmas.{merged}
-use Rattle.strat_promotion.proofs.UniqueLemmas.{next_needs_some, one_group_next, one_key_next}
-use Rattle.strat_recovery.proofs.OpeningLemmas.{map_some, next_some}
+use Rattle.def_crash.specs.Image.{Image, window}
+use Rattle.def_bytes.specs.Arrays.{blocks_of, entries_on}
+use Rattle.def_bytes.specs.Block.{block_in, block_front}
+use Rattle.def_bytes.proofs.BlockLemmas.{block_in-some}
+use Rattle.def_split.specs.Groups.{SplitsGroups, array_of_groups, grouped_entries, group_versions, level_of_groups, own_of}
+use Rattle.def_split.specs.Plan.{Plan, horizon_of, members, part_at, part_of}
+use Rattle.def_split.proofs.CountedLemmas.{own_groups, sum_le, sum_own, sum_same}
+use Rattle.def_split.proofs.LawLemmas.{groups_described}
+use Rattle.def_split.proofs.ListLemmas.{among_map, distinct_labelled, distinct_range}
+use Rattle.def_split.specs.Planned.{is_taken}
+use Rattle.def_promote.specs.Merging.{MergesTo, Merges, rest_of}
+use Rattle.def_promote.specs.Purge.{purged}
+use Rattle.def_promote.proofs.MergingLemmas.{merged}
+use Rattle.def_promote.proofs.UniqueLemmas.{next_needs_some, one_group_next, one_key_next}
+use Rattle.def_recovery.proofs.OpeningLemmas.{map_some, next_some}
 use Rattle.strat_split.specs.PlanSeen.{part_seen, plan_seen}
-use Rattle.strat_state.specs.Counted.{own_at, keys_at}
-use Rattle.strat_state.specs.Level.{TaggedArray, own_leads, least_live}
+use Rattle.def_state.specs.Counted.{own_at, keys_at}
+use Rattle.def_state.specs.Level.{TaggedArray, own_leads, least_live}
 use Rattle.strat_promote.specs.Closing.{all_extents}
 use Rattle.strat_promote.specs.Filled.{IsFilling}
 use Rattle.strat_promote.specs.Job.{Job, runs_in, input_count, groups_kept, part_content}

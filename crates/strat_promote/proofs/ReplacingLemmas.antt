@@ -10,29 +10,29 @@ use Rattle.strat_base.specs.Tree.{Parents}
 use Rattle.strat_base.specs.declared.descriptors.ArrayDesc.{ArrayDesc}
 use Rattle.strat_base.specs.declared.descriptors.LevelDesc.{LevelDesc}
 use Rattle.strat_base.proofs.ListFacts.{Among, all_at, all_from, among_left, among_range}
-use Rattle.strat_crash.specs.Image.{Image}
-use Rattle.strat_format.specs.Arrays.{all_some, blocks_of, entries_on}
-use Rattle.strat_plan.specs.Groups.{grouped_entries, group_versions, SplitsGroups, array_of_groups, level_of_groups}
-use Rattle.strat_plan.specs.Plan.{Part, part_at, members}
-use Rattle.strat_plan.proofs.LawLemmas.{groups_described}
-use Rattle.strat_plan.proofs.ListLemmas.{among_map}
-use Rattle.strat_promotion.specs.Merging.{runs_taken, Merges}
-use Rattle.strat_promotion.specs.Promoted.{promoted, level_if, Takeable, PromotesGroups, fresh_of_groups}
-use Rattle.strat_promotion.specs.Purge.{purged, entries_over, groups_over}
-use Rattle.strat_promotion.specs.Replaced.{Replaces}
-use Rattle.strat_promotion.specs.Sealed.{sealed_at, grown_by}
-use Rattle.strat_promotion.proofs.MergingLemmas.{merged, runs_union}
-use Rattle.strat_promotion.proofs.PromotedLemmas.{groups_replace}
-use Rattle.strat_promotion.proofs.ReplacedLemmas.{replaced_says, replaced_sound}
-use Rattle.strat_promotion.proofs.SealedLemmas.{before_ordered, follows_says, follows_sound}
-use Rattle.strat_recovery.specs.Opened.{array_on, level_on}
-use Rattle.strat_recovery.proofs.OpeningLemmas.{map_some, each_some}
-use Rattle.strat_state.specs.Counted.{own_at, keys_at}
-use Rattle.strat_state.specs.Level.{TaggedArray, Level, own_leads, least_live}
-use Rattle.strat_state.specs.Setting.{set_all}
-use Rattle.strat_state.specs.Sound.{has_ascending_entries, IsOrdered, IsSound}
-use Rattle.strat_state.specs.State.{State, versions_of, journal_updates}
-use Rattle.strat_state.proofs.SoundLemmas.{sound_tree, ordered}
+use Rattle.def_crash.specs.Image.{Image}
+use Rattle.def_bytes.specs.Arrays.{all_some, blocks_of, entries_on}
+use Rattle.def_split.specs.Groups.{grouped_entries, group_versions, SplitsGroups, array_of_groups, level_of_groups}
+use Rattle.def_split.specs.Plan.{Part, part_at, members}
+use Rattle.def_split.proofs.LawLemmas.{groups_described}
+use Rattle.def_split.proofs.ListLemmas.{among_map}
+use Rattle.def_promote.specs.Merging.{runs_taken, Merges}
+use Rattle.def_promote.specs.Promoted.{promoted, level_if, Takeable, PromotesGroups, fresh_of_groups}
+use Rattle.def_promote.specs.Purge.{purged, entries_over, groups_over}
+use Rattle.def_promote.specs.Replaced.{Replaces}
+use Rattle.def_promote.specs.Sealed.{sealed_at, grown_by}
+use Rattle.def_promote.proofs.MergingLemmas.{merged, runs_union}
+use Rattle.def_promote.proofs.PromotedLemmas.{groups_replace}
+use Rattle.def_promote.proofs.ReplacedLemmas.{replaced_says, replaced_sound}
+use Rattle.def_promote.proofs.SealedLemmas.{before_ordered, follows_says, follows_sound}
+use Rattle.def_recovery.specs.Opened.{array_on, level_on}
+use Rattle.def_recovery.proofs.OpeningLemmas.{map_some, each_some}
+use Rattle.def_state.specs.Counted.{own_at, keys_at}
+use Rattle.def_state.specs.Level.{TaggedArray, Level, own_leads, least_live}
+use Rattle.def_state.specs.Setting.{set_all}
+use Rattle.def_state.specs.Sound.{has_ascending_entries, IsOrdered, IsSound}
+use Rattle.def_state.specs.State.{State, versions_of, journal_updates}
+use Rattle.def_state.proofs.SoundLemmas.{sound_tree, ordered}
 use Rattle.strat_promote.specs.Job.{Job, runs_in, groups_kept}
 use Rattle.strat_promote.specs.Leads.{leads_in}
 use Rattle.strat_promote.specs.Replacing.{IsJobOf, LeavesTheSame}

@@ -3,21 +3,21 @@ use Rattle.std.proofs.Common.{◌≡◌, ◌<◌, ◌≤◌, ◌+◌, ◌-◌, �
 use Rattle.strat_base.specs.Entries.{Entry}
 use Rattle.strat_base.specs.declared.descriptors.ArrayDesc.{ArrayDesc}
 use Rattle.strat_base.specs.declared.descriptors.LevelDesc.{LevelDesc}
-use Rattle.strat_crash.specs.Blocks.{AgreeOn, TearsBlocks}
-use Rattle.strat_crash.specs.Image.{Image}
-use Rattle.strat_crash.specs.Moments.{DiskView, Exposes}
+use Rattle.def_crash.specs.Blocks.{AgreeOn, TearsBlocks}
+use Rattle.def_crash.specs.Image.{Image}
+use Rattle.def_crash.specs.Moments.{DiskView, Exposes}
 use Rattle.std.specs.List.{Contains}
 use Rattle.strat_base.specs.declared.descriptors.Extent.{Extent}
 use Rattle.strat_array.specs.Progress.{ArrayProgress}
 use Rattle.strat_array.specs.Taking.{AreUsed}
-use Rattle.strat_format.specs.Arrays.{blocks_of}
+use Rattle.def_bytes.specs.Arrays.{blocks_of}
 use Rattle.strat_array.proofs.TakesLemmas.{used_agree}
 use Rattle.strat_extent.specs.Blocks.{SpaceView, is_free, used_count}
 use Rattle.strat_merge.specs.MergerFields.{views_of}
 use Rattle.strat_merge.specs.Runs.{ReadsLeft}
 use Rattle.strat_promote.specs.InputFields.{input_seen}
-use Rattle.strat_plan.specs.Groups.{grouped_entries}
-use Rattle.strat_promotion.specs.Merging.{Merges}
+use Rattle.def_split.specs.Groups.{grouped_entries}
+use Rattle.def_promote.specs.Merging.{Merges}
 use Rattle.strat_promote.specs.Budget.{IsNearLimit, TakesOneKey}
 use Rattle.strat_promote.specs.Closing.{AreAllUsed, all_extents}
 use Rattle.strat_promote.specs.Job.{Job, IsBadInput, runs_in, input_count, arrays_to, blocks_listed}

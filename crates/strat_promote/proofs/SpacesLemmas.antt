@@ -6,15 +6,15 @@ use Rattle.std.proofs.lemmas.Grind.{flat_map-append}
 use Rattle.std.proofs.lemmas.List.Sums.{sum_by-cons}
 use Rattle.strat_base.specs.Entries.{Entry}
 use Rattle.strat_base.specs.declared.descriptors.Extent.{Extent}
-use Rattle.strat_crash.specs.Blocks.{TearsBlocks}
-use Rattle.strat_crash.specs.Image.{Image}
-use Rattle.strat_crash.specs.Moments.{DiskView, Exposes}
-use Rattle.strat_crash.proofs.BlockLemmas.{blocks_trans, blocks_wider}
+use Rattle.def_crash.specs.Blocks.{TearsBlocks}
+use Rattle.def_crash.specs.Image.{Image}
+use Rattle.def_crash.specs.Moments.{DiskView, Exposes}
+use Rattle.def_crash.proofs.BlockLemmas.{blocks_trans, blocks_wider}
 use Rattle.strat_extent.specs.Blocks.{SpaceView, times_in, is_used, is_free, uses}
 use Rattle.strat_extent.proofs.BlockLemmas.{times_listed}
 use Rattle.strat_extent.proofs.ChangeLemmas.{uses_used}
 use Rattle.strat_extent.proofs.CountLemmas.{times_append}
-use Rattle.strat_format.specs.Arrays.{blocks_of}
+use Rattle.def_bytes.specs.Arrays.{blocks_of}
 use Rattle.strat_array.specs.Progress.{ArrayProgress}
 use Rattle.strat_array.specs.Pushed.{IsPushed}
 use Rattle.strat_array.specs.Taking.{AreUsed, TakesBlock}

@@ -7,14 +7,14 @@ use Rattle.strat_array.specs.Pushed.{IsPushed}
 use Rattle.strat_base.specs.Entries.{Entry, is_ascending}
 use Rattle.strat_base.specs.Order.{key_cmp}
 use Rattle.strat_base.specs.declared.descriptors.ArrayDesc.{ArrayDesc}
-use Rattle.strat_crash.specs.Image.{Image}
-use Rattle.strat_format.specs.Arrays.{blocks_of, entries_on}
+use Rattle.def_crash.specs.Image.{Image}
+use Rattle.def_bytes.specs.Arrays.{blocks_of, entries_on}
 use Rattle.strat_live.specs.Counting.{IsTally}
 use Rattle.strat_live.specs.Tallies.{Tallies}
 use Rattle.strat_merge.specs.Runs.{RunView, lefts, blocks_left, IsBadFor}
-use Rattle.strat_plan.specs.Groups.{grouped_entries, group_versions}
-use Rattle.strat_plan.specs.Plan.{Plan}
-use Rattle.strat_promotion.specs.Purge.{purged}
+use Rattle.def_split.specs.Groups.{grouped_entries, group_versions}
+use Rattle.def_split.specs.Plan.{Plan}
+use Rattle.def_promote.specs.Purge.{purged}
 use Rattle.strat_promote.specs.Counted.{AreReadOf, AreRunsOf}
 use Rattle.strat_promote.specs.Filled.{AreReadyFor}
 use Rattle.strat_promote.specs.Job.{Job, runs_in, input_count, blocks_listed, groups_kept, part_content, IsBadInput}

@@ -9,30 +9,30 @@ use Rattle.strat_arena.specs.PoolView.{arena_at}
 use Rattle.strat_base.specs.Change.{Change}
 use Rattle.strat_base.specs.Entries.{Entry}
 use Rattle.strat_base.specs.declared.descriptors.LevelDesc.{LevelDesc}
-use Rattle.strat_crash.specs.Blocks.{AgreeOn}
-use Rattle.strat_crash.specs.Image.{Image}
+use Rattle.def_crash.specs.Blocks.{AgreeOn}
+use Rattle.def_crash.specs.Image.{Image}
 use Rattle.strat_extent.specs.Blocks.{SpaceView}
-use Rattle.strat_format.specs.Arrays.{all_some}
+use Rattle.def_bytes.specs.Arrays.{all_some}
 use Rattle.strat_level.specs.Levels.{level_numbered, leads_if_any}
 use Rattle.strat_level.specs.Memtable.{ItemList}
 use Rattle.strat_level.specs.Target.{leads_down_to}
-use Rattle.strat_plan.specs.Groups.{grouped_entries}
-use Rattle.strat_promotion.specs.Merging.{runs_taken}
-use Rattle.strat_promotion.specs.Paid.{leads_at, IsLeastTarget}
-use Rattle.strat_promotion.specs.Promoted.{levels_to, levels_behind, promoted, Takeable, fresh_of_groups}
-use Rattle.strat_promotion.specs.Sealed.{sealed_at, grown_by}
-use Rattle.strat_promotion.specs.Purge.{entries_over}
-use Rattle.strat_promotion.proofs.CutLemmas.{takeable, shallow_taken}
-use Rattle.strat_promotion.proofs.PaidLemmas.{count, paid_after}
-use Rattle.strat_promotion.proofs.SealedLemmas.{before_ordered}
-use Rattle.strat_promotion.proofs.TargetLemmas.{leads_add_up}
-use Rattle.strat_recovery.specs.Opened.{level_on}
-use Rattle.strat_state.specs.Level.{TaggedArray, Level, level_leads, own_leads}
-use Rattle.strat_state.specs.Reading.{level_zero}
-use Rattle.strat_state.specs.Setting.{set_all}
-use Rattle.strat_state.specs.Sound.{IsOrdered, IsSound}
-use Rattle.strat_state.specs.State.{State, versions_of, journal_updates, IsPaid}
-use Rattle.strat_state.proofs.SoundLemmas.{sound_tree, ordered}
+use Rattle.def_split.specs.Groups.{grouped_entries}
+use Rattle.def_promote.specs.Merging.{runs_taken}
+use Rattle.def_promote.specs.Paid.{leads_at, IsLeastTarget}
+use Rattle.def_promote.specs.Promoted.{levels_to, levels_behind, promoted, Takeable, fresh_of_groups}
+use Rattle.def_promote.specs.Sealed.{sealed_at, grown_by}
+use Rattle.def_promote.specs.Purge.{entries_over}
+use Rattle.def_promote.proofs.CutLemmas.{takeable, shallow_taken}
+use Rattle.def_promote.proofs.PaidLemmas.{count, paid_after}
+use Rattle.def_promote.proofs.SealedLemmas.{before_ordered}
+use Rattle.def_promote.proofs.TargetLemmas.{leads_add_up}
+use Rattle.def_recovery.specs.Opened.{level_on}
+use Rattle.def_state.specs.Level.{TaggedArray, Level, level_leads, own_leads}
+use Rattle.def_state.specs.Reading.{level_zero}
+use Rattle.def_state.specs.Setting.{set_all}
+use Rattle.def_state.specs.Sound.{IsOrdered, IsSound}
+use Rattle.def_state.specs.State.{State, versions_of, journal_updates, IsPaid}
+use Rattle.def_state.proofs.SoundLemmas.{sound_tree, ordered}
 use Rattle.strat_promote.specs.Closing.{AreAllUsed}
 use Rattle.strat_promote.specs.Job.{runs_in, Job, blocks_listed, arrays_to}
 use Rattle.strat_promote.specs.Promotions.{IsBegun, IsOpen, HasBegun, IsItsJob, leads_listed, target_of, writers_of, SamePromotion}

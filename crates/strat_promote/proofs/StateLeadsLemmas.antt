@@ -10,22 +10,22 @@ use Rattle.strat_base.specs.Entries.{Entry, latest}
 use Rattle.strat_base.specs.declared.descriptors.ArrayDesc.{ArrayDesc}
 use Rattle.strat_base.specs.declared.descriptors.LevelDesc.{LevelDesc}
 use Rattle.strat_base.proofs.ListFacts.{Among}
-use Rattle.strat_crash.specs.Image.{Image}
-use Rattle.strat_format.specs.Arrays.{all_some, blocks_of, entries_on}
+use Rattle.def_crash.specs.Image.{Image}
+use Rattle.def_bytes.specs.Arrays.{all_some, blocks_of, entries_on}
 use Rattle.strat_level.specs.Levels.{leads_if_any}
-use Rattle.strat_plan.proofs.ListLemmas.{filter_none, filter_every}
-use Rattle.strat_promotion.specs.Paid.{entries_written}
-use Rattle.strat_promotion.proofs.PaidLemmas.{count, sum_filter}
-use Rattle.strat_promotion.proofs.UnionLemmas.{found_among, single_fits}
-use Rattle.strat_recovery.specs.Opened.{array_on, level_on}
-use Rattle.strat_recovery.proofs.OpeningLemmas.{map_some, each_some}
-use Rattle.strat_state.specs.Level.{TaggedArray, Level, own_leads, least_live}
-use Rattle.strat_state.specs.Setting.{set_all}
-use Rattle.strat_state.specs.Sound.{is_described}
-use Rattle.strat_state.specs.State.{State, versions_of}
-use Rattle.strat_state.proofs.LevelLemmas.{ascending_single}
-use Rattle.strat_state.proofs.SoundLemmas.{latest_single}
-use Rattle.strat_state.proofs.UpdateLemmas.{all_ascending, all_latest}
+use Rattle.def_split.proofs.ListLemmas.{filter_none, filter_every}
+use Rattle.def_promote.specs.Paid.{entries_written}
+use Rattle.def_promote.proofs.PaidLemmas.{count, sum_filter}
+use Rattle.def_promote.proofs.UnionLemmas.{found_among, single_fits}
+use Rattle.def_recovery.specs.Opened.{array_on, level_on}
+use Rattle.def_recovery.proofs.OpeningLemmas.{map_some, each_some}
+use Rattle.def_state.specs.Level.{TaggedArray, Level, own_leads, least_live}
+use Rattle.def_state.specs.Setting.{set_all}
+use Rattle.def_state.specs.Sound.{is_described}
+use Rattle.def_state.specs.State.{State, versions_of}
+use Rattle.def_state.proofs.LevelLemmas.{ascending_single}
+use Rattle.def_state.proofs.SoundLemmas.{latest_single}
+use Rattle.def_state.proofs.UpdateLemmas.{all_ascending, all_latest}
 use Rattle.strat_promote.specs.Promotions.{entries_if_any}
 
 -- the latest of updates are as many as are left where they are set one after another

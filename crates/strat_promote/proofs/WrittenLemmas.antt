@@ -13,10 +13,10 @@ use Rattle.strat_base.specs.Entries.{Entry, is_of, lead_entries}
 use Rattle.strat_base.specs.Tree.{Parents, IsTree}
 use Rattle.strat_base.specs.declared.descriptors.ArrayDesc.{ArrayDesc}
 use Rattle.strat_base.proofs.ListFacts.{Among, all_at, among_right, get_among}
-use Rattle.strat_crash.specs.Blocks.{AgreeOn}
-use Rattle.strat_crash.specs.Image.{Image}
-use Rattle.strat_crash.specs.Moments.{DiskView, Exposes}
-use Rattle.strat_format.specs.Arrays.{blocks_of}
+use Rattle.def_crash.specs.Blocks.{AgreeOn}
+use Rattle.def_crash.specs.Image.{Image}
+use Rattle.def_crash.specs.Moments.{DiskView, Exposes}
+use Rattle.def_bytes.specs.Arrays.{blocks_of}
 use Rattle.strat_array.specs.Progress.{ArrayProgress}
 use Rattle.strat_array.specs.Pushed.{IsPushed}
 use Rattle.strat_live.specs.Counting.{SameParents, item_versions}
@@ -26,17 +26,17 @@ use Rattle.strat_merge.specs.Runs.{RunView, IsEntryRun, lefts, blocks_left, IsBa
 use Rattle.strat_merge.specs.declared.merger.Merger.{Merger}
 use Rattle.strat_merge.proofs.PassLemmas.{contains_at}
 use Rattle.strat_merge.proofs.TurnLemmas.{all_runs}
-use Rattle.strat_plan.specs.Groups.{grouped_entries, group_versions}
-use Rattle.strat_plan.specs.Plan as defined
-use Rattle.strat_plan.specs.Planned.{is_taken}
-use Rattle.strat_promotion.specs.Merging.{MergesTo, Merges}
-use Rattle.strat_promotion.specs.Purge.{purged}
-use Rattle.strat_promotion.proofs.UniqueLemmas.{one_merge, merge_goes_on}
+use Rattle.def_split.specs.Groups.{grouped_entries, group_versions}
+use Rattle.def_split.specs.Plan as defined
+use Rattle.def_split.specs.Planned.{is_taken}
+use Rattle.def_promote.specs.Merging.{MergesTo, Merges}
+use Rattle.def_promote.specs.Purge.{purged}
+use Rattle.def_promote.proofs.UniqueLemmas.{one_merge, merge_goes_on}
 use Rattle.strat_split.specs.Dealing.{items_taken, IsSplitFor}
 use Rattle.strat_split.specs.PlanSeen.{plan_seen}
 use Rattle.strat_split.specs.declared.parts.Plan.{Plan}
 use Rattle.strat_split.proofs.KeyedLemmas.{group_taken}
-use Rattle.strat_state.specs.Counted.{own_at, sees_one, keys_at}
+use Rattle.def_state.specs.Counted.{own_at, sees_one, keys_at}
 use Rattle.strat_promote.specs.Counted.{AreReadOf, AreRunsOf}
 use Rattle.strat_promote.specs.Filled.{DealsOut, SameFilling}
 use Rattle.strat_promote.specs.Job.{Job, runs_in, input_count, blocks_listed, IsBadInput, IsJobIn, groups_kept, part_content}

@@ -1,9 +1,9 @@
 -- What stays between two slices of a promotion.
 use Rattle.strat_array.specs.Taking.{AreUsed}
-use Rattle.strat_crash.specs.Blocks.{AgreeOn}
-use Rattle.strat_crash.specs.Image.{Image}
+use Rattle.def_crash.specs.Blocks.{AgreeOn}
+use Rattle.def_crash.specs.Image.{Image}
 use Rattle.strat_extent.specs.Blocks.{SpaceView}
-use Rattle.strat_format.specs.Arrays.{blocks_of}
+use Rattle.def_bytes.specs.Arrays.{blocks_of}
 use Rattle.strat_promote.specs.Closing.{AreAllUsed}
 use Rattle.strat_promote.specs.Job.{Job, blocks_listed}
 use Rattle.strat_promote.specs.Promotions.{extents_taken, writers_of}

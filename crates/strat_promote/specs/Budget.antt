@@ -1,8 +1,8 @@
 -- How many entries the steps of a slice take.
 use Rattle.std.specs.Prelude.{◌<◌, ◌≤◌, ℕ, ◌+◌, List, length, filter}
 use Rattle.strat_base.specs.Entries.{is_of}
-use Rattle.strat_crash.specs.Image.{Image}
-use Rattle.strat_plan.specs.Groups.{grouped_entries}
+use Rattle.def_crash.specs.Image.{Image}
+use Rattle.def_split.specs.Groups.{grouped_entries}
 use Rattle.strat_promote.specs.Job.{Job, runs_in}
 
 -- how many entries of a key the runs of a job have

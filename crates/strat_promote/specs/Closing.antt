@@ -9,11 +9,11 @@ use Rattle.strat_base.specs.Entries.{Entry}
 use Rattle.strat_base.specs.declared.descriptors.ArrayDesc.{ArrayDesc}
 use Rattle.strat_base.specs.declared.descriptors.Extent.{Extent}
 use Rattle.strat_base.specs.declared.descriptors.LevelDesc.{LevelDesc}
-use Rattle.strat_crash.specs.Image.{Image}
-use Rattle.strat_crash.specs.Moments.{DiskView, Exposes}
+use Rattle.def_crash.specs.Image.{Image}
+use Rattle.def_crash.specs.Moments.{DiskView, Exposes}
 use Rattle.strat_extent.specs.Blocks.{SpaceView}
-use Rattle.strat_format.specs.Arrays.{blocks_of, entries_on}
-use Rattle.strat_plan.specs.Plan.{Plan, horizon_of, part_at, members}
+use Rattle.def_bytes.specs.Arrays.{blocks_of, entries_on}
+use Rattle.def_split.specs.Plan.{Plan, horizon_of, part_at, members}
 
 -- the blocks of all writers
 abbrev pub all_extents : List ArrayProgress → List Extent

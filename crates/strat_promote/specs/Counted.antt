@@ -2,14 +2,14 @@
 use Rattle.std.specs.Prelude.{◌≡◌, ◌≤◌, ℕ, ◌+◌, ◌^◌, List, length, Contains, IsTrue}
 use Rattle.strat_base.specs.Entries.{Entry}
 use Rattle.strat_base.specs.declared.descriptors.ArrayDesc.{ArrayDesc}
-use Rattle.strat_crash.specs.Image.{Image}
+use Rattle.def_crash.specs.Image.{Image}
 use Rattle.strat_live.specs.Counting.{IsTally}
 use Rattle.strat_live.specs.Tallies.{items_counted}
 use Rattle.strat_merge.specs.Gathered.{are_under}
 use Rattle.strat_merge.specs.MergerFields.{consumed_of, views_of, IsUnspent}
 use Rattle.strat_merge.specs.Runs.{RunView, lefts, blocks_left, IsBadFor}
-use Rattle.strat_plan.specs.Groups.{grouped_entries, group_versions}
-use Rattle.strat_promotion.specs.Merging.{MergesTo, Merges}
+use Rattle.def_split.specs.Groups.{grouped_entries, group_versions}
+use Rattle.def_promote.specs.Merging.{MergesTo, Merges}
 use Rattle.strat_promote.specs.Job.{Job, runs_in, input_count, blocks_listed, IsBadInput, groups_kept}
 use Rattle.strat_promote.specs.declared.counting.Counting.{Counting}
 

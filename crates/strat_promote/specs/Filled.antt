@@ -11,8 +11,8 @@ use Rattle.strat_base.specs.Entries.{Entry, is_of, is_ascending}
 use Rattle.strat_base.specs.EntryBytes.{fits_fields}
 use Rattle.strat_base.specs.Order.{key_cmp}
 use Rattle.strat_base.specs.Tree.{Parents}
-use Rattle.strat_crash.specs.Image.{Image}
-use Rattle.strat_crash.specs.Moments.{DiskView, Exposes}
+use Rattle.def_crash.specs.Image.{Image}
+use Rattle.def_crash.specs.Moments.{DiskView, Exposes}
 use Rattle.strat_live.specs.Counting.{are_below}
 use Rattle.strat_live.specs.Group.{is_descending}
 use Rattle.strat_split.specs.Dealing.{items_taken}

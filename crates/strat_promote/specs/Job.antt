@@ -6,13 +6,13 @@ use Rattle.strat_array.specs.Within.{AreWithin}
 use Rattle.strat_base.specs.Entries.{Entry, is_tagged}
 use Rattle.strat_base.specs.declared.descriptors.ArrayDesc.{ArrayDesc}
 use Rattle.strat_base.specs.declared.descriptors.LevelDesc.{LevelDesc}
-use Rattle.strat_crash.specs.Image.{Image}
-use Rattle.strat_format.specs.Arrays.{blocks_of}
+use Rattle.def_crash.specs.Image.{Image}
+use Rattle.def_bytes.specs.Arrays.{blocks_of}
 use Rattle.strat_live.specs.Counting.{SameParents}
-use Rattle.strat_plan.specs.Groups.{grouped_entries}
-use Rattle.strat_plan.specs.Plan.{Plan}
-use Rattle.strat_plan.specs.Planned.{is_taken}
-use Rattle.strat_promotion.specs.Purge.{purged}
+use Rattle.def_split.specs.Groups.{grouped_entries}
+use Rattle.def_split.specs.Plan.{Plan}
+use Rattle.def_split.specs.Planned.{is_taken}
+use Rattle.def_promote.specs.Purge.{purged}
 use Rattle.strat_promote.specs.Leads.{leads_in, misfit_in}
 
 -- the parents of versions, how many of these take part, whether marks that say nothing are dropped, the entries of

@@ -4,9 +4,9 @@ use Rattle.std.specs.List.{list_all}
 use Rattle.std.specs.Ordering.{is_lt}
 use Rattle.strat_base.specs.Order.{entry_cmp}
 use Rattle.strat_base.specs.Entries.{Entry, is_ascending, is_tagged, lead_entries}
-use Rattle.strat_crash.specs.Image.{Image}
-use Rattle.strat_crash.specs.Moments.{DiskView, Exposes}
-use Rattle.strat_format.specs.Arrays.{block_on}
+use Rattle.def_crash.specs.Image.{Image}
+use Rattle.def_crash.specs.Moments.{DiskView, Exposes}
+use Rattle.def_bytes.specs.Arrays.{block_on}
 use Rattle.strat_array.specs.Kept.{Kept}
 use Rattle.strat_merge.specs.Runs.{RunView}
 use Rattle.strat_promote.specs.Leads.{comes_after, last_of, entries_after, misfit_after}

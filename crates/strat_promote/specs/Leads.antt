@@ -5,8 +5,8 @@ use Rattle.std.specs.Ordering.{is_lt}
 use Rattle.strat_base.specs.Order.{entry_cmp}
 use Rattle.strat_base.specs.Entries.{Entry, lead_entries}
 use Rattle.strat_base.specs.declared.descriptors.ArrayDesc.{ArrayDesc}
-use Rattle.strat_crash.specs.Image.{Image}
-use Rattle.strat_format.specs.Arrays.{block_on, blocks_of}
+use Rattle.def_crash.specs.Image.{Image}
+use Rattle.def_bytes.specs.Arrays.{block_on, blocks_of}
 
 -- the first of some entries comes after one, if there is one
 abbrev pub comes_after : Option Entry → List Entry → Bool

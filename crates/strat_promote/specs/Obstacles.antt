@@ -2,7 +2,7 @@
 use Rattle.std.specs.Prelude.{◌≡◌, ◌≤◌, ℕ}
 use Rattle.strat_base.specs.declared.failures.Trouble.{Trouble}
 use Rattle.strat_base.specs.declared.failures.Trouble.TheVariants as trouble
-use Rattle.strat_crash.specs.Faults.{Rose}
+use Rattle.def_crash.specs.Faults.{Rose}
 use Rattle.strat_promote.specs.declared.obstacle.Obstacle.{Obstacle}
 use Rattle.strat_promote.specs.declared.obstacle.Obstacle.TheVariants.{NoMemory, Device, Damaged, Unfit}
 

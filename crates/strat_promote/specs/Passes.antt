@@ -2,9 +2,9 @@
 use Rattle.std.specs.Prelude.{◌≡◌, ◌≤◌, ℕ, ◌+◌, ◌^◌, List, length, Result, OnErr, IsErrOf, Contains}
 use Rattle.strat_base.specs.Entries.{Entry}
 use Rattle.strat_base.specs.declared.descriptors.ArrayDesc.{ArrayDesc}
-use Rattle.strat_crash.specs.Faults.{HasCause, ReadsAtMost}
-use Rattle.strat_crash.specs.Image.{Image}
-use Rattle.strat_crash.specs.Moments.{DiskView, OnlyReads}
+use Rattle.def_crash.specs.Faults.{HasCause, ReadsAtMost}
+use Rattle.def_crash.specs.Image.{Image}
+use Rattle.def_crash.specs.Moments.{DiskView, OnlyReads}
 use Rattle.strat_merge.specs.Runs.{RunView, blocks_left}
 use Rattle.strat_promote.specs.Job.{Job, blocks_listed, input_count}
 use Rattle.strat_promote.specs.Opening.{IsBlamed}

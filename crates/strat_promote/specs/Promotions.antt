@@ -7,7 +7,7 @@ use Rattle.strat_base.specs.Tree.{Parents}
 use Rattle.strat_base.specs.declared.descriptors.ArrayDesc.{ArrayDesc}
 use Rattle.strat_base.specs.declared.descriptors.Extent.{Extent}
 use Rattle.strat_base.specs.declared.descriptors.LevelDesc.{LevelDesc}
-use Rattle.strat_crash.specs.Image.{Image}
+use Rattle.def_crash.specs.Image.{Image}
 use Rattle.strat_level.specs.Levels.{level_numbered, leads_if_any}
 use Rattle.strat_level.specs.Memtable.{ItemList}
 use Rattle.strat_level.specs.Target.{IsTarget}

@@ -2,14 +2,14 @@
 use Rattle.std.specs.Prelude.{◌≡◌, ℕ, ◌==◌, List, length, Option, Some}
 use Rattle.std.specs.Option.{option_to_list}
 use Rattle.strat_base.specs.declared.descriptors.LevelDesc.{LevelDesc}
-use Rattle.strat_crash.specs.Image.{Image}
-use Rattle.strat_format.specs.Arrays.{all_some}
-use Rattle.strat_promotion.specs.Merging.{runs_taken}
-use Rattle.strat_promotion.specs.Promoted.{SaysTheSame}
-use Rattle.strat_recovery.specs.Opened.{level_on}
-use Rattle.strat_state.specs.Level.{Level}
-use Rattle.strat_state.specs.Sound.{IsSound}
-use Rattle.strat_state.specs.State.{State, versions_of}
+use Rattle.def_crash.specs.Image.{Image}
+use Rattle.def_bytes.specs.Arrays.{all_some}
+use Rattle.def_promote.specs.Merging.{runs_taken}
+use Rattle.def_promote.specs.Promoted.{SaysTheSame}
+use Rattle.def_recovery.specs.Opened.{level_on}
+use Rattle.def_state.specs.Level.{Level}
+use Rattle.def_state.specs.Sound.{IsSound}
+use Rattle.def_state.specs.State.{State, versions_of}
 use Rattle.strat_promote.specs.Job.{Job, runs_in}
 
 -- a job merges what a state promotes: the versions and the runs are the state's, and marks that say nothing are dropped

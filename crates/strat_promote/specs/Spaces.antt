@@ -5,10 +5,10 @@ use Rattle.strat_array.specs.Progress.{ArrayProgress}
 use Rattle.strat_array.specs.Pushed.{IsEndOf, IsPushed}
 use Rattle.strat_base.specs.Entries.{Entry}
 use Rattle.strat_base.specs.declared.descriptors.Extent.{Extent}
-use Rattle.strat_crash.specs.Image.{Image}
-use Rattle.strat_crash.specs.Moments.{DiskView, Exposes}
+use Rattle.def_crash.specs.Image.{Image}
+use Rattle.def_crash.specs.Moments.{DiskView, Exposes}
 use Rattle.strat_extent.specs.Blocks.{SpaceView, times_in, is_used, is_free, uses, used_count}
-use Rattle.strat_format.specs.Arrays.{blocks_of}
+use Rattle.def_bytes.specs.Arrays.{blocks_of}
 
 -- some blocks that were free became used, and stand behind the others of the extents now
 pub record TakesMore (before after : SpaceView) (old new : List Extent) : Type 0 where

@@ -5,15 +5,15 @@ use Rattle.strat_array.specs.Progress.{ArrayProgress}
 use Rattle.strat_base.specs.Entries.{Entry}
 use Rattle.strat_base.specs.declared.descriptors.ArrayDesc.{ArrayDesc}
 use Rattle.strat_base.specs.declared.descriptors.LevelDesc.{LevelDesc}
-use Rattle.strat_crash.specs.Image.{Image}
-use Rattle.strat_format.specs.Arrays.{blocks_of, entries_on}
+use Rattle.def_crash.specs.Image.{Image}
+use Rattle.def_bytes.specs.Arrays.{blocks_of, entries_on}
 use Rattle.strat_merge.specs.MergerFields.{views_of, consumed_of}
 use Rattle.strat_merge.specs.Runs.{RunView, head_at, blocks_left, NoneLeft}
-use Rattle.strat_plan.specs.Groups.{SplitsGroups, group_versions, array_of_groups}
-use Rattle.strat_plan.specs.Plan.{Plan, horizon_of}
-use Rattle.strat_promotion.specs.Merging.{Merges}
-use Rattle.strat_state.specs.Counted.{own_at, keys_at}
-use Rattle.strat_state.specs.Level.{TaggedArray}
+use Rattle.def_split.specs.Groups.{SplitsGroups, group_versions, array_of_groups}
+use Rattle.def_split.specs.Plan.{Plan, horizon_of}
+use Rattle.def_promote.specs.Merging.{Merges}
+use Rattle.def_state.specs.Counted.{own_at, keys_at}
+use Rattle.def_state.specs.Level.{TaggedArray}
 use Rattle.strat_promote.specs.Counted.{AreReadOf, IsCounter, IsCounting}
 use Rattle.strat_promote.specs.InputFields.{input_seen}
 use Rattle.strat_promote.specs.Job.{Job, runs_in, input_count, blocks_listed, groups_kept}

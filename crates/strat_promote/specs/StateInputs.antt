@@ -3,16 +3,16 @@ use Rattle.std.specs.Prelude.{◌≡◌, ◌≤◌, ℕ, ◌+◌, ◌^◌, ◌==
 use Rattle.std.specs.List.{filter_map, sum}
 use Rattle.std.specs.Option.{option_to_list}
 use Rattle.strat_base.specs.declared.descriptors.LevelDesc.{LevelDesc}
-use Rattle.strat_crash.specs.Image.{Image}
-use Rattle.strat_format.specs.Arrays.{all_some}
+use Rattle.def_crash.specs.Image.{Image}
+use Rattle.def_bytes.specs.Arrays.{all_some}
 use Rattle.strat_level.specs.Levels.{level_numbered}
 use Rattle.strat_level.specs.Memtable.{entries_held}
 use Rattle.strat_live.specs.Counting.{SameParents}
-use Rattle.strat_promotion.specs.Promoted.{levels_behind}
-use Rattle.strat_recovery.specs.Opened.{level_on}
-use Rattle.strat_state.specs.Level.{Level}
-use Rattle.strat_state.specs.Setting.{set_all}
-use Rattle.strat_state.specs.State.{State, versions_of, journal_updates, IsPaid}
+use Rattle.def_promote.specs.Promoted.{levels_behind}
+use Rattle.def_recovery.specs.Opened.{level_on}
+use Rattle.def_state.specs.Level.{Level}
+use Rattle.def_state.specs.Setting.{set_all}
+use Rattle.def_state.specs.State.{State, versions_of, journal_updates, IsPaid}
 use Rattle.strat_promote.specs.Job.{Job, arrays_to}
 use Rattle.strat_promote.specs.Promotions.{IsBegun, entries_if_any, leads_listed}
 use Rattle.strat_promote.specs.Steps.{Inputs}

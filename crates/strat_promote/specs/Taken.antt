@@ -13,7 +13,7 @@ use Rattle.strat_live.specs.Counting.{are_below}
 use Rattle.strat_live.specs.Group.{is_descending}
 use Rattle.strat_merge.specs.Gathered.{TakesNext, are_under}
 use Rattle.strat_merge.specs.Runs.{RunView, head_at}
-use Rattle.strat_promotion.specs.Purge.{purged}
+use Rattle.def_promote.specs.Purge.{purged}
 
 -- the items of a key that runs had left, on whatever disk: some run began with the key and none before it, and
 -- afterwards each begins behind it

@@ -4,17 +4,17 @@ use Rattle.std.specs.List.{slice_get}
 use Rattle.strat_array.specs.Progress.{ArrayProgress}
 use Rattle.strat_array.specs.Pushed.{IsPushed}
 use Rattle.strat_base.specs.Entries.{Entry}
-use Rattle.strat_crash.specs.Faults.{HasCause}
-use Rattle.strat_crash.specs.Image.{Image}
-use Rattle.strat_crash.specs.Moments.{DiskView, Exposes}
+use Rattle.def_crash.specs.Faults.{HasCause}
+use Rattle.def_crash.specs.Image.{Image}
+use Rattle.def_crash.specs.Moments.{DiskView, Exposes}
 use Rattle.strat_merge.specs.Gathered.{are_under}
 use Rattle.strat_merge.specs.MergerFields.{consumed_of, views_of, IsUnspent}
 use Rattle.strat_merge.specs.Runs.{RunView, head_at, blocks_left, ReadsLeft, IsBadFor}
-use Rattle.strat_plan.specs.Groups.{group_versions}
-use Rattle.strat_plan.specs.Plan.{IsSplit}
-use Rattle.strat_promotion.specs.Merging.{Merges}
+use Rattle.def_split.specs.Groups.{group_versions}
+use Rattle.def_split.specs.Plan.{IsSplit}
+use Rattle.def_promote.specs.Merging.{Merges}
 use Rattle.strat_split.specs.PlanSeen.{plan_seen}
-use Rattle.strat_state.specs.Counted.{own_at, keys_at}
+use Rattle.def_state.specs.Counted.{own_at, keys_at}
 use Rattle.strat_promote.specs.Counted.{AreRunsOf}
 use Rattle.strat_promote.specs.Filled.{AreReadyFor, IsFilling}
 use Rattle.strat_promote.specs.Job.{Job, runs_in, input_count, groups_kept, part_content}

@@ -1,8 +1,8 @@
 //! The first pass: the groups are counted.
 
 ghost use Rattle.std.specs.Prelude.{◌≡◌, ◌<◌, ◌≤◌, ◌+◌, ℕ, List, length, true, false, IfOk, OnOk, OnErr, IsErrOf, IsTrue};
-ghost use Rattle.strat_crash.specs.Image.{Image};
-ghost use Rattle.strat_crash.specs.Moments.{Exposes};
+ghost use Rattle.def_crash.specs.Image.{Image};
+ghost use Rattle.def_crash.specs.Moments.{Exposes};
 ghost use Rattle.strat_merge.specs.MergerFields.{runs_merged, consumed_of};
 ghost use Rattle.strat_merge.specs.Reading.{ReadsRuns};
 ghost use Rattle.strat_promote.specs.Budget.{TakesSome};

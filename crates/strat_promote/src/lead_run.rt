@@ -4,9 +4,9 @@ ghost use Rattle.std.specs.List.{Contains, slice_get};
 ghost use Rattle.std.specs.Prelude.{◌≡◌, ◌≤◌, ◌<◌, ℕ, true, List, drop, length, Some, IfOk, OnOk, OnErr, IsErrOf, IsTrue};
 ghost use Rattle.strat_base.specs.Entries.{is_ascending, is_tagged, lead_entries};
 ghost use Rattle.strat_base.specs.declared.failures.Fault.TheVariants.{Damaged, Device};
-ghost use Rattle.strat_crash.specs.Faults.{HasCause};
-ghost use Rattle.strat_crash.specs.Image.{Image};
-ghost use Rattle.strat_crash.specs.Moments.{Exposes, OnlyReads};
+ghost use Rattle.def_crash.specs.Faults.{HasCause};
+ghost use Rattle.def_crash.specs.Image.{Image};
+ghost use Rattle.def_crash.specs.Moments.{Exposes, OnlyReads};
 ghost use Rattle.strat_merge.specs.Runs.{IsEntryRun, ReadsFront};
 ghost use Rattle.strat_promote.specs.EntryRunProp.{entry_run_prop};
 ghost use Rattle.strat_promote.specs.LeadRuns.{PassesOver, begins_with_lead, is_settled, leads_from, misfit_from, read_out};
@@ -45,7 +45,7 @@ fn reach_lead<D: Disk>(
     requires { at.old ≤ length blocks.old.entries }
     ensures ok { OnOk result (PassesOver (D.view disk.old) tag.now blocks.old at.old
         blocks.new at.new) }
-    ensures end { IsTrue (is_settled tag.now
+    ensures state { IsTrue (is_settled tag.now
         (drop at.new blocks.new.entries) blocks.new.blocks) }
     ensures fits { at.new ≤ 454 }
     ensures err { OnErr result (blocks.new ≡ read_out) }
@@ -85,8 +85,8 @@ impl LeadRun {
     ghost use Rattle.strat_base.specs.EntryBytes.{fits_fields};
     ghost use Rattle.strat_base.specs.EntryView.{entry_of};
     ghost use Rattle.strat_base.specs.declared.failures.Trouble.TheVariants as trouble;
-    ghost use Rattle.strat_crash.specs.Faults.{ReadsAtMost};
-    ghost use Rattle.strat_format.specs.Arrays.{blocks_of};
+    ghost use Rattle.def_crash.specs.Faults.{ReadsAtMost};
+    ghost use Rattle.def_bytes.specs.Arrays.{blocks_of};
     ghost use Rattle.strat_merge.specs.Runs.{Advances};
     ghost use Rattle.strat_promote.specs.LeadFields.{lead_run_seen};
     ghost use Rattle.strat_promote.specs.Leads.{leads_in, misfit_in};

@@ -1,9 +1,9 @@
 //! One group of the second pass.
 
 ghost use Rattle.std.specs.Prelude.{◌≡◌, ◌≤◌, ◌+◌, ◌^◌, ℕ, List, length, true, false, IfOk, OnOk, IsErrOf, IsTrue};
-ghost use Rattle.strat_crash.specs.Blocks.{TearsBlocks};
-ghost use Rattle.strat_crash.specs.Image.{Image};
-ghost use Rattle.strat_crash.specs.Moments.{Exposes};
+ghost use Rattle.def_crash.specs.Blocks.{TearsBlocks};
+ghost use Rattle.def_crash.specs.Image.{Image};
+ghost use Rattle.def_crash.specs.Moments.{Exposes};
 ghost use Rattle.strat_extent.specs.Blocks.{is_free, used_count};
 ghost use Rattle.strat_array.specs.Taking.{AreUsed};
 ghost use Rattle.strat_merge.specs.MergerFields.{consumed_of};

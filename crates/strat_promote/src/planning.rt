@@ -5,11 +5,11 @@ ghost use Rattle.std.specs.Prelude.{◌≡◌, ◌<◌, ◌≤◌, ◌+◌, ◌^
 ghost use Rattle.strat_array.specs.Progress.{ArrayProgress};
 ghost use Rattle.strat_base.specs.Tree.{Parents};
 ghost use Rattle.strat_live.specs.Counting.{IsCount, SameParents};
-ghost use Rattle.strat_plan.specs.Plan.{IsSplit};
+ghost use Rattle.def_split.specs.Plan.{IsSplit};
 ghost use Rattle.strat_promote.specs.Filled.{IsFilling};
 ghost use Rattle.strat_promote.specs.Planning.{AreNew};
 ghost use Rattle.strat_split.specs.PlanSeen.{plan_seen};
-ghost use Rattle.strat_state.specs.Counted.{own_at, keys_at};
+ghost use Rattle.def_state.specs.Counted.{own_at, keys_at};
 
 use crate::writing::Filling;
 use std::alloc::Global;

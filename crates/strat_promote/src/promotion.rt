@@ -3,10 +3,10 @@
 ghost use Rattle.std.specs.List.{sum};
 ghost use Rattle.std.specs.Prelude.{◌≡◌, ◌<◌, ◌≤◌, ◌+◌, ◌*◌, ◌^◌, ℕ, List, [], length, true, IfOk, OnOk, IsErrOf, IsTrue, Contains};
 ghost use Rattle.strat_array.specs.Taking.{AreUsed};
-ghost use Rattle.strat_crash.specs.Blocks.{TearsBlocks};
-ghost use Rattle.strat_crash.specs.Faults.{HasCause};
-ghost use Rattle.strat_crash.specs.Image.{Image};
-ghost use Rattle.strat_crash.specs.Moments.{Exposes};
+ghost use Rattle.def_crash.specs.Blocks.{TearsBlocks};
+ghost use Rattle.def_crash.specs.Faults.{HasCause};
+ghost use Rattle.def_crash.specs.Image.{Image};
+ghost use Rattle.def_crash.specs.Moments.{Exposes};
 ghost use Rattle.strat_extent.specs.Blocks.{is_free};
 ghost use Rattle.strat_promote.specs.declared.obstacle.Obstacle.TheVariants.{Damaged, Device, Unfit};
 

@@ -9,11 +9,11 @@ ghost use Rattle.strat_array.specs.Taking.{AreUsed};
 ghost use Rattle.strat_base.specs.Entries.{Entry as KeyEntry, is_ascending};
 ghost use Rattle.strat_base.specs.EntryBytes.{fits_fields};
 ghost use Rattle.strat_base.specs.EntryView.{entry_of};
-ghost use Rattle.strat_crash.specs.Blocks.{TearsBlocks};
-ghost use Rattle.strat_crash.specs.Image.{Image};
-ghost use Rattle.strat_crash.specs.Moments.{Exposes};
+ghost use Rattle.def_crash.specs.Blocks.{TearsBlocks};
+ghost use Rattle.def_crash.specs.Image.{Image};
+ghost use Rattle.def_crash.specs.Moments.{Exposes};
 ghost use Rattle.strat_extent.specs.Blocks.{is_free, used_count};
-ghost use Rattle.strat_format.specs.Arrays.{blocks_of};
+ghost use Rattle.def_bytes.specs.Arrays.{blocks_of};
 ghost use Rattle.strat_promote.specs.Obstacles.{MeetsObstacle};
 ghost use Rattle.strat_promote.specs.Spaces.{HasFewFree, TakesMore, PushesPart};
 ghost use Rattle.strat_promote.specs.declared.obstacle.Obstacle.TheVariants as obstacle;
@@ -53,7 +53,7 @@ fn push_one<D: Disk>(
     ensures ok { OnOk result ((f g : Image) (es : List KeyEntry) → Exposes (D.view disk.old) f
         → Exposes (D.view disk.new) g → IsPushed f writer.old es
         → IsPushed g writer.new (es ++ entry_of e.now ∷ [])) }
-    ensures end { OnOk result (
+    ensures state { OnOk result (
         writer.new.pending ≡ with_entry writer.old.pending (entry_of e.now)) }
     ensures len { OnOk result (writer.new.count ≡ writer.old.count + 1) }
     ensures fits { IsErrOf result obstacle.Unfit

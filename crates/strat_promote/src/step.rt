@@ -5,13 +5,13 @@ ghost use Rattle.std.specs.Prelude.{◌≡◌, ◌<◌, ◌≤◌, ◌+◌, ◌*
 ghost use Rattle.strat_array.specs.Taking.{AreUsed};
 ghost use Rattle.strat_base.specs.declared.descriptors.ArrayDesc.{ArrayDesc};
 ghost use Rattle.strat_base.specs.declared.failures.Trouble.TheVariants as trouble;
-ghost use Rattle.strat_crash.specs.Blocks.{TearsBlocks};
-ghost use Rattle.strat_crash.specs.Faults.{HasCause};
-ghost use Rattle.strat_crash.specs.Image.{Image};
-ghost use Rattle.strat_crash.specs.Moments.{Exposes};
+ghost use Rattle.def_crash.specs.Blocks.{TearsBlocks};
+ghost use Rattle.def_crash.specs.Faults.{HasCause};
+ghost use Rattle.def_crash.specs.Image.{Image};
+ghost use Rattle.def_crash.specs.Moments.{Exposes};
 ghost use Rattle.strat_extent.specs.Blocks.{is_free};
 ghost use Rattle.strat_level.specs.Memtable.{entries_held, ListStands};
-ghost use Rattle.strat_crash.specs.Moments.{OnlyReads};
+ghost use Rattle.def_crash.specs.Moments.{OnlyReads};
 ghost use Rattle.strat_merge.specs.MergerFields.{views_of, consumed_of};
 ghost use Rattle.strat_merge.specs.Runs.{blocks_left, ReadsLeft};
 ghost use Rattle.strat_promote.specs.Budget.{TakesOneKey};
@@ -82,7 +82,7 @@ pub(crate) enum Step {
 }
 
 /// The runs of the first pass are opened.
-fn begin<D: Disk>(
+fn start_counting<D: Disk>(
     task: &Task,
     desk: &mut Desk,
     sources: &Sources<'_>,
@@ -94,7 +94,7 @@ fn begin<D: Disk>(
         → IsTaskIn f task.now (inputs_of sources.now) job → IsUnderway f job task.now.first stage) }
     ensures none { IfOk result (λ stage. stage_writers stage ≡ []) }
     ensures len { IfOk result (λ stage. stage_consumed stage ≡ 0) }
-    ensures end { IfOk result (λ stage. IsReadFrom
+    ensures state { IfOk result (λ stage. IsReadFrom
         (arrays_to sources.now.levels.now task.now.target) stage) }
     ensures damaged { IfOk result (λ stage. (f : Image) → Exposes (D.view disk.old) f
         → IsReadOf f (arrays_to sources.now.levels.now task.now.target) stage) }
@@ -121,7 +121,7 @@ fn begin<D: Disk>(
 
 /// A group is counted; or where none is left, the runs of the second pass are opened: then the answer is the stage that
 /// begins.
-fn count<D: Disk>(
+fn step_counting<D: Disk>(
     task: &Task,
     counting: &mut Counting<Input>,
     desk: &mut Desk,
@@ -196,7 +196,7 @@ fn count<D: Disk>(
 }
 
 /// The arrays are sealed, and their level is described.
-fn close<D: Disk>(
+fn finish_writing<D: Disk>(
     task: &Task,
     alloc: Global,
     writing: &mut Writing<Input>,
@@ -228,7 +228,7 @@ fn close<D: Disk>(
 }
 
 /// A group is written; or where none is left, the arrays are sealed and their level is described.
-fn write<D: Disk>(
+fn step_writing<D: Disk>(
     task: &Task,
     writing: &mut Writing<Input>,
     desk: &mut Desk,
@@ -280,12 +280,12 @@ fn write<D: Disk>(
     if more {
         return Ok(Step::More);
     }
-    let made = close(task, desk.alloc, writing, space, disk)?;
+    let made = finish_writing(task, desk.alloc, writing, space, disk)?;
     Ok(Step::Made(made))
 }
 
 /// Begins the next stage, if there is one.
-fn turn(stage: &mut Stage, next: Option<Stage>)
+fn enter_stage(stage: &mut Stage, next: Option<Stage>)
     ensures ok { stage.new ≡ unwrap_or next stage.old }
 {
     if let Some(next) = next {
@@ -338,16 +338,16 @@ pub(crate) fn take_step<D: Disk>(
 {
     match stage {
         Stage::Begun => {
-            *stage = begin(task, desk, sources, disk)?;
+            *stage = start_counting(task, desk, sources, disk)?;
             Ok(Step::More)
         }
         Stage::Counting(counting) => {
-            let next = count(task, counting, desk, sources, disk)?;
-            turn(stage, next);
+            let next = step_counting(task, counting, desk, sources, disk)?;
+            enter_stage(stage, next);
             Ok(Step::More)
         }
         Stage::Writing(writing, _) => {
-            let step = write(task, writing, desk, sources, space, disk)?;
+            let step = step_writing(task, writing, desk, sources, space, disk)?;
             Ok(step)
         }
     }

@@ -8,9 +8,9 @@ ghost use Rattle.strat_array.specs.Progress.{ArrayProgress};
 ghost use Rattle.strat_base.specs.Entries.{Entry as KeyEntry, is_of};
 ghost use Rattle.strat_base.specs.Order.{key_cmp};
 ghost use Rattle.strat_base.specs.Tree.{Parents};
-ghost use Rattle.strat_crash.specs.Blocks.{TearsBlocks};
-ghost use Rattle.strat_crash.specs.Image.{Image};
-ghost use Rattle.strat_crash.specs.Moments.{Exposes};
+ghost use Rattle.def_crash.specs.Blocks.{TearsBlocks};
+ghost use Rattle.def_crash.specs.Image.{Image};
+ghost use Rattle.def_crash.specs.Moments.{Exposes};
 ghost use Rattle.strat_extent.specs.Blocks.{is_free, used_count};
 ghost use Rattle.strat_promote.specs.Closing.{AreAllUsed, all_extents};
 ghost use Rattle.strat_promote.specs.Filled.{AreReadyFor, IsDealable, IsFilling, SameFilling, DealsOut};
@@ -57,7 +57,7 @@ pub(crate) fn deal_out<D: Disk>(
         → DealsOut (D.view disk.old) (D.view disk.new) parents filling.old.plan arena.now.pairs
         items.now filling.old.writers.items filling.new.writers.items) }
     ensures kept { OnOk result (IsFilling (length filling.old.plan.part_of) filling.new) }
-    ensures end { OnOk result ((key later : List ℕ)
+    ensures state { OnOk result ((key later : List ℕ)
         → IsTrue (list_all (is_of key) (entries_of arena.now.pairs items.now))
         → AreReadyFor key filling.old.writers.items → IsTrue (is_lt (key_cmp key later))
         → AreReadyFor later filling.new.writers.items) }

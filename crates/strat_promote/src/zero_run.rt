@@ -8,7 +8,7 @@ ghost use Rattle.strat_base.specs.Entries.{Entry as KeyEntry};
 ghost use Rattle.strat_base.specs.EntryBytes.{fits_fields};
 ghost use Rattle.strat_base.specs.Order.{entry_cmp};
 ghost use Rattle.strat_base.specs.EntryView.{entry_of};
-ghost use Rattle.strat_crash.specs.Image.{Image};
+ghost use Rattle.def_crash.specs.Image.{Image};
 ghost use Rattle.strat_level.specs.Memtable.{entries_held, ListStands};
 ghost use Rattle.strat_promote.specs.ZeroFields.{zero_run_seen};
 

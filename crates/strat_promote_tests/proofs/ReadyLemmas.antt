@@ -18,7 +18,7 @@ use Rattle.strat_promote.specs.Job.{arrays_to, AreReadable}
 use Rattle.strat_promote.specs.Opening.{arrays_if_any}
 use Rattle.strat_promote.specs.Promotions.{leads_listed}
 use Rattle.strat_promote.proofs.OpeningLemmas.{level_next}
-use Rattle.strat_state.proofs.LevelLemmas.{tagged_among}
+use Rattle.def_state.proofs.LevelLemmas.{tagged_among}
 use Rattle.strat_promote_tests.specs.Going.{is_short, are_short, is_plain, are_plain, are_plain_levels}
 
 -- a test of all holds of each

@@ -9,34 +9,34 @@ use Rattle.strat_base.proofs.ListFacts.{Among, among_flat, among_left}
 use Rattle.strat_base.specs.declared.descriptors.ArrayDesc.{ArrayDesc}
 use Rattle.strat_base.specs.declared.descriptors.Extent.{Extent}
 use Rattle.strat_base.specs.declared.descriptors.LevelDesc.{LevelDesc}
-use Rattle.strat_crash.proofs.BlockLemmas.{blocks_trans, blocks_wider}
-use Rattle.strat_crash.specs.Blocks.{TearsBlocks}
-use Rattle.strat_crash.specs.Image.{Image}
-use Rattle.strat_crash.specs.Moments.{DiskView, Exposes}
+use Rattle.def_crash.proofs.BlockLemmas.{blocks_trans, blocks_wider}
+use Rattle.def_crash.specs.Blocks.{TearsBlocks}
+use Rattle.def_crash.specs.Image.{Image}
+use Rattle.def_crash.specs.Moments.{DiskView, Exposes}
 use Rattle.strat_extent.proofs.CountLemmas.{times_append}
 use Rattle.strat_extent.specs.Blocks.{SpaceView, is_used, is_free, uses}
 use Rattle.strat_extent.specs.Change.{IsMarked}
-use Rattle.strat_format.specs.Arrays.{all_some, blocks_of}
-use Rattle.strat_format.specs.Manifest.{Manifest, is_rising}
+use Rattle.def_bytes.specs.Arrays.{all_some, blocks_of}
+use Rattle.def_bytes.specs.Manifest.{Manifest, is_rising}
 use Rattle.strat_journal.specs.Log.{Log}
 use Rattle.strat_promote.proofs.SpacesLemmas.{blocks_joined}
 use Rattle.strat_promote.specs.Job.{blocks_listed}
 use Rattle.strat_promote.specs.Promotions.{entries_if_any}
-use Rattle.strat_promotion.specs.Promoted.{levels_behind, promoted}
-use Rattle.strat_recovery.specs.Head.{descriptors}
-use Rattle.strat_recovery.specs.Opened.{level_on}
-use Rattle.strat_standing.proofs.FreeLemmas.{free_stands}
-use Rattle.strat_standing.proofs.ListLemmas.{contained_among}
-use Rattle.strat_standing.proofs.LongLemmas.{bytes_few}
-use Rattle.strat_standing.proofs.NextLemmas.{array_at, arrays_are, changes_bound, entries_made, few_parts, next_lawful}
-use Rattle.strat_standing.proofs.OccupiedLemmas.{free_beside, named_used, taken_beside}
-use Rattle.strat_standing.proofs.PromotedLemmas.{promoted_state, promoted_whole}
-use Rattle.strat_standing.specs.Contents.{Contents, contents_state, named_blocks}
-use Rattle.strat_standing.specs.Next.{IsNextOf, MayBeNext, HasManifest, arrays_made}
-use Rattle.strat_standing.specs.Occupied.{IsSpaceOf, UsesMore, extents_of, arrays_in}
-use Rattle.strat_standing.specs.Standing.{ContentsStand, LeavesContent}
-use Rattle.strat_state.specs.Sound.{IsSound}
-use Rattle.strat_state.specs.State.{State, IsPaid}
+use Rattle.def_promote.specs.Promoted.{levels_behind, promoted}
+use Rattle.def_recovery.specs.Head.{descriptors}
+use Rattle.def_recovery.specs.Opened.{level_on}
+use Rattle.def_publish.proofs.FreeLemmas.{free_stands}
+use Rattle.def_publish.proofs.ListLemmas.{contained_among}
+use Rattle.def_publish.proofs.LongLemmas.{bytes_few}
+use Rattle.def_publish.proofs.NextLemmas.{array_at, arrays_are, changes_bound, entries_made, few_parts, next_lawful}
+use Rattle.def_publish.proofs.OccupiedLemmas.{free_beside, named_used, taken_beside}
+use Rattle.def_publish.proofs.PromotedLemmas.{promoted_state, promoted_whole}
+use Rattle.def_publish.specs.Contents.{Contents, contents_state, named_blocks}
+use Rattle.def_publish.specs.Next.{IsNextOf, MayBeNext, HasManifest, arrays_made}
+use Rattle.def_publish.specs.Occupied.{IsSpaceOf, UsesMore, extents_of, arrays_in}
+use Rattle.def_publish.specs.Standing.{ContentsStand, LeavesContent}
+use Rattle.def_state.specs.Sound.{IsSound}
+use Rattle.def_state.specs.State.{State, IsPaid}
 use Rattle.strat_cursor.specs.Looking.{arrays_there}
 use Rattle.strat_memory.specs.Memory.{Memory}
 use Rattle.strat_publish.specs.Promoting.{HoldInMemory, IsPromotedTo}

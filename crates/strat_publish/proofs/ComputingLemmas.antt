@@ -2,7 +2,7 @@
 use Rattle.std.proofs.Common.{◌≡◌, ◌<◌, ◌+◌, ℕ, zero, suc, List, [], ◌∷◌, ◌++◌, length, take, None, Some, refl, ap, ◌∙◌, arith}
 use Rattle.std.specs.Option.{option_to_list}
 use Rattle.strat_base.specs.Tree.{Parents, parent_of}
-use Rattle.strat_recovery.specs.Head.{parent_numbers}
+use Rattle.def_recovery.specs.Head.{parent_numbers}
 
 -- one more version's parent
 pub parent_next : (ps : Parents) (v : ℕ) → v < length ps → parent_numbers (take (v + 1) ps) ≡ parent_numbers (take v ps) ++ option_to_list (parent_of ps v)

@@ -10,17 +10,17 @@ use Rattle.strat_array.proofs.OrderLemmas.{filter_each, filter_none}
 use Rattle.strat_base.proofs.ListFacts.{Among, among_right, range_among}
 use Rattle.strat_base.specs.declared.descriptors.ArrayDesc.{ArrayDesc}
 use Rattle.strat_base.specs.declared.descriptors.LevelDesc.{LevelDesc}
-use Rattle.strat_crash.specs.Moments.{DiskView}
-use Rattle.strat_format.specs.Chained.{Chained}
-use Rattle.strat_format.specs.Manifest.{Manifest}
-use Rattle.strat_format.specs.SuperBlock.{Super}
-use Rattle.strat_plan.proofs.ListLemmas.{among_map}
-use Rattle.strat_recovery.specs.Head.{descriptors}
-use Rattle.strat_standing.proofs.FreeLemmas.{free_reads}
-use Rattle.strat_standing.proofs.ListLemmas.{contained_among, among_contained}
-use Rattle.strat_standing.specs.Contents.{Contents, contents_state}
-use Rattle.strat_standing.specs.Next.{arrays_made}
-use Rattle.strat_state.specs.State.{IsPaid}
+use Rattle.def_crash.specs.Moments.{DiskView}
+use Rattle.def_bytes.specs.Chained.{Chained}
+use Rattle.def_bytes.specs.Manifest.{Manifest}
+use Rattle.def_bytes.specs.SuperBlock.{Super}
+use Rattle.def_split.proofs.ListLemmas.{among_map}
+use Rattle.def_recovery.specs.Head.{descriptors}
+use Rattle.def_publish.proofs.FreeLemmas.{free_reads}
+use Rattle.def_publish.proofs.ListLemmas.{contained_among, among_contained}
+use Rattle.def_publish.specs.Contents.{Contents, contents_state}
+use Rattle.def_publish.specs.Next.{arrays_made}
+use Rattle.def_state.specs.State.{IsPaid}
 use Rattle.strat_publish.proofs.WholeLemmas.{whole_read}
 use Rattle.strat_publish.proofs.SettledLemmas.{free_here, next_arrays}
 use Rattle.strat_publish.proofs.SettlingLemmas.{listed_arrays}

@@ -10,8 +10,8 @@ use Rattle.strat_base.proofs.ListFacts.{Among, all_at, among_flat, among_in_flat
 use Rattle.strat_base.specs.declared.descriptors.ArrayDesc.{ArrayDesc}
 use Rattle.strat_base.specs.declared.descriptors.Extent.{Extent}
 use Rattle.strat_base.specs.declared.descriptors.LevelDesc.{LevelDesc}
-use Rattle.strat_crash.specs.Blocks.{AgreeOn, KeepsTaken}
-use Rattle.strat_crash.specs.Image.{Image}
+use Rattle.def_crash.specs.Blocks.{AgreeOn, KeepsTaken}
+use Rattle.def_crash.specs.Image.{Image}
 use Rattle.strat_cursor.proofs.RetiredLemmas.{named_id, retired_from, retired_ids, retired_kept, retired_rest, retired_there}
 use Rattle.strat_cursor.specs.Cursors.{are_named, arrays_named, is_array_named, retired_all}
 use Rattle.strat_cursor.specs.Held.{HeldCursor, HeldCursors}
@@ -19,24 +19,24 @@ use Rattle.strat_cursor.specs.Looking.{arrays_there}
 use Rattle.strat_extent.proofs.BlockLemmas.{times_listed}
 use Rattle.strat_extent.proofs.CountLemmas.{times_append}
 use Rattle.strat_extent.specs.Blocks.{SpaceView, is_used, times_in, uses}
-use Rattle.strat_format.proofs.ManifestLemmas.{pass_at}
-use Rattle.strat_format.specs.Arrays.{blocks_of}
-use Rattle.strat_format.specs.Chained.{Chained}
-use Rattle.strat_format.specs.Layout.{first_free, newest_format}
-use Rattle.strat_format.specs.Manifest.{Manifest, is_lawful_manifest, versions_in}
-use Rattle.strat_format.specs.SuperBlock.{Super}
-use Rattle.strat_plan.proofs.ListLemmas.{among_map, map_among, distinct_append}
+use Rattle.def_bytes.proofs.ManifestLemmas.{pass_at}
+use Rattle.def_bytes.specs.Arrays.{blocks_of}
+use Rattle.def_bytes.specs.Chained.{Chained}
+use Rattle.def_bytes.specs.Layout.{first_free, newest_format}
+use Rattle.def_bytes.specs.Manifest.{Manifest, is_lawful_manifest, versions_in}
+use Rattle.def_bytes.specs.SuperBlock.{Super}
+use Rattle.def_split.proofs.ListLemmas.{among_map, map_among, distinct_append}
 use Rattle.strat_promote.specs.Job.{blocks_listed}
-use Rattle.strat_recovery.proofs.OpeningLemmas.{manifest_tests}
-use Rattle.strat_recovery.proofs.PassedLemmas.{array_tests, belonging_tests}
-use Rattle.strat_recovery.specs.Head.{descriptors}
-use Rattle.strat_recovery.specs.Opening.{belongs}
-use Rattle.strat_standing.proofs.ListLemmas.{contained_among, among_contained}
-use Rattle.strat_standing.proofs.OccupiedLemmas.{named_times}
-use Rattle.strat_standing.specs.Contents.{Contents, named_blocks}
-use Rattle.strat_standing.specs.Next.{arrays_made}
-use Rattle.strat_standing.specs.Occupied.{IsSpaceOf, UsesMore, arrays_in, extents_of}
-use Rattle.strat_state.specs.Level.{is_distinct}
+use Rattle.def_recovery.proofs.OpeningLemmas.{manifest_tests}
+use Rattle.def_recovery.proofs.PassedLemmas.{array_tests, belonging_tests}
+use Rattle.def_recovery.specs.Head.{descriptors}
+use Rattle.def_recovery.specs.Opening.{belongs}
+use Rattle.def_publish.proofs.ListLemmas.{contained_among, among_contained}
+use Rattle.def_publish.proofs.OccupiedLemmas.{named_times}
+use Rattle.def_publish.specs.Contents.{Contents, named_blocks}
+use Rattle.def_publish.specs.Next.{arrays_made}
+use Rattle.def_publish.specs.Occupied.{IsSpaceOf, UsesMore, arrays_in, extents_of}
+use Rattle.def_state.specs.Level.{is_distinct}
 use Rattle.strat_memory.proofs.AdmitLemmas.{extents_lawful}
 use Rattle.strat_memory.proofs.IdLemmas.{ids}
 use Rattle.strat_publish.proofs.NextContentsLemmas.{numbers_rise, parted}

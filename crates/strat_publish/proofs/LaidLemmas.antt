@@ -5,27 +5,27 @@ use Rattle.std.proofs.lemmas.Bool.{cases_lt, le-ltb, ltb-false}
 use Rattle.strat_base.specs.declared.descriptors.Extent.{Extent}
 use Rattle.strat_base.specs.declared.descriptors.LevelDesc.{LevelDesc}
 use Rattle.strat_base.proofs.ListFacts.{among_left}
-use Rattle.strat_crash.specs.Blocks.{KeepsTaken}
-use Rattle.strat_crash.specs.Image.{Image, SameIn}
-use Rattle.strat_crash.specs.Moments.{DiskView, Exposes, Images, Passes, TearsOnly, OnlyReads, IsDurable}
-use Rattle.strat_crash.proofs.ImageLemmas.{outside_same}
-use Rattle.strat_crash.proofs.MomentLemmas.{now_since_start, settled_at, at_told}
-use Rattle.strat_format.specs.Arrays.{blocks_of}
-use Rattle.strat_format.specs.Chained.{Chained, manifest_at}
-use Rattle.strat_format.specs.Layout.{region_at, first_free, newest_format}
-use Rattle.strat_format.specs.Manifest.{Manifest, manifest_bytes, is_lawful_manifest}
-use Rattle.strat_format.specs.SuperBlock.{Super, newest_in}
-use Rattle.strat_format.proofs.ChainLemmas.{chain_read}
+use Rattle.def_crash.specs.Blocks.{KeepsTaken}
+use Rattle.def_crash.specs.Image.{Image, SameIn}
+use Rattle.def_crash.specs.Moments.{DiskView, Exposes, Images, Passes, TearsOnly, OnlyReads, IsDurable}
+use Rattle.def_crash.proofs.ImageLemmas.{outside_same}
+use Rattle.def_crash.proofs.MomentLemmas.{now_since_start, settled_at, at_told}
+use Rattle.def_bytes.specs.Arrays.{blocks_of}
+use Rattle.def_bytes.specs.Chained.{Chained, manifest_at}
+use Rattle.def_bytes.specs.Layout.{region_at, first_free, newest_format}
+use Rattle.def_bytes.specs.Manifest.{Manifest, manifest_bytes, is_lawful_manifest}
+use Rattle.def_bytes.specs.SuperBlock.{Super, newest_in}
+use Rattle.def_bytes.proofs.ChainLemmas.{chain_read}
 use Rattle.strat_gate.specs.Laying.{LaysOver}
 use Rattle.strat_promote.specs.Job.{blocks_listed}
-use Rattle.strat_recovery.specs.Head.{descriptors}
-use Rattle.strat_recovery.specs.Opening.{belongs}
-use Rattle.strat_standing.specs.Contents.{Contents, named_blocks}
-use Rattle.strat_standing.specs.Next.{HasManifest}
-use Rattle.strat_standing.specs.Standing.{LeavesContent}
-use Rattle.strat_standing.proofs.ListLemmas.{among_contained}
-use Rattle.strat_standing.proofs.LocalLemmas.{manifest_local}
-use Rattle.strat_standing.proofs.PlaceLemmas.{places, newest_chosen, newest_local}
+use Rattle.def_recovery.specs.Head.{descriptors}
+use Rattle.def_recovery.specs.Opening.{belongs}
+use Rattle.def_publish.specs.Contents.{Contents, named_blocks}
+use Rattle.def_publish.specs.Next.{HasManifest}
+use Rattle.def_publish.specs.Standing.{LeavesContent}
+use Rattle.def_publish.proofs.ListLemmas.{among_contained}
+use Rattle.def_publish.proofs.LocalLemmas.{manifest_local}
+use Rattle.def_publish.proofs.PlaceLemmas.{places, newest_chosen, newest_local}
 use Rattle.strat_memory.specs.Held.{Held, IsConsistent, IsOnDisk, contents_held}
 use Rattle.strat_publish.specs.Publishing.{IsWrittenTo, LaysSuperblock, WritesManifest}
 use Rattle.strat_publish.specs.Settling.{KeepsPublished, WritesBeside, held_next}

@@ -2,19 +2,19 @@
 use Rattle.std.proofs.Common.{◌≡◌, inl, inr, List, [], ◌∷◌, Option, Some, refl, ap, ◌∙◌, subst}
 use Rattle.std.specs.List.{list_all}
 use Rattle.strat_base.proofs.ListFacts.{Among, all_at, among_flat}
-use Rattle.strat_standing.proofs.ListLemmas.{contained_among}
+use Rattle.def_publish.proofs.ListLemmas.{contained_among}
 use Rattle.strat_base.specs.Entries.{is_ascending}
 use Rattle.strat_base.specs.declared.descriptors.LevelDesc.{LevelDesc}
-use Rattle.strat_crash.specs.Image.{Image}
-use Rattle.strat_format.specs.Arrays.{all_some, blocks_of, entries_on}
-use Rattle.strat_recovery.proofs.HeadLemmas.{state_with}
-use Rattle.strat_recovery.proofs.OpeningLemmas.{map_some, each_some}
-use Rattle.strat_recovery.specs.Head.{Head, descriptors}
-use Rattle.strat_recovery.specs.Opened.{array_on, level_on}
-use Rattle.strat_recovery.specs.Opening.{state_of}
-use Rattle.strat_state.specs.Level.{TaggedArray, Level}
-use Rattle.strat_state.specs.Sound.{IsSound, has_ascending_entries}
-use Rattle.strat_state.specs.State.{State}
+use Rattle.def_crash.specs.Image.{Image}
+use Rattle.def_bytes.specs.Arrays.{all_some, blocks_of, entries_on}
+use Rattle.def_recovery.proofs.HeadLemmas.{state_with}
+use Rattle.def_recovery.proofs.OpeningLemmas.{map_some, each_some}
+use Rattle.def_recovery.specs.Head.{Head, descriptors}
+use Rattle.def_recovery.specs.Opened.{array_on, level_on}
+use Rattle.def_recovery.specs.Opening.{state_of}
+use Rattle.def_state.specs.Level.{TaggedArray, Level}
+use Rattle.def_state.specs.Sound.{IsSound, has_ascending_entries}
+use Rattle.def_state.specs.State.{State}
 use Rattle.strat_cursor.specs.Looking.{AreInOrder}
 
 -- what an image makes of an item of a list is in the list that it makes

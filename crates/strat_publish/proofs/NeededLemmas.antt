@@ -7,7 +7,7 @@ use Rattle.strat_base.proofs.ListFacts.{Among, all_at, all_from, among_in_flat, 
 use Rattle.strat_base.specs.declared.descriptors.ArrayDesc.{ArrayDesc}
 use Rattle.strat_cursor.proofs.RetiredLemmas.{named_id, retired_rest}
 use Rattle.strat_cursor.specs.Cursors.{CursorOver, CursorsOver, are_named, arrays_named, is_array_named, retired_all, those_named}
-use Rattle.strat_standing.proofs.ListLemmas.{among_contained}
+use Rattle.def_publish.proofs.ListLemmas.{among_contained}
 
 -- one more
 all_more : (p : ArrayDesc → Bool) (xs : List ArrayDesc) (x : ArrayDesc) → list_all p xs ≡ true → p x ≡ true → list_all p (xs ++ x ∷ []) ≡ true

@@ -5,39 +5,39 @@ use Rattle.std.proofs.Math.Seq.{drop-append_seam}
 use Rattle.std.proofs.lemmas.Bool.{and_parts, cases_lt, lt-leb, le-leb, lt-ltb, le-ltb, ltb-true, not-true, eqb-true}
 use Rattle.strat_base.specs.declared.descriptors.Extent.{Extent}
 use Rattle.strat_base.specs.declared.descriptors.LevelDesc.{LevelDesc}
-use Rattle.strat_crash.specs.Image.{Image}
-use Rattle.strat_crash.specs.Moments.{DiskView}
+use Rattle.def_crash.specs.Image.{Image}
+use Rattle.def_crash.specs.Moments.{DiskView}
 use Rattle.strat_extent.specs.Blocks.{SpaceView, is_free}
-use Rattle.strat_format.specs.Arrays.{all_some}
-use Rattle.strat_format.specs.Manifest.{Manifest, is_lawful_manifest, is_rising}
-use Rattle.strat_format.proofs.ManifestLemmas.{pass_at}
+use Rattle.def_bytes.specs.Arrays.{all_some}
+use Rattle.def_bytes.specs.Manifest.{Manifest, is_lawful_manifest, is_rising}
+use Rattle.def_bytes.proofs.ManifestLemmas.{pass_at}
 use Rattle.strat_journal.specs.Log.{Log}
-use Rattle.strat_promotion.specs.Promoted.{levels_behind, promoted, SaysTheSame}
-use Rattle.strat_recovery.proofs.OpeningLemmas.{each_some, map_some, manifest_tests}
-use Rattle.strat_recovery.specs.Head.{parent_numbers}
-use Rattle.strat_recovery.specs.Opened.{array_on, level_on}
-use Rattle.strat_standing.proofs.ComputedLemmas.{promotion_next}
-use Rattle.strat_standing.proofs.FreeLemmas.{free_stands}
-use Rattle.strat_standing.proofs.LocalLemmas.{levels_local}
-use Rattle.strat_standing.proofs.PlaceLemmas.{newest_fits}
-use Rattle.strat_standing.proofs.PromotedLemmas.{none_later, promoted_whole, sealed_whole}
-use Rattle.strat_standing.proofs.OccupiedLemmas.{array_blocks_used, taken_beside, free_beside}
-use Rattle.strat_standing.specs.Appending.{IsLogOf}
-use Rattle.strat_standing.specs.Contents.{Contents, contents_head, contents_state}
+use Rattle.def_promote.specs.Promoted.{levels_behind, promoted, SaysTheSame}
+use Rattle.def_recovery.proofs.OpeningLemmas.{each_some, map_some, manifest_tests}
+use Rattle.def_recovery.specs.Head.{parent_numbers}
+use Rattle.def_recovery.specs.Opened.{array_on, level_on}
+use Rattle.def_publish.proofs.ComputedLemmas.{promotion_next}
+use Rattle.def_publish.proofs.FreeLemmas.{free_stands}
+use Rattle.def_publish.proofs.LocalLemmas.{levels_local}
+use Rattle.def_publish.proofs.PlaceLemmas.{newest_fits}
+use Rattle.def_publish.proofs.PromotedLemmas.{none_later, promoted_whole, sealed_whole}
+use Rattle.def_publish.proofs.OccupiedLemmas.{array_blocks_used, taken_beside, free_beside}
+use Rattle.def_publish.specs.Appending.{IsLogOf}
+use Rattle.def_publish.specs.Contents.{Contents, contents_head, contents_state}
 use Rattle.strat_promote.specs.Replacing.{LeavesTheSame}
-use Rattle.strat_standing.specs.Next.{AreNewArrays, IsNextOf, IsPromotion, MayBeNext, arrays_made, state_after}
-use Rattle.strat_standing.specs.Occupied.{IsSpaceOf, extents_of}
-use Rattle.strat_standing.specs.Standing.{ContentsStand, ReadsAs}
-use Rattle.strat_state.specs.Level.{Level}
-use Rattle.strat_state.specs.Sound.{IsSound, is_tree, is_tree_from}
-use Rattle.strat_state.specs.State.{changes_of, updates_of, versions_of, marks_of}
+use Rattle.def_publish.specs.Next.{AreNewArrays, IsNextOf, IsPromotion, MayBeNext, arrays_made, state_after}
+use Rattle.def_publish.specs.Occupied.{IsSpaceOf, extents_of}
+use Rattle.def_publish.specs.Standing.{ContentsStand, ReadsAs}
+use Rattle.def_state.specs.Level.{Level}
+use Rattle.def_state.specs.Sound.{IsSound, is_tree, is_tree_from}
+use Rattle.def_state.specs.State.{changes_of, updates_of, versions_of, marks_of}
 use Rattle.strat_memory.specs.Memory.{Memory, IsMemoryOf}
 use Rattle.strat_publish.specs.Publishing.{IsComputed, IsWrittenBeside, contents_after, descs_to, descs_behind}
-use Rattle.strat_format.specs.Layout.{newest_format}
+use Rattle.def_bytes.specs.Layout.{newest_format}
 use Rattle.strat_base.specs.Marks.{Marks, none_dropped}
 use Rattle.strat_base.specs.Tree.{Parents}
-use Rattle.strat_state.proofs.SoundLemmas.{sound_tree, sound_pruned}
-use Rattle.strat_promotion.proofs.LevelsLemmas.{tree_test}
+use Rattle.def_state.proofs.SoundLemmas.{sound_tree, sound_pruned}
+use Rattle.def_promote.proofs.LevelsLemmas.{tree_test}
 
 rising_behind : (n : ℕ) (ns : List ℕ) → is_rising (n ∷ ns) ≡ true → is_rising ns ≡ true
 rising_behind n [] rising = refl

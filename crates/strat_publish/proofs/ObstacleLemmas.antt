@@ -4,7 +4,7 @@ use Rattle.std.specs.Prelude.{IsErrOf}
 use Rattle.std.proofs.lemmas.Result.{err_from_is_err_and}
 use Rattle.strat_base.specs.declared.failures.Trouble.{Trouble}
 use Rattle.strat_base.specs.declared.failures.Trouble.TheVariants as trouble
-use Rattle.strat_crash.specs.Faults.{HasCause}
+use Rattle.def_crash.specs.Faults.{HasCause}
 use Rattle.strat_promote.specs.Obstacles.{as_obstacle, told_as}
 use Rattle.strat_promote.specs.declared.obstacle.Obstacle.{Obstacle}
 use Rattle.strat_promote.specs.declared.obstacle.Obstacle.TheVariants.{NoMemory, Device, Damaged, Unfit}

@@ -18,10 +18,10 @@ use Rattle.strat_base.specs.Tree.{Parents, IsTree, parent_of}
 use Rattle.strat_base.specs.declared.descriptors.ArrayDesc.{ArrayDesc}
 use Rattle.strat_base.specs.declared.descriptors.Extent.{Extent}
 use Rattle.strat_base.specs.declared.descriptors.LevelDesc.{LevelDesc}
-use Rattle.strat_crash.proofs.BlockLemmas.{keeps_refl}
-use Rattle.strat_crash.specs.Image.{Image}
+use Rattle.def_crash.proofs.BlockLemmas.{keeps_refl}
+use Rattle.def_crash.specs.Image.{Image}
 use Rattle.strat_extent.specs.Blocks.{SpaceView, times_in, used_count}
-use Rattle.strat_format.specs.Arrays.{blocks_of}
+use Rattle.def_bytes.specs.Arrays.{blocks_of}
 use Rattle.strat_level.specs.Levels.{level_numbered, leads_if_any}
 use Rattle.strat_level.specs.Memtable.{ItemList, ListStands, entries_held}
 use Rattle.strat_promote.proofs.ReplacingLemmas.{made_arrays, made_promotes}
@@ -37,16 +37,16 @@ use Rattle.strat_promote.specs.Steps.{Inputs}
 use Rattle.strat_promote.specs.declared.promotion.Promotion.{Promotion}
 use Rattle.strat_promote.specs.declared.stage.Stage.{Stage}
 use Rattle.strat_promote.specs.declared.step.Task.{Task}
-use Rattle.strat_promotion.specs.Promoted.{levels_to, levels_behind}
-use Rattle.strat_standing.proofs.PartLemmas.{arrays_new}
-use Rattle.strat_standing.specs.Next.{AreArraysOf, arrays_made}
-use Rattle.strat_standing.specs.Occupied.{UsesMore, extents_of}
-use Rattle.strat_state.specs.Sound.{IsSound}
-use Rattle.strat_state.specs.State.{State, versions_of}
+use Rattle.def_promote.specs.Promoted.{levels_to, levels_behind}
+use Rattle.def_publish.proofs.PartLemmas.{arrays_new}
+use Rattle.def_publish.specs.Next.{AreArraysOf, arrays_made}
+use Rattle.def_publish.specs.Occupied.{UsesMore, extents_of}
+use Rattle.def_state.specs.Sound.{IsSound}
+use Rattle.def_state.specs.State.{State, versions_of}
 use Rattle.strat_cursor.specs.Looking.{arrays_there}
 use Rattle.strat_memory.specs.Memory.{Memory}
 use Rattle.strat_publish.specs.Promoting.{MayPromote, HoldInMemory, IsPromotedTo}
-use Rattle.strat_state.proofs.SoundLemmas.{ordered}
+use Rattle.def_state.proofs.SoundLemmas.{ordered}
 
 -- the arrays of the levels down to a number stand in front of the others
 pub to_front : (levels : List (Option LevelDesc)) (j : ℕ) → (rest : List ArrayDesc) × (arrays_there levels ≡ arrays_to levels j ++ rest)

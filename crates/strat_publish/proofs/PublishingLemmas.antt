@@ -1,27 +1,27 @@
 -- A publication of a store: the sync, the laying of the next superblock, and the turn of the journal.
 use Rattle.std.proofs.Common.{◌≡◌, ◌≤◌, ◌<◌, ◌+◌, ◌*◌, ℕ, false, inl, inr, [], ◌∷◌, Some, Ok, refl, sym, subst, arith}
 use Rattle.std.proofs.lemmas.Bool.{ltb-false}
-use Rattle.strat_crash.specs.Blocks.{TearsBlocks}
-use Rattle.strat_crash.specs.Image.{Image}
-use Rattle.strat_crash.specs.Moments.{DiskView, Exposes, Images, Since, Passes, TearsOnly, OnlyReads, IsDurable}
-use Rattle.strat_crash.specs.Trail.{Trail}
-use Rattle.strat_crash.proofs.BlockLemmas.{reads_tear_none}
-use Rattle.strat_crash.proofs.MomentLemmas.{now_since_start, settled_at, at_told}
-use Rattle.strat_format.specs.Layout.{region_at, first_free}
-use Rattle.strat_format.specs.SuperBlock.{Super, newest_in}
+use Rattle.def_crash.specs.Blocks.{TearsBlocks}
+use Rattle.def_crash.specs.Image.{Image}
+use Rattle.def_crash.specs.Moments.{DiskView, Exposes, Images, Since, Passes, TearsOnly, OnlyReads, IsDurable}
+use Rattle.def_crash.specs.Trail.{Trail}
+use Rattle.def_crash.proofs.BlockLemmas.{reads_tear_none}
+use Rattle.def_crash.proofs.MomentLemmas.{now_since_start, settled_at, at_told}
+use Rattle.def_bytes.specs.Layout.{region_at, first_free}
+use Rattle.def_bytes.specs.SuperBlock.{Super, newest_in}
 use Rattle.strat_gate.specs.Laying.{LaysOver, OldOrNew}
 use Rattle.strat_journal.specs.Log.{Log, region_turned, IsRegionShut}
-use Rattle.strat_recovery.specs.StateTable.{table_of}
-use Rattle.strat_standing.specs.Appending.{IsLogOf}
-use Rattle.strat_standing.specs.Contents.{Contents, contents_state}
-use Rattle.strat_standing.specs.Publication.{IsPrepared, LaysSuper, HasLaid}
-use Rattle.strat_standing.specs.Standing.{ShowsTable, AreFree, LeavesContent, ContentsStand}
-use Rattle.strat_standing.proofs.ComputedLemmas.{computed_prepared}
-use Rattle.strat_standing.proofs.FreeLemmas.{read_trail, still_told}
-use Rattle.strat_standing.proofs.PlaceLemmas.{places}
-use Rattle.strat_standing.proofs.PublishLemmas.{unlaid_trail, laying_reads, shutting_reads}
-use Rattle.strat_standing.proofs.TurnLemmas.{turned_log, turned_trail, turned_contents}
-use Rattle.strat_state.specs.State.{IsPaid}
+use Rattle.def_meaning.specs.StateTable.{table_of}
+use Rattle.def_publish.specs.Appending.{IsLogOf}
+use Rattle.def_publish.specs.Contents.{Contents, contents_state}
+use Rattle.def_publish.specs.Publication.{IsPrepared, LaysSuper, HasLaid}
+use Rattle.def_publish.specs.Standing.{ShowsTable, AreFree, LeavesContent, ContentsStand}
+use Rattle.def_publish.proofs.ComputedLemmas.{computed_prepared}
+use Rattle.def_publish.proofs.FreeLemmas.{read_trail, still_told}
+use Rattle.def_publish.proofs.PlaceLemmas.{places}
+use Rattle.def_publish.proofs.PublishLemmas.{unlaid_trail, laying_reads, shutting_reads}
+use Rattle.def_publish.proofs.TurnLemmas.{turned_log, turned_trail, turned_contents}
+use Rattle.def_state.specs.State.{IsPaid}
 use Rattle.strat_memory.proofs.PayingLemmas.{paid_as, paid_reads, paid_then}
 use Rattle.strat_memory.specs.Paying.{ArePaidSince}
 use Rattle.strat_publish.specs.Publishing.{IsComputed, is_in_front}

@@ -10,9 +10,9 @@ use Rattle.strat_base.specs.declared.descriptors.ArrayDesc.{ArrayDesc}
 use Rattle.strat_base.specs.declared.descriptors.LevelDesc.{LevelDesc}
 use Rattle.strat_cursor.proofs.RetiredLemmas.{retired_rest}
 use Rattle.strat_cursor.specs.Cursors.{CursorsOver, is_array_named, retired_all, retired_by}
-use Rattle.strat_plan.proofs.ListLemmas.{distinct_append, distinct_head, distinct_tail}
-use Rattle.strat_standing.specs.Occupied.{arrays_in}
-use Rattle.strat_state.specs.Level.{is_distinct}
+use Rattle.def_split.proofs.ListLemmas.{distinct_append, distinct_head, distinct_tail}
+use Rattle.def_publish.specs.Occupied.{arrays_in}
+use Rattle.def_state.specs.Level.{is_distinct}
 use Rattle.strat_memory.specs.Memory.{Memory}
 use Rattle.strat_publish.specs.Publishing.{descs_to}
 

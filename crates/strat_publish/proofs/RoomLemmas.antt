@@ -9,8 +9,8 @@ use Rattle.strat_base.specs.Tree.{Parents, below}
 use Rattle.strat_base.specs.declared.descriptors.ArrayDesc.{ArrayDesc}
 use Rattle.strat_base.specs.declared.descriptors.Extent.{Extent}
 use Rattle.strat_base.specs.declared.descriptors.LevelDesc.{LevelDesc}
-use Rattle.strat_crash.specs.Image.{Image}
-use Rattle.strat_crash.specs.Moments.{DiskView}
+use Rattle.def_crash.specs.Image.{Image}
+use Rattle.def_crash.specs.Moments.{DiskView}
 use Rattle.strat_cursor.proofs.ThroughLemmas.{id_names}
 use Rattle.strat_cursor.specs.Cursors.{arrays_named, is_array_named}
 use Rattle.strat_cursor.specs.Held.{HeldCursor}
@@ -18,24 +18,24 @@ use Rattle.strat_cursor.specs.Looking.{arrays_there}
 use Rattle.strat_extent.proofs.BlockLemmas.{times_listed, total_listed}
 use Rattle.strat_extent.proofs.CountLemmas.{times_append, total_append}
 use Rattle.strat_extent.specs.Blocks.{SpaceView, times_in, total_len, used_count, uses}
-use Rattle.strat_format.proofs.ManifestLemmas.{pass_at}
-use Rattle.strat_format.proofs.DamageLemmas.{and_then_ok, found_ok, passed_ok, put_first_ok}
-use Rattle.strat_format.specs.Arrays.{blocks_of}
-use Rattle.strat_format.specs.Chain.{chain_length}
-use Rattle.strat_format.specs.Chained.{Chained, chain_from, chained_bytes, link_at, manifest_at, manifest_filled, manifest_in_chain, may_follow}
-use Rattle.strat_format.specs.Damage.{put_first}
-use Rattle.strat_format.specs.Layout.{first_free, newest_format}
-use Rattle.strat_format.specs.Manifest.{Manifest}
+use Rattle.def_bytes.proofs.ManifestLemmas.{pass_at}
+use Rattle.def_bytes.proofs.DamageLemmas.{and_then_ok, found_ok, passed_ok, put_first_ok}
+use Rattle.def_bytes.specs.Arrays.{blocks_of}
+use Rattle.def_bytes.specs.Chain.{chain_length}
+use Rattle.def_bytes.specs.Chained.{Chained, chain_from, chained_bytes, link_at, manifest_at, manifest_filled, manifest_in_chain, may_follow}
+use Rattle.def_bytes.specs.Damage.{put_first}
+use Rattle.def_bytes.specs.Layout.{first_free, newest_format}
+use Rattle.def_bytes.specs.Manifest.{Manifest}
 use Rattle.strat_level.specs.Levels.{desc_for, is_for}
 use Rattle.strat_promote.specs.Spaces.{HasAmpleRoom}
-use Rattle.strat_recovery.proofs.OpeningLemmas.{manifest_tests, map_some}
-use Rattle.strat_recovery.proofs.PassedLemmas.{belonging_tests}
-use Rattle.strat_recovery.specs.Head.{descriptors}
-use Rattle.strat_recovery.specs.Opening.{array_blocks, is_filled}
-use Rattle.strat_standing.proofs.ListLemmas.{among_contained, contained_among}
-use Rattle.strat_standing.proofs.OccupiedLemmas.{named_times}
-use Rattle.strat_standing.specs.Contents.{Contents}
-use Rattle.strat_standing.specs.Occupied.{IsSpaceOf, extents_of}
+use Rattle.def_recovery.proofs.OpeningLemmas.{manifest_tests, map_some}
+use Rattle.def_recovery.proofs.PassedLemmas.{belonging_tests}
+use Rattle.def_recovery.specs.Head.{descriptors}
+use Rattle.def_recovery.specs.Opening.{array_blocks, is_filled}
+use Rattle.def_publish.proofs.ListLemmas.{among_contained, contained_among}
+use Rattle.def_publish.proofs.OccupiedLemmas.{named_times}
+use Rattle.def_publish.specs.Contents.{Contents}
+use Rattle.def_publish.specs.Occupied.{IsSpaceOf, extents_of}
 use Rattle.strat_memory.specs.Held.{Held, IsConsistent, StandsWith, arrays_held, contents_held}
 
 -- the blocks of two lists of arrays

@@ -11,38 +11,38 @@ use Rattle.strat_base.specs.Entries.{Entry, is_ascending, lead_entries}
 use Rattle.strat_base.specs.Tree.{Parents}
 use Rattle.strat_base.specs.declared.descriptors.ArrayDesc.{ArrayDesc}
 use Rattle.strat_base.specs.declared.descriptors.LevelDesc.{LevelDesc}
-use Rattle.strat_crash.proofs.BlockLemmas.{blocks_trans, blocks_wider, exposed_once, keeps_refl}
-use Rattle.strat_crash.proofs.ImageLemmas.{window_same}
-use Rattle.strat_crash.proofs.TrailLemmas.{trail_join}
-use Rattle.strat_crash.specs.Blocks.{KeepsBlock, TearsBlocks, AgreeOn}
-use Rattle.strat_crash.specs.Image.{Image}
-use Rattle.strat_crash.specs.Moments.{DiskView, Exposes, Passes}
-use Rattle.strat_crash.specs.Trail.{Trail}
-use Rattle.strat_format.specs.Arrays.{all_some, blocks_of, block_on, entries_on}
-use Rattle.strat_format.specs.Block.{block_in}
-use Rattle.strat_format.specs.Chained.{Chained}
-use Rattle.strat_format.specs.Layout.{first_free, other_region, newest_format}
-use Rattle.strat_format.specs.Manifest.{Manifest, is_lawful_manifest}
-use Rattle.strat_format.specs.SuperBlock.{Super}
-use Rattle.strat_plan.proofs.ListLemmas.{among_map}
+use Rattle.def_crash.proofs.BlockLemmas.{blocks_trans, blocks_wider, exposed_once, keeps_refl}
+use Rattle.def_crash.proofs.ImageLemmas.{window_same}
+use Rattle.def_crash.proofs.TrailLemmas.{trail_join}
+use Rattle.def_crash.specs.Blocks.{KeepsBlock, TearsBlocks, AgreeOn}
+use Rattle.def_crash.specs.Image.{Image}
+use Rattle.def_crash.specs.Moments.{DiskView, Exposes, Passes}
+use Rattle.def_crash.specs.Trail.{Trail}
+use Rattle.def_bytes.specs.Arrays.{all_some, blocks_of, block_on, entries_on}
+use Rattle.def_bytes.specs.Block.{block_in}
+use Rattle.def_bytes.specs.Chained.{Chained}
+use Rattle.def_bytes.specs.Layout.{first_free, other_region, newest_format}
+use Rattle.def_bytes.specs.Manifest.{Manifest, is_lawful_manifest}
+use Rattle.def_bytes.specs.SuperBlock.{Super}
+use Rattle.def_split.proofs.ListLemmas.{among_map}
 use Rattle.strat_promote.proofs.LeadLemmas.{read_whole}
 use Rattle.strat_promote.specs.Job.{IsBadInput, blocks_listed}
 use Rattle.strat_promote.specs.Leads.{misfit_in}
-use Rattle.strat_recovery.proofs.OpeningLemmas.{map_some}
-use Rattle.strat_recovery.specs.Head.{Head, head_versions, head_updates, parent_numbers, descriptors}
-use Rattle.strat_recovery.specs.Opened.{array_on, level_on}
-use Rattle.strat_recovery.specs.Opening.{belongs}
-use Rattle.strat_recovery.specs.StateTable.{table_of}
-use Rattle.strat_standing.proofs.FreeLemmas.{free_stands, free_trail}
-use Rattle.strat_standing.proofs.ListLemmas.{contained_among, among_contained}
-use Rattle.strat_standing.proofs.TableLemmas.{same_table}
-use Rattle.strat_standing.specs.Contents.{Contents, contents_state}
-use Rattle.strat_standing.specs.Next.{arrays_made}
-use Rattle.strat_standing.specs.Occupied.{arrays_in}
-use Rattle.strat_standing.specs.Standing.{AreFree, LeavesContent, ShowsTable, ContentsStand}
-use Rattle.strat_state.specs.Level.{TaggedArray, Level, own_leads, least_live}
-use Rattle.strat_state.specs.Sound.{IsSound, is_described, has_ascending_entries}
-use Rattle.strat_state.specs.State.{State, versions_of, tree_after}
+use Rattle.def_recovery.proofs.OpeningLemmas.{map_some}
+use Rattle.def_recovery.specs.Head.{Head, head_versions, head_updates, parent_numbers, descriptors}
+use Rattle.def_recovery.specs.Opened.{array_on, level_on}
+use Rattle.def_recovery.specs.Opening.{belongs}
+use Rattle.def_meaning.specs.StateTable.{table_of}
+use Rattle.def_publish.proofs.FreeLemmas.{free_stands, free_trail}
+use Rattle.def_publish.proofs.ListLemmas.{contained_among, among_contained}
+use Rattle.def_publish.proofs.TableLemmas.{same_table}
+use Rattle.def_publish.specs.Contents.{Contents, contents_state}
+use Rattle.def_publish.specs.Next.{arrays_made}
+use Rattle.def_publish.specs.Occupied.{arrays_in}
+use Rattle.def_publish.specs.Standing.{AreFree, LeavesContent, ShowsTable, ContentsStand}
+use Rattle.def_state.specs.Level.{TaggedArray, Level, own_leads, least_live}
+use Rattle.def_state.specs.Sound.{IsSound, is_described, has_ascending_entries}
+use Rattle.def_state.specs.State.{State, versions_of, tree_after}
 use Rattle.strat_publish.proofs.LookLawLemmas.{made_of}
 use Rattle.strat_memory.proofs.MemoryLawLemmas.{memory_emptied}
 use Rattle.strat_publish.proofs.KeptLemmas.{array_named, held_behind, kept_next, named_behind}

@@ -8,35 +8,35 @@ use Rattle.strat_base.proofs.ListFacts.{Among, all_at, all_from, each_of, among_
 use Rattle.strat_base.specs.declared.descriptors.ArrayDesc.{ArrayDesc}
 use Rattle.strat_base.specs.declared.descriptors.Extent.{Extent}
 use Rattle.strat_base.specs.declared.descriptors.LevelDesc.{LevelDesc}
-use Rattle.strat_crash.proofs.BlockLemmas.{blocks_refl}
-use Rattle.strat_crash.specs.Blocks.{TearsBlocks}
-use Rattle.strat_crash.specs.Image.{Image}
-use Rattle.strat_crash.specs.Moments.{DiskView, Exposes}
+use Rattle.def_crash.proofs.BlockLemmas.{blocks_refl}
+use Rattle.def_crash.specs.Blocks.{TearsBlocks}
+use Rattle.def_crash.specs.Image.{Image}
+use Rattle.def_crash.specs.Moments.{DiskView, Exposes}
 use Rattle.strat_extent.proofs.BlockLemmas.{times_listed}
 use Rattle.strat_extent.proofs.ChangeLemmas.{is_free_of, uses_unused}
 use Rattle.strat_extent.proofs.CountLemmas.{times_append}
 use Rattle.strat_extent.specs.Blocks.{SpaceView, is_free, is_used, times_in, uses}
 use Rattle.strat_extent.specs.Change.{CanMark}
-use Rattle.strat_format.specs.Arrays.{blocks_of}
-use Rattle.strat_format.specs.Chained.{Chained, manifest_at}
-use Rattle.strat_format.specs.Manifest.{Manifest, is_lawful_extent}
-use Rattle.strat_format.proofs.ManifestLemmas.{pass_at}
-use Rattle.strat_format.specs.SuperBlock.{Super}
+use Rattle.def_bytes.specs.Arrays.{blocks_of}
+use Rattle.def_bytes.specs.Chained.{Chained, manifest_at}
+use Rattle.def_bytes.specs.Manifest.{Manifest, is_lawful_extent}
+use Rattle.def_bytes.proofs.ManifestLemmas.{pass_at}
+use Rattle.def_bytes.specs.SuperBlock.{Super}
 use Rattle.strat_journal.specs.Log.{Log}
 use Rattle.strat_promote.specs.Job.{IsBadInput, blocks_listed}
-use Rattle.strat_recovery.specs.Head.{descriptors}
-use Rattle.strat_recovery.specs.Opening.{has_own_blocks}
-use Rattle.strat_plan.proofs.ListLemmas.{among_map}
-use Rattle.strat_standing.proofs.ListLemmas.{contained_among, among_contained}
-use Rattle.strat_standing.proofs.BelongLemmas.{next_belongs}
-use Rattle.strat_standing.proofs.OccupiedLemmas.{counted_some, free_beside, named_used, own_blocks, taken_beside}
-use Rattle.strat_recovery.proofs.PassedLemmas.{belonging_tests, read_passes}
-use Rattle.strat_standing.proofs.PartsLemmas.{reads_state}
-use Rattle.strat_standing.specs.Contents.{Contents, contents_state, named_blocks}
-use Rattle.strat_standing.specs.Next.{AreNewArrays, arrays_made}
-use Rattle.strat_standing.specs.Occupied.{IsSpaceOf, UsesMore, arrays_in, extents_of}
-use Rattle.strat_state.specs.Level.{Level}
-use Rattle.strat_state.specs.State.{IsPaid}
+use Rattle.def_recovery.specs.Head.{descriptors}
+use Rattle.def_recovery.specs.Opening.{has_own_blocks}
+use Rattle.def_split.proofs.ListLemmas.{among_map}
+use Rattle.def_publish.proofs.ListLemmas.{contained_among, among_contained}
+use Rattle.def_publish.proofs.BelongLemmas.{next_belongs}
+use Rattle.def_publish.proofs.OccupiedLemmas.{counted_some, free_beside, named_used, own_blocks, taken_beside}
+use Rattle.def_recovery.proofs.PassedLemmas.{belonging_tests, read_passes}
+use Rattle.def_publish.proofs.PartsLemmas.{reads_state}
+use Rattle.def_publish.specs.Contents.{Contents, contents_state, named_blocks}
+use Rattle.def_publish.specs.Next.{AreNewArrays, arrays_made}
+use Rattle.def_publish.specs.Occupied.{IsSpaceOf, UsesMore, arrays_in, extents_of}
+use Rattle.def_state.specs.Level.{Level}
+use Rattle.def_state.specs.State.{IsPaid}
 use Rattle.strat_publish.specs.Outcomes.{IsDamagedIn}
 use Rattle.strat_memory.specs.Held.{Held, ArePlaced, IsConsistent, StandsWith, contents_held}
 use Rattle.strat_cursor.specs.Looking.{arrays_there}

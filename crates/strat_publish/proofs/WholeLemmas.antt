@@ -14,37 +14,37 @@ use Rattle.strat_base.specs.declared.descriptors.ArrayDesc.{ArrayDesc}
 use Rattle.strat_base.specs.declared.descriptors.Extent.{Extent}
 use Rattle.strat_base.specs.declared.descriptors.LevelDesc.{LevelDesc}
 use Rattle.strat_base.specs.declared.limits.TheConstants.{LEVELS}
-use Rattle.strat_format.specs.Manifest.{Manifest, is_lawful_array, is_lawful_extent, is_lawful_level, versions_in}
-use Rattle.strat_format.proofs.ManifestLemmas.{pass_at}
+use Rattle.def_bytes.specs.Manifest.{Manifest, is_lawful_array, is_lawful_extent, is_lawful_level, versions_in}
+use Rattle.def_bytes.proofs.ManifestLemmas.{pass_at}
 use Rattle.strat_level.specs.Levels.{level_numbered, leads_if_any}
 use Rattle.strat_promote.proofs.OpeningLemmas.{level_here}
-use Rattle.strat_recovery.proofs.OpeningLemmas.{level_tests, manifest_tests}
-use Rattle.strat_recovery.proofs.PassedLemmas.{array_tests, belonging_tests}
-use Rattle.strat_recovery.specs.Head.{descriptors}
-use Rattle.strat_recovery.specs.Opened.{parents_in}
-use Rattle.strat_recovery.specs.Opening.{array_blocks, is_filled}
-use Rattle.strat_standing.proofs.DescribedLemmas.{blocks_counted}
-use Rattle.strat_standing.proofs.ListLemmas.{contained_among}
-use Rattle.strat_standing.specs.Contents.{Contents}
-use Rattle.strat_standing.specs.Occupied.{IsSpaceOf}
-use Rattle.strat_standing.specs.Standing.{ContentsStand}
-use Rattle.strat_crash.specs.Moments.{DiskView}
+use Rattle.def_recovery.proofs.OpeningLemmas.{level_tests, manifest_tests}
+use Rattle.def_recovery.proofs.PassedLemmas.{array_tests, belonging_tests}
+use Rattle.def_recovery.specs.Head.{descriptors}
+use Rattle.def_recovery.specs.Opened.{parents_in}
+use Rattle.def_recovery.specs.Opening.{array_blocks, is_filled}
+use Rattle.def_publish.proofs.DescribedLemmas.{blocks_counted}
+use Rattle.def_publish.proofs.ListLemmas.{contained_among}
+use Rattle.def_publish.specs.Contents.{Contents}
+use Rattle.def_publish.specs.Occupied.{IsSpaceOf}
+use Rattle.def_publish.specs.Standing.{ContentsStand}
+use Rattle.def_crash.specs.Moments.{DiskView}
 use Rattle.strat_extent.specs.Blocks.{SpaceView}
-use Rattle.strat_format.specs.Arrays.{blocks_of}
-use Rattle.strat_state.proofs.AppendedLemmas.{length-grown}
-use Rattle.strat_state.proofs.UpdateLemmas.{all_among}
-use Rattle.strat_state.specs.Setting.{set_all}
-use Rattle.strat_state.specs.Sound.{is_accepted, are_accepted, is_there, takes_updates}
-use Rattle.strat_state.specs.State.{tree_after, update_of, marks_after}
+use Rattle.def_bytes.specs.Arrays.{blocks_of}
+use Rattle.def_state.proofs.AppendedLemmas.{length-grown}
+use Rattle.def_state.proofs.UpdateLemmas.{all_among}
+use Rattle.def_state.specs.Setting.{set_all}
+use Rattle.def_state.specs.Sound.{is_accepted, are_accepted, is_there, takes_updates}
+use Rattle.def_state.specs.State.{tree_after, update_of, marks_after}
 use Rattle.strat_memory.specs.Held.{Held, IsConsistent, StandsWith, contents_held}
 use Rattle.strat_publish.specs.Publishing.{MayCompute}
 use Rattle.strat_cursor.specs.Looking.{arrays_there, MayBeFound, HaveOwnIds}
 use Rattle.strat_publish.specs.Promoting.{MayPromote}
-use Rattle.strat_promotion.proofs.PaidLemmas.{updates_few}
+use Rattle.def_promote.proofs.PaidLemmas.{updates_few}
 use Rattle.strat_memory.proofs.MemoryLemmas.{left_few}
 use Rattle.strat_base.specs.Marks.{Marks}
-use Rattle.strat_state.proofs.MarkLemmas.{there_known, open_there, accepted_drop}
-use Rattle.strat_format.specs.Layout.{newest_format}
+use Rattle.def_state.proofs.MarkLemmas.{there_known, open_there, accepted_drop}
+use Rattle.def_bytes.specs.Layout.{newest_format}
 use Rattle.strat_memory.proofs.NumbersLemmas.{array_lawful, own_numbers, low_numbers}
 
 -- an update that was accepted is at a version that is there

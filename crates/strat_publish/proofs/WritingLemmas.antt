@@ -2,21 +2,21 @@
 use Rattle.std.proofs.Common.{◌≡◌, ℕ, List, [], ◌∷◌, ◌++◌, length, Option, Result, Ok, Err, IfOk, refl, sym, ap, ◌∙◌, subst, arith}
 use Rattle.strat_base.specs.declared.descriptors.Extent.{Extent}
 use Rattle.strat_base.specs.declared.descriptors.LevelDesc.{LevelDesc}
-use Rattle.strat_crash.specs.Image.{Image}
+use Rattle.def_crash.specs.Image.{Image}
 use Rattle.strat_extent.specs.Blocks.{SpaceView}
 use Rattle.strat_extent.specs.Change.{IsMarked}
-use Rattle.strat_format.specs.Arrays.{blocks_of}
-use Rattle.strat_format.specs.Chain.{IsChain, next_block}
-use Rattle.strat_format.specs.Chained.{Chained}
-use Rattle.strat_format.specs.Manifest.{Manifest, manifest_bytes}
+use Rattle.def_bytes.specs.Arrays.{blocks_of}
+use Rattle.def_bytes.specs.Chain.{IsChain, next_block}
+use Rattle.def_bytes.specs.Chained.{Chained}
+use Rattle.def_bytes.specs.Manifest.{Manifest, manifest_bytes}
 use Rattle.strat_manifest.proofs.ChainStoredLemmas.{some_bytes}
 use Rattle.strat_manifest.specs.Chains.{IsStored}
-use Rattle.strat_standing.proofs.OccupiedLemmas.{marked_more, taken_beside, next_space}
-use Rattle.strat_standing.specs.Contents.{Contents}
-use Rattle.strat_standing.specs.Next.{IsNextOf, HasManifest, arrays_made}
-use Rattle.strat_standing.specs.Occupied.{IsSpaceOf, extents_of, arrays_in}
+use Rattle.def_publish.proofs.OccupiedLemmas.{marked_more, taken_beside, next_space}
+use Rattle.def_publish.specs.Contents.{Contents}
+use Rattle.def_publish.specs.Next.{IsNextOf, HasManifest, arrays_made}
+use Rattle.def_publish.specs.Occupied.{IsSpaceOf, extents_of, arrays_in}
 use Rattle.strat_publish.specs.Publishing.{IsWrittenTo}
-use Rattle.strat_format.specs.Layout.{newest_format}
+use Rattle.def_bytes.specs.Layout.{newest_format}
 
 -- of what a call gives one thing follows from two
 pub ok_and : {T E : Type 0} (r : Result T E) (P Q R : T → Type 0) → ((x : T) → P x → Q x → R x) → IfOk r P → IfOk r Q → IfOk r R

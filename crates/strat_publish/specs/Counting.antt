@@ -1,8 +1,8 @@
 -- How a publication counts the entries that it wrote.
 use Rattle.std.specs.Prelude.{◌≡◌, ◌<◌, ◌⊎◌, ℕ, ◌+◌, [], ◌∷◌, Contains, filter, sum_by, nat_le, false}
 use Rattle.strat_base.specs.declared.descriptors.ArrayDesc.{ArrayDesc}
-use Rattle.strat_format.specs.Manifest.{Manifest}
-use Rattle.strat_recovery.specs.Head.{descriptors}
+use Rattle.def_bytes.specs.Manifest.{Manifest}
+use Rattle.def_recovery.specs.Head.{descriptors}
 
 -- a manifest counts as written what the one before did, and the entries of its arrays that are numbered from the next number of
 -- that one on; its other arrays are that one's

@@ -1,15 +1,15 @@
 -- How a publication ends: other contents stand, memory ran out, or a block is damaged.
 use Rattle.std.specs.Prelude.{◌≡◌, ◌⊎◌, ℕ, List, Contains, Option, Some, None, Result, IfErr, IsErrAnd}
-use Rattle.strat_crash.specs.Image.{Image}
-use Rattle.strat_crash.specs.Moments.{DiskView}
+use Rattle.def_crash.specs.Image.{Image}
+use Rattle.def_crash.specs.Moments.{DiskView}
 use Rattle.strat_base.specs.declared.descriptors.LevelDesc.{LevelDesc}
 use Rattle.strat_base.specs.declared.failures.Trouble.TheVariants as trouble
-use Rattle.strat_format.specs.Arrays.{block_on}
+use Rattle.def_bytes.specs.Arrays.{block_on}
 use Rattle.strat_promote.specs.Job.{IsBadInput, blocks_listed}
 use Rattle.strat_promote.specs.Obstacles.{told_as}
 use Rattle.strat_promote.specs.declared.obstacle.Obstacle.{Obstacle}
-use Rattle.strat_recovery.specs.StateTable.{table_of}
-use Rattle.strat_standing.specs.Contents.{Contents, contents_state}
+use Rattle.def_meaning.specs.StateTable.{table_of}
+use Rattle.def_publish.specs.Contents.{Contents, contents_state}
 use Rattle.strat_memory.specs.Held.{Held, StandsWith, arrays_held}
 use Rattle.strat_cursor.specs.Looking.{arrays_there}
 use Rattle.strat_memory.specs.Memory.{Memory}

@@ -2,17 +2,17 @@
 use Rattle.std.specs.Prelude.{◌≡◌, ◌≤◌, ℕ, ◌++◌, ◌∷◌, ◌^◌, nat_lt, List, length, map, Option, Some, IsTrue}
 use Rattle.std.specs.List.{list_all, range_with_len, sum}
 use Rattle.strat_base.specs.declared.descriptors.LevelDesc.{LevelDesc}
-use Rattle.strat_crash.specs.Image.{Image}
-use Rattle.strat_format.specs.Arrays.{all_some}
+use Rattle.def_crash.specs.Image.{Image}
+use Rattle.def_bytes.specs.Arrays.{all_some}
 use Rattle.strat_level.specs.Levels.{level_numbered, leads_if_any}
 use Rattle.strat_promote.specs.Job.{AreReadable}
 use Rattle.strat_promote.specs.Replacing.{LeavesTheSame}
 use Rattle.strat_promote.specs.StateInputs.{LeavesPaid}
-use Rattle.strat_promotion.specs.Promoted.{promoted, levels_behind}
-use Rattle.strat_recovery.specs.Opened.{level_on}
-use Rattle.strat_standing.specs.Next.{AreNewArrays, arrays_made}
-use Rattle.strat_state.specs.Setting.{set_all}
-use Rattle.strat_state.specs.State.{State, IsPaid, versions_of, journal_updates}
+use Rattle.def_promote.specs.Promoted.{promoted, levels_behind}
+use Rattle.def_recovery.specs.Opened.{level_on}
+use Rattle.def_publish.specs.Next.{AreNewArrays, arrays_made}
+use Rattle.def_state.specs.Setting.{set_all}
+use Rattle.def_state.specs.State.{State, IsPaid, versions_of, journal_updates}
 use Rattle.strat_cursor.specs.Looking.{levels_there, arrays_there}
 use Rattle.strat_memory.specs.Memory.{Memory}
 

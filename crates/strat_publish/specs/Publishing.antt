@@ -3,27 +3,27 @@ use Rattle.std.specs.Prelude.{◌≡◌, ◌≢◌, ◌≤◌, ◌<◌, ℕ, ◌
 use Rattle.std.specs.Option.{option_to_list}
 use Rattle.strat_base.specs.declared.descriptors.Extent.{Extent}
 use Rattle.strat_base.specs.declared.descriptors.LevelDesc.{LevelDesc}
-use Rattle.strat_crash.specs.Image.{Image}
-use Rattle.strat_crash.specs.Blocks.{KeepsTaken, TearsBlocks}
-use Rattle.strat_crash.specs.Moments.{DiskView, Exposes, Images}
+use Rattle.def_crash.specs.Image.{Image}
+use Rattle.def_crash.specs.Blocks.{KeepsTaken, TearsBlocks}
+use Rattle.def_crash.specs.Moments.{DiskView, Exposes, Images}
 use Rattle.strat_extent.specs.Blocks.{SpaceView, is_free}
-use Rattle.strat_format.specs.Arrays.{blocks_of}
-use Rattle.strat_format.specs.Manifest.{Manifest, is_lawful_manifest, manifest_bytes}
-use Rattle.strat_format.specs.Chained.{Chained, manifest_at}
-use Rattle.strat_format.specs.Layout.{first_free, other_region, newest_format}
-use Rattle.strat_format.specs.SuperBlock.{Super, newest_in}
+use Rattle.def_bytes.specs.Arrays.{blocks_of}
+use Rattle.def_bytes.specs.Manifest.{Manifest, is_lawful_manifest, manifest_bytes}
+use Rattle.def_bytes.specs.Chained.{Chained, manifest_at}
+use Rattle.def_bytes.specs.Layout.{first_free, other_region, newest_format}
+use Rattle.def_bytes.specs.SuperBlock.{Super, newest_in}
 use Rattle.strat_journal.specs.Log.{Log}
-use Rattle.strat_recovery.specs.Head.{parent_numbers}
+use Rattle.def_recovery.specs.Head.{parent_numbers}
 use Rattle.strat_memory.specs.Memory.{Memory, IsMemoryOf}
 use Rattle.strat_memory.specs.Held.{ArePlaced}
-use Rattle.strat_state.specs.State.{IsPaid}
-use Rattle.strat_promotion.specs.Promoted.{SaysTheSame, levels_behind}
-use Rattle.strat_standing.specs.Appending.{IsLogOf}
-use Rattle.strat_standing.specs.Contents.{Contents, contents_head, contents_state}
-use Rattle.strat_standing.specs.Next.{AreNewArrays, IsNextOf, MayBeNext, HasManifest, arrays_made}
-use Rattle.strat_standing.specs.Occupied.{IsSpaceOf, UsesMore, extents_of, arrays_in}
-use Rattle.strat_standing.specs.Standing.{LeavesContent, ContentsStand}
-use Rattle.strat_state.specs.Level.{Level}
+use Rattle.def_state.specs.State.{IsPaid}
+use Rattle.def_promote.specs.Promoted.{SaysTheSame, levels_behind}
+use Rattle.def_publish.specs.Appending.{IsLogOf}
+use Rattle.def_publish.specs.Contents.{Contents, contents_head, contents_state}
+use Rattle.def_publish.specs.Next.{AreNewArrays, IsNextOf, MayBeNext, HasManifest, arrays_made}
+use Rattle.def_publish.specs.Occupied.{IsSpaceOf, UsesMore, extents_of, arrays_in}
+use Rattle.def_publish.specs.Standing.{LeavesContent, ContentsStand}
+use Rattle.def_state.specs.Level.{Level}
 use Rattle.strat_publish.specs.Promoting.{IsPromotedTo}
 
 -- the next contents of those that stand on a disk are written there but for their superblock, which is for this slot, and this

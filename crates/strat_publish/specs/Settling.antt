@@ -3,17 +3,17 @@ use Rattle.std.specs.Prelude.{◌≡◌, ◌≢◌, ◌⊎◌, ◌≤◌, ◌<�
 use Rattle.std.specs.List.{count_by, list_all}
 use Rattle.strat_base.specs.declared.descriptors.ArrayDesc.{ArrayDesc}
 use Rattle.strat_base.specs.declared.descriptors.LevelDesc.{LevelDesc}
-use Rattle.strat_crash.specs.Blocks.{AgreeOn, TearsBlocks}
-use Rattle.strat_crash.specs.Image.{Image}
-use Rattle.strat_crash.specs.Moments.{DiskView, Exposes}
+use Rattle.def_crash.specs.Blocks.{AgreeOn, TearsBlocks}
+use Rattle.def_crash.specs.Image.{Image}
+use Rattle.def_crash.specs.Moments.{DiskView, Exposes}
 use Rattle.strat_cursor.specs.Cursors.{retired_all}
 use Rattle.strat_cursor.specs.Held.{HeldCursors}
 use Rattle.strat_extent.specs.Blocks.{times_in}
-use Rattle.strat_format.specs.Arrays.{blocks_of}
-use Rattle.strat_format.specs.Chained.{Chained}
-use Rattle.strat_format.specs.Layout.{other_region, newest_format}
-use Rattle.strat_format.specs.Manifest.{Manifest}
-use Rattle.strat_format.specs.SuperBlock.{Super, IsLawful}
+use Rattle.def_bytes.specs.Arrays.{blocks_of}
+use Rattle.def_bytes.specs.Chained.{Chained}
+use Rattle.def_bytes.specs.Layout.{other_region, newest_format}
+use Rattle.def_bytes.specs.Manifest.{Manifest}
+use Rattle.def_bytes.specs.SuperBlock.{Super, IsLawful}
 use Rattle.strat_journal.specs.Log.{region_begun}
 use Rattle.strat_model.specs.declared.replies.Refusal.TheVariants as why
 use Rattle.strat_model.specs.declared.replies.Reply.{Reply}
@@ -22,14 +22,14 @@ use Rattle.strat_model.specs.Answer.{accepts}
 use Rattle.strat_model.specs.Request.{Request}
 use Rattle.strat_model.specs.Run.{is_change}
 use Rattle.strat_promote.specs.Job.{blocks_listed}
-use Rattle.strat_recovery.specs.Head.{parent_numbers}
-use Rattle.strat_recovery.specs.Opening.{belongs}
-use Rattle.strat_standing.specs.Contents.{Contents, contents_state}
-use Rattle.strat_standing.specs.Next.{arrays_made}
-use Rattle.strat_standing.specs.Occupied.{arrays_in, extents_of}
-use Rattle.strat_standing.specs.Standing.{AreFree}
-use Rattle.strat_state.specs.Level.{Level}
-use Rattle.strat_state.specs.State.{IsPaid}
+use Rattle.def_recovery.specs.Head.{parent_numbers}
+use Rattle.def_recovery.specs.Opening.{belongs}
+use Rattle.def_publish.specs.Contents.{Contents, contents_state}
+use Rattle.def_publish.specs.Next.{arrays_made}
+use Rattle.def_publish.specs.Occupied.{arrays_in, extents_of}
+use Rattle.def_publish.specs.Standing.{AreFree}
+use Rattle.def_state.specs.Level.{Level}
+use Rattle.def_state.specs.State.{IsPaid}
 use Rattle.strat_memory.specs.Held.{Held, IsOnDisk, StandsWith, arrays_held, blocks_named, contents_held}
 use Rattle.strat_memory.specs.Memory.{Memory, renewed}
 use Rattle.strat_memory.specs.Paying.{ArePaidSince}

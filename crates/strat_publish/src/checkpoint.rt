@@ -3,28 +3,28 @@
 ghost use Rattle.std.specs.List.{list_all};
 ghost use Rattle.std.specs.Prelude.{◌≡◌, ◌<◌, ◌≤◌, ℕ, ◌+◌, ◌-◌, ◌*◌, ◌^◌, List, [], ◌∷◌, length, min, nat_le, nat_lt, Some, IfOk, OnOk, OnErr, IsErrOf, IsTrue};
 ghost use Rattle.strat_array.specs.Kept.{Blocks};
-ghost use Rattle.strat_crash.specs.Blocks.{TearsBlocks, AgreeOn};
-ghost use Rattle.strat_crash.specs.Faults.{CountsFaults, HasCause};
-ghost use Rattle.strat_crash.specs.Image.{Image};
-ghost use Rattle.strat_crash.specs.Moments.{Exposes, Passes};
-ghost use Rattle.strat_crash.specs.Trail.{Trail};
-ghost use Rattle.strat_format.specs.Arrays.{blocks_of};
-ghost use Rattle.strat_format.specs.Layout as places;
-ghost use Rattle.strat_format.specs.Manifest.{is_lawful_manifest};
-ghost use Rattle.strat_format.specs.SuperBlock.{IsLawful};
+ghost use Rattle.def_crash.specs.Blocks.{TearsBlocks, AgreeOn};
+ghost use Rattle.def_crash.specs.Faults.{CountsFaults, HasCause};
+ghost use Rattle.def_crash.specs.Image.{Image};
+ghost use Rattle.def_crash.specs.Moments.{Exposes, Passes};
+ghost use Rattle.def_crash.specs.Trail.{Trail};
+ghost use Rattle.def_bytes.specs.Arrays.{blocks_of};
+ghost use Rattle.def_bytes.specs.Layout as places;
+ghost use Rattle.def_bytes.specs.Manifest.{is_lawful_manifest};
+ghost use Rattle.def_bytes.specs.SuperBlock.{IsLawful};
 ghost use Rattle.strat_gate.specs.SuperView.{super_of};
 ghost use Rattle.strat_manifest.specs.ManifestView.{manifest_of};
 ghost use Rattle.strat_promote.specs.Job.{blocks_listed};
 ghost use Rattle.strat_promote.specs.Spaces.{HasAmpleRoom};
 ghost use Rattle.strat_promote.specs.declared.obstacle.Obstacle.TheVariants as obstacle;
 ghost use Rattle.strat_promote.specs.declared.obstacle.Obstacle.TheVariants.{Device, Damaged};
-ghost use Rattle.strat_recovery.specs.StateTable.{table_of};
-ghost use Rattle.strat_standing.specs.Contents.{Contents, contents_state};
-ghost use Rattle.strat_standing.specs.Next.{AreNewArrays, arrays_made};
-ghost use Rattle.strat_standing.specs.Occupied.{IsSpaceOf, arrays_in, extents_of};
-ghost use Rattle.strat_standing.specs.Standing.{ShowsTable, ContentsStand};
-ghost use Rattle.strat_state.specs.Level.{Level};
-ghost use Rattle.strat_state.specs.State.{IsPaid};
+ghost use Rattle.def_meaning.specs.StateTable.{table_of};
+ghost use Rattle.def_publish.specs.Contents.{Contents, contents_state};
+ghost use Rattle.def_publish.specs.Next.{AreNewArrays, arrays_made};
+ghost use Rattle.def_publish.specs.Occupied.{IsSpaceOf, arrays_in, extents_of};
+ghost use Rattle.def_publish.specs.Standing.{ShowsTable, ContentsStand};
+ghost use Rattle.def_state.specs.Level.{Level};
+ghost use Rattle.def_state.specs.State.{IsPaid};
 ghost use Rattle.strat_publish.specs.Outcomes.{IsDamagedIn, IsPublishedAs, IsOkOrShort, RanShort};
 ghost use Rattle.strat_memory.specs.Held.{IsConsistent, IsOnDisk, StandsWith, arrays_held, contents_held};
 ghost use Rattle.strat_cursor.specs.Cursors.{retired_all};
@@ -36,7 +36,7 @@ ghost use Rattle.strat_publish.specs.Publishing.{IsComputed, LaysSuperblock, Wri
 ghost use Rattle.strat_memory.specs.Admitting.{chained_of, IsAdmitted};
 ghost use Rattle.strat_memory.specs.RecoveredFields.{held_of};
 ghost use Rattle.strat_publish.specs.Settling.{super_after, held_next, ArePublishedAfter, ArePublishedTo, KeepsCursors, KeepsPublished, MayBeAdmitted, MayFollow, StandApart, WritesBeside, IsReadied};
-ghost use Rattle.strat_format.specs.Layout.{newest_format};
+ghost use Rattle.def_bytes.specs.Layout.{newest_format};
 
 use crate::lay::lay_next;
 use crate::next_manifest::{Computed, compute_next};
@@ -128,7 +128,7 @@ fn compute_beside<D: Disk>(
         (record { manifest = manifest_of r.manifest; blocks = blocks_of r.chain })) }
     ensures found { IfOk result (λ r. manifest_of r.manifest ≡ manifest_after
         (manifest_of held.now.published.manifest) held.now.memory r.made.target r.made.level) }
-    ensures end { IfOk result (λ r. WritesManifest (D.view disk.old) (D.view disk.new)
+    ensures disk { IfOk result (λ r. WritesManifest (D.view disk.old) (D.view disk.new)
         r.first r.length
         (record { manifest = manifest_of r.manifest; blocks = blocks_of r.chain })) }
     ensures fits { IfOk result (λ r. (places.first_free held.now.sb.mem ≤ r.first)
@@ -228,7 +228,7 @@ fn admit_next(alloc: Global, held: &OpenStore, computed: Computed) -> Result<Nex
 
 /// Writes the next contents of a store but for their superblock beside what it holds, and tests what their manifest
 /// says. Errors are those of `compute_beside`, and want of memory; `Unfit` never comes where the store stands.
-#[tactic(auto, using(strat_format::proofs::MarkLemmas::none_marked))]
+#[tactic(auto, using(def_bytes::proofs::MarkLemmas::none_marked))]
 fn prepare_next<D: Disk>(alloc: Global, held: &OpenStore, disk: &mut D) -> Result<Next, Obstacle>
     requires kept { (cached : Blocks) → IsConsistent (held_of held.now cached) }
     requires len { length held.now.journal.list ≡ held.now.sb.mem }
@@ -241,7 +241,7 @@ fn prepare_next<D: Disk>(alloc: Global, held: &OpenStore, disk: &mut D) -> Resul
     ensures found { IfOk result (λ next. ArePublishedTo next.target (super_of held.now.sb)
         (manifest_of held.now.published.manifest) held.now.memory (super_of next.sb)
         (manifest_of next.published.manifest)) }
-    ensures end { IfOk result (λ next. WritesManifest (D.view disk.old) (D.view disk.new)
+    ensures disk { IfOk result (λ next. WritesManifest (D.view disk.old) (D.view disk.new)
         next.sb.manifest next.sb.length (chained_of next.published)) }
     ensures kept { IfOk result (λ next. IsAdmitted (super_of next.sb) next.published
         × ((cached : Blocks)
@@ -342,7 +342,7 @@ fn install<D: Disk>(held: &mut OpenStore, next: Next, disk: &mut D) -> Result<()
         (D.view disk.old).moment (table_of (contents_state x) ∷ []) 0
         × (IsPaid (contents_state x) → IsPaid (contents_state y)
         → ArePaidSince (D.view disk.new) (D.view disk.old).moment) }
-    ensures end { OnOk result (LaysSuperblock (D.view disk.old) (D.view disk.new)
+    ensures disk { OnOk result (LaysSuperblock (D.view disk.old) (D.view disk.new)
         held.old.journal.mem (1 - held.old.slot) (super_of next.sb)) }
     ensures err { OnErr result ((held.new.memory ≡ held.old.memory) × ((cached : Blocks)
         → KeepsPublished (held_of held.old cached) (held_of held.new cached))) }
@@ -384,7 +384,7 @@ pub fn publish<D: Disk>(alloc: Global, held: &mut OpenStore, disk: &mut D) -> Re
         × (held.new.journal.list ≡ [])
         × (held.new.memory ≡ record (emptied held.old.sb.mem held.old.memory)
         { cursors = held.new.memory.cursors })) }
-    ensures end { (IsErrOf result Device → ⊥) → (cached : Blocks)
+    ensures disk { (IsErrOf result Device → ⊥) → (cached : Blocks)
         → IsOnDisk (D.view disk.old) (held_of held.old cached)
         → IsOnDisk (D.view disk.new) (held_of held.new cached) }
     ensures none { RanShort result → (x : Contents) (cached : Blocks)

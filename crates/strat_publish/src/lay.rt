@@ -3,32 +3,32 @@
 ghost use Rattle.std.specs.Prelude.{IsTrue, ◌≡◌, ◌≤◌, ◌<◌, ◌+◌, ◌-◌, ◌^◌, ℕ, List, [], ◌∷◌, ◌++◌, Option, length, IsSome, IfOk, OnOk, OnErr, IsErrOf};
 ghost use Rattle.strat_base.specs.declared.descriptors.Extent.{Extent as TheExtent};
 ghost use Rattle.strat_base.specs.declared.descriptors.LevelDesc.{LevelDesc as TheLevel};
-ghost use Rattle.strat_crash.specs.Blocks.{TearsBlocks};
-ghost use Rattle.strat_crash.specs.Faults.{CountsFaults, HasCause};
-ghost use Rattle.strat_crash.specs.Image.{Image};
-ghost use Rattle.strat_crash.specs.Moments.{Exposes, Passes, OnlyReads, IsDurable};
-ghost use Rattle.strat_crash.specs.Trail.{Trail};
+ghost use Rattle.def_crash.specs.Blocks.{TearsBlocks};
+ghost use Rattle.def_crash.specs.Faults.{CountsFaults, HasCause};
+ghost use Rattle.def_crash.specs.Image.{Image};
+ghost use Rattle.def_crash.specs.Moments.{Exposes, Passes, OnlyReads, IsDurable};
+ghost use Rattle.def_crash.specs.Trail.{Trail};
 ghost use Rattle.strat_extent.specs.Blocks.{is_free, used_count};
 ghost use Rattle.strat_extent.specs.Change.{IsMarked, SameBlocks, AreLowest};
-ghost use Rattle.strat_format.specs.Arrays.{blocks_of};
-ghost use Rattle.strat_format.specs.Manifest.{is_lawful_manifest, manifest_bytes};
-ghost use Rattle.strat_format.specs.SuperBlock.{IsLawful};
+ghost use Rattle.def_bytes.specs.Arrays.{blocks_of};
+ghost use Rattle.def_bytes.specs.Manifest.{is_lawful_manifest, manifest_bytes};
+ghost use Rattle.def_bytes.specs.SuperBlock.{IsLawful};
 ghost use Rattle.strat_gate.specs.SuperView.{super_of};
 ghost use Rattle.strat_journal.specs.Log.{region_begun};
 ghost use Rattle.strat_manifest.specs.ManifestView.{manifest_of};
 ghost use Rattle.strat_promote.specs.Spaces.{HasFewFree};
 ghost use Rattle.strat_promote.specs.declared.obstacle.Obstacle.TheVariants as obstacle;
 ghost use Rattle.strat_promote.specs.declared.obstacle.Obstacle.TheVariants.{NoMemory, Device, Damaged};
-ghost use Rattle.strat_recovery.specs.StateTable.{table_of};
-ghost use Rattle.strat_standing.specs.Appending.{IsLogOf};
-ghost use Rattle.strat_standing.specs.Contents.{Contents, contents_state};
-ghost use Rattle.strat_standing.specs.Next.{IsNextOf, HasManifest, arrays_made};
-ghost use Rattle.strat_standing.specs.Occupied.{IsSpaceOf, extents_of, arrays_in};
-ghost use Rattle.strat_standing.specs.Standing.{ShowsTable, ContentsStand};
-ghost use Rattle.strat_state.specs.State.{IsPaid};
+ghost use Rattle.def_meaning.specs.StateTable.{table_of};
+ghost use Rattle.def_publish.specs.Appending.{IsLogOf};
+ghost use Rattle.def_publish.specs.Contents.{Contents, contents_state};
+ghost use Rattle.def_publish.specs.Next.{IsNextOf, HasManifest, arrays_made};
+ghost use Rattle.def_publish.specs.Occupied.{IsSpaceOf, extents_of, arrays_in};
+ghost use Rattle.def_publish.specs.Standing.{ShowsTable, ContentsStand};
+ghost use Rattle.def_state.specs.State.{IsPaid};
 ghost use Rattle.strat_memory.specs.Paying.{ArePaidSince};
 ghost use Rattle.strat_publish.specs.Publishing.{IsComputed, IsWrittenTo, LaysSuperblock, is_in_front};
-ghost use Rattle.strat_format.specs.Layout.{newest_format};
+ghost use Rattle.def_bytes.specs.Layout.{newest_format};
 
 use std::alloc::Global;
 use strat_base::{Extents, Failed};
@@ -122,7 +122,7 @@ pub(crate) fn lay_next<D: Disk>(
         → IsComputed (D.view disk.old) slot (super_of sb.now) journal.old old new
         → ContentsStand (D.view disk.new) new × IsLogOf new journal.new) }
     ensures ok { OnOk result (journal.new ≡ region_begun journal.old) }
-    ensures end { OnOk result (journal.old.active ≤ 1 → LaysSuperblock (D.view disk.old)
+    ensures disk { OnOk result (journal.old.active ≤ 1 → LaysSuperblock (D.view disk.old)
         (D.view disk.new) journal.old.mem slot (super_of sb.now)) }
     ensures err { OnErr result (journal.new ≡ journal.old) }
     ensures images { journal.old.active ≤ 1

@@ -4,13 +4,13 @@ ghost use Rattle.std.specs.Prelude.{◌≡◌, ◌≤◌, ◌<◌, ℕ, ◌+◌,
 ghost use Rattle.std.specs.Option.{option_to_list};
 ghost use Rattle.strat_array.specs.Taking.{AreUsed};
 ghost use Rattle.strat_base.specs.declared.descriptors.Extent.{Extent};
-ghost use Rattle.strat_crash.specs.Blocks.{TearsBlocks};
-ghost use Rattle.strat_crash.specs.Faults.{HasCause};
-ghost use Rattle.strat_crash.specs.Image.{Image};
-ghost use Rattle.strat_crash.specs.Moments.{Exposes};
+ghost use Rattle.def_crash.specs.Blocks.{TearsBlocks};
+ghost use Rattle.def_crash.specs.Faults.{HasCause};
+ghost use Rattle.def_crash.specs.Image.{Image};
+ghost use Rattle.def_crash.specs.Moments.{Exposes};
 ghost use Rattle.strat_extent.specs.Blocks.{is_free};
-ghost use Rattle.strat_format.specs.Arrays.{blocks_of};
-ghost use Rattle.strat_format.specs.Manifest.{is_lawful_manifest, manifest_bytes};
+ghost use Rattle.def_bytes.specs.Arrays.{blocks_of};
+ghost use Rattle.def_bytes.specs.Manifest.{is_lawful_manifest, manifest_bytes};
 ghost use Rattle.strat_extent.specs.Change.{IsMarked, SameBlocks};
 ghost use Rattle.strat_journal.specs.Log.{Log};
 ghost use Rattle.strat_manifest.specs.ManifestView.{manifest_of};
@@ -19,15 +19,15 @@ ghost use Rattle.strat_promote.specs.Promotions.{entries_if_any};
 ghost use Rattle.strat_promote.specs.Spaces.{HasAmpleRoom, HasFewFree};
 ghost use Rattle.strat_promote.specs.declared.obstacle.Obstacle.TheVariants as obstacle;
 ghost use Rattle.strat_promote.specs.declared.obstacle.Obstacle.TheVariants.{Device, Damaged};
-ghost use Rattle.strat_recovery.specs.Head.{parent_numbers};
-ghost use Rattle.strat_standing.specs.Contents.{Contents};
-ghost use Rattle.strat_standing.specs.Next.{HasManifest, arrays_made};
-ghost use Rattle.strat_standing.specs.Occupied.{UsesMore, extents_of};
+ghost use Rattle.def_recovery.specs.Head.{parent_numbers};
+ghost use Rattle.def_publish.specs.Contents.{Contents};
+ghost use Rattle.def_publish.specs.Next.{HasManifest, arrays_made};
+ghost use Rattle.def_publish.specs.Occupied.{UsesMore, extents_of};
 ghost use Rattle.strat_cursor.specs.Looking.{arrays_there};
 ghost use Rattle.strat_publish.specs.Outcomes.{IsOkOrShort};
 ghost use Rattle.strat_publish.specs.Promoting.{MayPromote};
 ghost use Rattle.strat_publish.specs.Publishing.{IsWrittenTo, MayBeWritten, MayCompute, IsComputedBy, WritesManifest, manifest_after};
-ghost use Rattle.strat_format.specs.Layout.{newest_format};
+ghost use Rattle.def_bytes.specs.Layout.{newest_format};
 
 use crate::lay::write_next;
 use crate::promote::{Made, promote};
@@ -240,7 +240,7 @@ pub(crate) fn compute_next<D: Disk>(
         r.made.target r.made.level r.first r.length r.chain others) }
     ensures found { IfOk result (λ r. manifest_of r.manifest
         ≡ manifest_after (manifest_of old.now) memory.now r.made.target r.made.level) }
-    ensures end { IfOk result (λ r. WritesManifest (D.view disk.old) (D.view disk.new)
+    ensures disk { IfOk result (λ r. WritesManifest (D.view disk.old) (D.view disk.new)
         r.first r.length
         (record { manifest = manifest_of r.manifest; blocks = blocks_of r.chain })) }
     ensures room { IfOk result (λ r.

@@ -2,20 +2,20 @@
 
 ghost use Rattle.std.specs.Prelude.{◌≡◌, ◌≤◌, ℕ, ◌+◌, ◌-◌, ◌*◌, ◌^◌, [], length, min, IfOk, OnErr, IsErrOf, Contains};
 ghost use Rattle.strat_array.specs.Taking.{AreUsed};
-ghost use Rattle.strat_crash.specs.Blocks.{TearsBlocks};
-ghost use Rattle.strat_crash.specs.Faults.{HasCause};
-ghost use Rattle.strat_crash.specs.Image.{Image};
-ghost use Rattle.strat_crash.specs.Moments.{Exposes};
+ghost use Rattle.def_crash.specs.Blocks.{TearsBlocks};
+ghost use Rattle.def_crash.specs.Faults.{HasCause};
+ghost use Rattle.def_crash.specs.Image.{Image};
+ghost use Rattle.def_crash.specs.Moments.{Exposes};
 ghost use Rattle.strat_extent.specs.Blocks.{is_free, used_count};
-ghost use Rattle.strat_format.specs.Arrays.{blocks_of};
+ghost use Rattle.def_bytes.specs.Arrays.{blocks_of};
 ghost use Rattle.strat_promote.specs.Job.{IsBadInput, blocks_listed};
 ghost use Rattle.strat_promote.specs.Promotions.{entries_if_any};
 ghost use Rattle.strat_promote.specs.Spaces.{HasAmpleRoom};
 ghost use Rattle.strat_promote.specs.declared.obstacle.Obstacle.TheVariants.{Damaged, Device, Unfit};
-ghost use Rattle.strat_standing.specs.Next.{arrays_made};
-ghost use Rattle.strat_standing.specs.Occupied.{UsesMore, extents_of};
-ghost use Rattle.strat_state.specs.Sound.{IsSound};
-ghost use Rattle.strat_state.specs.State.{State};
+ghost use Rattle.def_publish.specs.Next.{arrays_made};
+ghost use Rattle.def_publish.specs.Occupied.{UsesMore, extents_of};
+ghost use Rattle.def_state.specs.Sound.{IsSound};
+ghost use Rattle.def_state.specs.State.{State};
 ghost use Rattle.strat_cursor.specs.Looking.{arrays_there};
 ghost use Rattle.strat_publish.specs.Promoting.{MayPromote, HoldInMemory, IsPromotedTo};
 

@@ -4,23 +4,23 @@ ghost use Rattle.std.specs.Prelude.{◌≡◌, ◌≤◌, ℕ, List, length, Opt
 ghost use Rattle.strat_base.specs.declared.descriptors.Extent.{Extent};
 ghost use Rattle.strat_base.specs.declared.descriptors.LevelDesc.{LevelDesc};
 ghost use Rattle.strat_extent.specs.Blocks.{SpaceView};
-ghost use Rattle.strat_format.specs.Arrays.{blocks_of};
-ghost use Rattle.strat_format.specs.Manifest.{is_lawful_manifest};
+ghost use Rattle.def_bytes.specs.Arrays.{blocks_of};
+ghost use Rattle.def_bytes.specs.Manifest.{is_lawful_manifest};
 ghost use Rattle.strat_journal.specs.Log.{Log};
-ghost use Rattle.strat_standing.specs.Appending.{IsLogOf};
-ghost use Rattle.strat_standing.specs.Contents.{Contents, contents_head, contents_state};
-ghost use Rattle.strat_standing.specs.Next.{IsNextOf};
-ghost use Rattle.strat_standing.specs.Occupied.{IsSpaceOf};
-ghost use Rattle.strat_state.specs.Level.{Level};
-ghost use Rattle.strat_state.specs.Sound.{IsSound};
+ghost use Rattle.def_publish.specs.Appending.{IsLogOf};
+ghost use Rattle.def_publish.specs.Contents.{Contents, contents_head, contents_state};
+ghost use Rattle.def_publish.specs.Next.{IsNextOf};
+ghost use Rattle.def_publish.specs.Occupied.{IsSpaceOf};
+ghost use Rattle.def_state.specs.Level.{Level};
+ghost use Rattle.def_state.specs.Sound.{IsSound};
 ghost use Rattle.strat_memory.specs.Held.{Held, IsConsistent, StandsWith};
 ghost use Rattle.strat_publish.specs.Promoting.{MayPromote};
 ghost use Rattle.strat_memory.specs.Memory.{Memory, IsMemoryOf};
 ghost use Rattle.strat_publish.specs.Counting.{CountsWritten, manifest_with_array};
 ghost use Rattle.strat_publish.specs.Publishing.{IsComputed, IsWrittenBeside, MayCompute, contents_after, descs_to, descs_behind};
-ghost use Rattle.strat_format.specs.Layout.{newest_format};
+ghost use Rattle.def_bytes.specs.Layout.{newest_format};
 
-use strat_crash::laws::Viewed;
+use def_crash::laws::Viewed;
 
 /// What a store that is whole holds may be promoted, whatever its disk.
 pub fn a_whole_store_may_promote()

@@ -5,7 +5,7 @@ use Rattle.std.specs.List.{flat_map}
 use Rattle.std.proofs.lemmas.List.{drop_more}
 use Rattle.strat_base.specs.declared.descriptors.ArrayDesc.{ArrayDesc}
 use Rattle.strat_base.specs.declared.descriptors.LevelDesc.{LevelDesc}
-use Rattle.strat_recovery.specs.Texts.{sparser, sparsest}
+use Rattle.def_texts.specs.Texts.{sparser, sparsest}
 use Rattle.strat_report.specs.Densities.{density_of, least_density}
 use Rattle.strat_report.specs.declared.density.Density.{Density}
 

@@ -5,15 +5,15 @@ use Rattle.std.proofs.lemmas.Bool.{and_parts, eqb-true}
 use Rattle.std.proofs.lemmas.List.{map-append}
 use Rattle.strat_base.specs.declared.descriptors.ArrayDesc.{ArrayDesc}
 use Rattle.strat_base.specs.declared.descriptors.LevelDesc.{LevelDesc}
-use Rattle.strat_crash.specs.Image.{Image}
-use Rattle.strat_format.specs.Arrays.{all_some, blocks_of, entries_on}
-use Rattle.strat_recovery.proofs.OpeningLemmas.{each_some, map_some}
-use Rattle.strat_recovery.specs.Head.{Head, descriptors}
-use Rattle.strat_recovery.specs.Opened.{array_on, level_on, parents_in}
-use Rattle.strat_recovery.specs.Opening.{state_of}
-use Rattle.strat_state.specs.Level.{Level, TaggedArray, density, lead_fraction, least_live, own_leads}
-use Rattle.strat_state.specs.Sound.{IsSound, is_described}
-use Rattle.strat_state.specs.State.{State, densities, lead_fractions, versions_of}
+use Rattle.def_crash.specs.Image.{Image}
+use Rattle.def_bytes.specs.Arrays.{all_some, blocks_of, entries_on}
+use Rattle.def_recovery.proofs.OpeningLemmas.{each_some, map_some}
+use Rattle.def_recovery.specs.Head.{Head, descriptors}
+use Rattle.def_recovery.specs.Opened.{array_on, level_on, parents_in}
+use Rattle.def_recovery.specs.Opening.{state_of}
+use Rattle.def_state.specs.Level.{Level, TaggedArray, density, lead_fraction, least_live, own_leads}
+use Rattle.def_state.specs.Sound.{IsSound, is_described}
+use Rattle.def_state.specs.State.{State, densities, lead_fractions, versions_of}
 
 -- the least number live, and the leads, each of all entries, as a descriptor has them
 abbrev least_said : ArrayDesc → ℕ × ℕ

@@ -6,8 +6,8 @@ use Rattle.std.specs.Prelude.{map, codes}
 use Rattle.std.specs.Fmt.{decimal}
 use Rattle.strat_base.specs.declared.descriptors.ArrayDesc.{ArrayDesc}
 use Rattle.strat_base.specs.declared.descriptors.LevelDesc.{LevelDesc}
-use Rattle.strat_recovery.specs.Head.{Head, descriptors}
-use Rattle.strat_recovery.specs.Texts.{text, store_line, journal_line, array_line, level_line, level_lines, stored_line, report, summary, sparsest, density_line, versions_text, fraction}
+use Rattle.def_recovery.specs.Head.{Head, descriptors}
+use Rattle.def_texts.specs.Texts.{text, store_line, journal_line, array_line, level_line, level_lines, stored_line, report, summary, sparsest, density_line, versions_text, fraction}
 use Rattle.strat_report.specs.Lines.{fractions_text, workload_line, counts_line, arrays_line}
 use Rattle.strat_report.proofs.TotalLemmas.{items_next}
 

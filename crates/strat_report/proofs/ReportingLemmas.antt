@@ -1,13 +1,13 @@
 -- How a report ends, and what it wrote then.
 use Rattle.std.proofs.Common.{◌≡◌, ◌≢◌, ◌<◌, ℕ, List, [], length, take, Option, Some, None, Ok, Err, refl, sym, ap, ◌∙◌, subst, inl, inr, append-nil}
-use Rattle.strat_crash.specs.Image.{Image}
-use Rattle.strat_crash.specs.Moments.{DiskView, Exposes}
-use Rattle.strat_format.specs.Damage.{Read}
+use Rattle.def_crash.specs.Image.{Image}
+use Rattle.def_crash.specs.Moments.{DiskView, Exposes}
+use Rattle.def_bytes.specs.Damage.{Read}
 use Rattle.strat_io.specs.Streams.{Appends}
 use Rattle.strat_model.specs.declared.ended.Ended.{Ended}
 use Rattle.strat_model.specs.declared.ended.Ended.TheVariants as ended
-use Rattle.strat_recovery.specs.Head.{Head}
-use Rattle.strat_recovery.specs.Opening.{recover}
+use Rattle.def_recovery.specs.Head.{Head}
+use Rattle.def_recovery.specs.Opening.{recover}
 use Rattle.strat_report.specs.Reporting.{end_for, RecoversAs, AppendsFront, GivesUp, IsSaid, WritesReport, IsComplete}
 
 -- nothing was written, as far as a sink tells

@@ -3,7 +3,7 @@ use Rattle.std.proofs.Common.{◌≡◌, ◌<◌, ◌≤◌, ◌+◌, ℕ, suc, 
 use Rattle.std.specs.Prelude.{flat_map, map, codes}
 use Rattle.std.proofs.lemmas.Bool.{eqb-true, eq-eqb, cond-true, cond-false}
 use Rattle.std.proofs.lemmas.List.{drop_more, drop_all}
-use Rattle.strat_recovery.specs.Texts.{run_from, runs_of, run_text, with_commas, versions_text}
+use Rattle.def_texts.specs.Texts.{run_from, runs_of, run_text, with_commas, versions_text}
 use Rattle.strat_report.specs.Runs.{run_with, later_runs, AddsRun}
 
 -- a run of one number

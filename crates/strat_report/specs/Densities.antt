@@ -1,7 +1,7 @@
 -- Densities, as they are compared and printed.
 use Rattle.std.specs.Prelude.{List, Option, option_map}
 use Rattle.strat_base.specs.declared.descriptors.ArrayDesc.{ArrayDesc}
-use Rattle.strat_recovery.specs.Texts.{sparsest}
+use Rattle.def_texts.specs.Texts.{sparsest}
 use Rattle.strat_report.specs.declared.density.Density.{Density}
 
 -- the density of an array, as its descriptor says

@@ -2,8 +2,8 @@
 use Rattle.std.specs.Prelude.{ℕ, ◌-◌, List, [], ◌∷◌, length, codes}
 use Rattle.std.specs.Fmt.{decimal}
 use Rattle.strat_base.specs.declared.descriptors.ArrayDesc.{ArrayDesc}
-use Rattle.strat_recovery.specs.Head.{Head, head_versions, head_updates, head_changes, descriptors, head_stored}
-use Rattle.strat_recovery.specs.Texts.{joined, fraction}
+use Rattle.def_recovery.specs.Head.{Head, head_versions, head_updates, head_changes, descriptors, head_stored}
+use Rattle.def_texts.specs.Texts.{joined, fraction}
 
 -- the line of an array up to its versions
 abbrev pub fractions_text : ArrayDesc → List ℕ

@@ -1,15 +1,15 @@
 -- What a report says of a store, and what it did where it ended so.
 use Rattle.std.specs.Prelude.{◌≡◌, ◌≢◌, ◌≤◌, ◌<◌, ◌⊎◌, ℕ, List, [], ◌∷◌, length, take, Option, Some, None, Ok, Err}
-use Rattle.strat_crash.specs.Faults.{Rose}
-use Rattle.strat_crash.specs.Image.{Image}
-use Rattle.strat_crash.specs.Moments.{DiskView, Exposes}
-use Rattle.strat_format.specs.Damage.{Read}
+use Rattle.def_crash.specs.Faults.{Rose}
+use Rattle.def_crash.specs.Image.{Image}
+use Rattle.def_crash.specs.Moments.{DiskView, Exposes}
+use Rattle.def_bytes.specs.Damage.{Read}
 use Rattle.strat_io.specs.Streams.{Appends}
 use Rattle.strat_model.specs.declared.ended.Ended.{Ended}
 use Rattle.strat_model.specs.declared.ended.Ended.TheVariants as ended
-use Rattle.strat_recovery.specs.Head.{Head}
-use Rattle.strat_recovery.specs.Opening.{recover}
-use Rattle.strat_recovery.specs.Texts.{text, report, summary, damaged_line}
+use Rattle.def_recovery.specs.Head.{Head}
+use Rattle.def_recovery.specs.Opening.{recover}
+use Rattle.def_texts.specs.Texts.{text, report, summary, damaged_line}
 
 -- what a report of the levels says of what recovery finds
 abbrev pub levels_text : Read (Option Head) → List ℕ

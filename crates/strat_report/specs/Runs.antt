@@ -1,6 +1,6 @@
 -- Runs of versions, as they are printed one after the other.
 use Rattle.std.specs.Prelude.{◌≡◌, ◌+◌, ℕ, ◌==◌, if◌then◌else◌, List, [], ◌∷◌, ◌++◌, flat_map, map, codes}
-use Rattle.strat_recovery.specs.Texts.{runs_of, run_text}
+use Rattle.def_texts.specs.Texts.{runs_of, run_text}
 
 -- a run, and the runs of what follows it: one that begins where it ends is a part of it
 abbrev pub run_with : ℕ × ℕ → List (ℕ × ℕ) → List (ℕ × ℕ)

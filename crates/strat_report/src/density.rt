@@ -2,7 +2,7 @@
 
 ghost use Rattle.std.specs.Prelude.{◌≡◌, ◌++◌, List, Option, Some, None, flat_map, option_map, OnOk, string_bytes, [], ◌∷◌};
 ghost use Rattle.strat_base.specs.declared.descriptors.ArrayDesc.{ArrayDesc as Descriptor};
-ghost use Rattle.strat_recovery.specs.Texts.{sparser, density_line, text};
+ghost use Rattle.def_texts.specs.Texts.{sparser, density_line, text};
 ghost use Rattle.strat_report.specs.Densities.{density_of, least_density};
 
 use std::alloc::AllocError;

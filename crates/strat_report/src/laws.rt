@@ -1,11 +1,11 @@
 //! A law of reports. It is the contract of a function that does nothing.
 
 ghost use Rattle.std.specs.Prelude.{◌≡◌, map, Some};
-ghost use Rattle.strat_crash.specs.Image.{Image};
-ghost use Rattle.strat_recovery.specs.Head.{Head, descriptors};
-ghost use Rattle.strat_recovery.specs.Opening.{state_of};
-ghost use Rattle.strat_state.specs.Sound.{IsSound};
-ghost use Rattle.strat_state.specs.State.{State, densities, lead_fractions};
+ghost use Rattle.def_crash.specs.Image.{Image};
+ghost use Rattle.def_recovery.specs.Head.{Head, descriptors};
+ghost use Rattle.def_recovery.specs.Opening.{state_of};
+ghost use Rattle.def_state.specs.Sound.{IsSound};
+ghost use Rattle.def_state.specs.State.{State, densities, lead_fractions};
 
 /// What the descriptors of a head say of its arrays, and a report prints, are the densities and the lead fractions of the
 /// arrays themselves, where the bytes read as a sound state.

@@ -1,7 +1,7 @@
 //! The lines of a report: of the store, its journal, its levels with their arrays, and what it stores.
 
 ghost use Rattle.std.specs.Prelude.{◌≡◌, ◌++◌, [], ◌∷◌, flat_map, OnOk, string_bytes};
-ghost use Rattle.strat_recovery.specs.Texts.{text, store_line, journal_line, array_line, level_line, level_lines, stored_line, report};
+ghost use Rattle.def_texts.specs.Texts.{text, store_line, journal_line, array_line, level_line, level_lines, stored_line, report};
 ghost use Rattle.strat_report.specs.Lines.{fractions_text};
 
 use crate::totals::{entries_in, entries_of, leads_of};

@@ -1,12 +1,12 @@
 //! The public calls: a store is read, what is to be said of it is put together in memory, and then it is written.
 
 ghost use Rattle.std.specs.Prelude.{◌≡◌, [], ◌∷◌, IfOk, IfErr, string_bytes};
-ghost use Rattle.strat_crash.specs.Faults.{HasCause, ReadsAtMost, Rose};
-ghost use Rattle.strat_crash.specs.Image.{Image};
-ghost use Rattle.strat_crash.specs.Moments.{Exposes, OnlyReads};
+ghost use Rattle.def_crash.specs.Faults.{HasCause, ReadsAtMost, Rose};
+ghost use Rattle.def_crash.specs.Image.{Image};
+ghost use Rattle.def_crash.specs.Moments.{Exposes, OnlyReads};
 ghost use Rattle.strat_model.specs.declared.ended.Ended.TheVariants as ended;
-ghost use Rattle.strat_recovery.specs.Opening.{recover};
-ghost use Rattle.strat_recovery.specs.Texts.{text, report, summary, damaged_line};
+ghost use Rattle.def_recovery.specs.Opening.{recover};
+ghost use Rattle.def_texts.specs.Texts.{text, report, summary, damaged_line};
 ghost use Rattle.strat_report.specs.Reporting.{levels_text, summary_text, GivesUp, IsSilent, IsSaid, WritesReport, IsComplete, ReportHasCause};
 ghost use Rattle.strat_open.specs.Causes.{ended_for};
 

@@ -1,7 +1,7 @@
 //! The lines of a summary of a workload.
 
 ghost use Rattle.std.specs.Prelude.{◌≡◌, ◌++◌, [], ◌∷◌, OnOk, string_bytes};
-ghost use Rattle.strat_recovery.specs.Texts.{text, summary};
+ghost use Rattle.def_texts.specs.Texts.{text, summary};
 ghost use Rattle.strat_report.specs.Lines.{workload_line, counts_line, arrays_line};
 
 use crate::density::{add_density, least_in};

@@ -1,7 +1,7 @@
 //! Lists of versions, as their longest runs.
 
 ghost use Rattle.std.specs.Prelude.{◌≡◌, ◌≤◌, ◌<◌, ◌+◌, ◌∷◌, ◌++◌, length, drop, slice_index_or, IfOk, OnOk, string_bytes};
-ghost use Rattle.strat_recovery.specs.Texts.{runs_of, run_text, versions_text};
+ghost use Rattle.def_texts.specs.Texts.{runs_of, run_text, versions_text};
 ghost use Rattle.strat_report.specs.Runs.{AddsRun};
 
 use std::alloc::AllocError;

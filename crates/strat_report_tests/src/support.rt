@@ -1,6 +1,6 @@
 //! New stores in memory, served with frames, and what is written of them.
 
-ghost use Rattle.strat_format.specs.SuperBlock.{AreLimits};
+ghost use Rattle.def_bytes.specs.SuperBlock.{AreLimits};
 
 use std::alloc::Global;
 use strat_disk::{Disk, MemDisk};

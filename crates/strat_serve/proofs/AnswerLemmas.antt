@@ -3,11 +3,11 @@ use Rattle.std.proofs.Common.{◌≡◌, ◌≤◌, ℕ, zero, suc, Bool, true, 
 use Rattle.std.specs.Prelude.{if◌then◌else◌, is_some}
 use Rattle.strat_base.specs.declared.failures.Fault.{Fault}
 use Rattle.strat_base.specs.declared.failures.Fault.TheVariants as fault
-use Rattle.strat_crash.specs.Image.{Image}
-use Rattle.strat_crash.specs.Moments.{DiskView, Images, Since}
-use Rattle.strat_crash.specs.Trail.{At, Trail}
-use Rattle.strat_crash.proofs.MomentLemmas.{since_now, reads_refl}
-use Rattle.strat_crash.proofs.TrailLemmas.{trail_of_two, marks_in_order}
+use Rattle.def_crash.specs.Image.{Image}
+use Rattle.def_crash.specs.Moments.{DiskView, Images, Since}
+use Rattle.def_crash.specs.Trail.{At, Trail}
+use Rattle.def_crash.proofs.MomentLemmas.{since_now, reads_refl}
+use Rattle.def_crash.proofs.TrailLemmas.{trail_of_two, marks_in_order}
 use Rattle.strat_frame.specs.declared.commands.BodyFault.{BodyFault}
 use Rattle.strat_frame.specs.declared.commands.BodyFault.TheVariants as body
 use Rattle.strat_frame.specs.Faults.{refusal_for}
@@ -23,10 +23,10 @@ use Rattle.strat_model.specs.Stream.{frame}
 use Rattle.strat_model.specs.Table.{Cursor, Table, bare}
 use Rattle.strat_model.specs.Run.{Response}
 use Rattle.strat_model.proofs.FillLemmas.{emptied_after, emptied_few, emptied_is_after}
-use Rattle.strat_recovery.specs.StateTable.{table_of}
-use Rattle.strat_standing.specs.Contents.{Contents, contents_state}
-use Rattle.strat_standing.specs.Standing.{ShowsTable}
-use Rattle.strat_standing.proofs.FreeLemmas.{shows_contents}
+use Rattle.def_meaning.specs.StateTable.{table_of}
+use Rattle.def_publish.specs.Contents.{Contents, contents_state}
+use Rattle.def_publish.specs.Standing.{ShowsTable}
+use Rattle.def_publish.proofs.FreeLemmas.{shows_contents}
 use Rattle.strat_store.specs.Applying.{is_fault, ran_short, FollowsStep, FailsAsTold}
 use Rattle.strat_store.specs.Cursoring.{IsAnsweredAt, IsShortAt, IsBrokenAt, IsAppliedAt}
 use Rattle.strat_memory.specs.Held.{Held, IsConsistent, StandsAt, StandsWith, position_at}

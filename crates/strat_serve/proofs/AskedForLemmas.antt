@@ -8,11 +8,11 @@ use Rattle.std.specs.Option.{unwrap_or}
 use Rattle.strat_base.specs.Change.{Change, Put, Delete, Clone}
 use Rattle.strat_base.specs.Tree.{Parents, has_child}
 use Rattle.strat_base.proofs.ListFacts.{find_some, range_among}
-use Rattle.strat_base.proofs.TreeLemmas.{option_cases}
+use Rattle.strat_base.proofs.ResultFacts.{option_cases}
 use Rattle.strat_model.specs.Spelling.{command_body, Spells}
-use Rattle.strat_recovery.specs.StateTable.{request_for}
-use Rattle.strat_recovery.specs.Workload.{next_draw, drawn, leaf_from, drawn_key, drawn_update, drawn_change, changes_from, workload_changes}
-use Rattle.strat_state.specs.State.{tree_after}
+use Rattle.def_meaning.specs.StateTable.{request_for}
+use Rattle.def_texts.specs.Workload.{next_draw, drawn, leaf_from, drawn_key, drawn_update, drawn_change, changes_from, workload_changes}
+use Rattle.def_state.specs.State.{tree_after}
 use Rattle.strat_serve.specs.Generated.{bodies_from, workload_bodies, AskFor}
 
 -- the chosen version is there

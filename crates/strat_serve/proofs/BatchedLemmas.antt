@@ -1,7 +1,7 @@
 -- What a run promises that makes each change durable by itself is what one of batches promises.
 use Rattle.std.proofs.Common.{◌≡◌, ◌≤◌, ℕ, ◌+◌, List, [], ◌++◌, length, take, map, Option, sym, ap, subst, ◌∙◌, append-nil, arith}
-use Rattle.strat_crash.specs.Image.{Image}
-use Rattle.strat_crash.specs.Moments.{DiskView}
+use Rattle.def_crash.specs.Image.{Image}
+use Rattle.def_crash.specs.Moments.{DiskView}
 use Rattle.strat_model.specs.Run.{Exchange, bodies_of}
 use Rattle.strat_model.specs.Table.{Table}
 use Rattle.strat_model.proofs.BatchLemmas.{over_nothing}

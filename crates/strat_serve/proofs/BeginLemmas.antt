@@ -1,20 +1,20 @@
 -- Where a run begins.
 use Rattle.std.proofs.Common.{◌≡◌, ℕ, [], Option, Some, length, sym, ap, subst, ◌∙◌}
 use Rattle.std.specs.Prelude.{Contains, Ok}
-use Rattle.strat_crash.specs.Image.{Image}
-use Rattle.strat_crash.specs.Moments.{DiskView}
+use Rattle.def_crash.specs.Image.{Image}
+use Rattle.def_crash.specs.Moments.{DiskView}
 use Rattle.strat_cursor.specs.Held.{HeldCursors, AreRowsOf, no_cursors}
-use Rattle.strat_format.specs.Damage.{Read}
+use Rattle.def_bytes.specs.Damage.{Read}
 use Rattle.strat_model.specs.Run.{Position}
 use Rattle.strat_model.specs.Table.{Table}
-use Rattle.strat_recovery.specs.Head.{Head}
-use Rattle.strat_recovery.specs.StateTable.{table_of}
-use Rattle.strat_standing.specs.Contents.{Contents, contents_head, contents_state}
-use Rattle.strat_standing.specs.Standing.{ShowsTable}
-use Rattle.strat_standing.proofs.FreeLemmas.{one_table}
-use Rattle.strat_standing.proofs.ListLemmas.{contained_among}
-use Rattle.strat_standing.proofs.PartsLemmas.{reads_head, state_parts}
-use Rattle.strat_state.specs.State.{State}
+use Rattle.def_recovery.specs.Head.{Head}
+use Rattle.def_meaning.specs.StateTable.{table_of}
+use Rattle.def_publish.specs.Contents.{Contents, contents_head, contents_state}
+use Rattle.def_publish.specs.Standing.{ShowsTable}
+use Rattle.def_publish.proofs.FreeLemmas.{one_table}
+use Rattle.def_publish.proofs.ListLemmas.{contained_among}
+use Rattle.def_publish.proofs.PartsLemmas.{reads_head, state_parts}
+use Rattle.def_state.specs.State.{State}
 use Rattle.strat_open.specs.Following.{IsOpenedAs}
 use Rattle.strat_memory.specs.Held.{Held, StandsAt, StandsWith, head_held, position_at, table_at}
 use Rattle.strat_serve.specs.Session.{Begins}

@@ -2,7 +2,7 @@
 use Rattle.std.proofs.Common.{◌≡◌, ◌<◌, ◌+◌, ◌-◌, ℕ, suc, true, false, ◌∷◌, length, refl, sym, ap, ◌∙◌, arith}
 use Rattle.std.specs.List.{range_with_len}
 use Rattle.strat_base.specs.Tree.{Parents, has_child}
-use Rattle.strat_recovery.specs.Workload.{leaf_from}
+use Rattle.def_texts.specs.Workload.{leaf_from}
 
 -- the numbers from one on, so many and one more
 from_is : (v n m : ℕ) → n - v ≡ suc m → range_with_len v (n - v) ≡ v ∷ range_with_len (suc v) m

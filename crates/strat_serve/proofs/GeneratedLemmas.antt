@@ -6,9 +6,9 @@ use Rattle.strat_base.specs.Tree.{Parents}
 use Rattle.strat_io.specs.Streams.{Gives}
 use Rattle.strat_model.specs.Spelling.{command_body}
 use Rattle.strat_model.specs.Stream.{frame}
-use Rattle.strat_state.specs.State.{tree_after}
-use Rattle.strat_recovery.specs.StateTable.{request_for}
-use Rattle.strat_recovery.specs.Workload.{next_draw, drawn, drawn_change, changes_from}
+use Rattle.def_state.specs.State.{tree_after}
+use Rattle.def_meaning.specs.StateTable.{request_for}
+use Rattle.def_texts.specs.Workload.{next_draw, drawn, drawn_change, changes_from}
 use Rattle.strat_serve.specs.declared.drawing.Pick.{Pick}
 use Rattle.strat_serve.specs.Generated.{picked_change, frame_bytes_from, bytes_left}
 

@@ -9,15 +9,15 @@ use Rattle.std.proofs.lemmas.List.Elements.{Contains-append_right}
 use Rattle.strat_base.specs.declared.descriptors.ArrayDesc.{ArrayDesc}
 use Rattle.strat_base.specs.declared.failures.Fault.{Fault}
 use Rattle.strat_base.specs.declared.failures.Fault.TheVariants as fault
-use Rattle.strat_crash.specs.Blocks.{AgreeOn}
-use Rattle.strat_crash.specs.Image.{Image, Outside}
-use Rattle.strat_crash.specs.Moments.{DiskView, Images, OnlyReads, Passes}
-use Rattle.strat_crash.specs.Trail.{At, Trail}
-use Rattle.strat_crash.proofs.MomentLemmas.{each_then, now_since_start, passes_trans}
-use Rattle.strat_crash.proofs.TrailLemmas.{trail_join}
+use Rattle.def_crash.specs.Blocks.{AgreeOn}
+use Rattle.def_crash.specs.Image.{Image, Outside}
+use Rattle.def_crash.specs.Moments.{DiskView, Images, OnlyReads, Passes}
+use Rattle.def_crash.specs.Trail.{At, Trail}
+use Rattle.def_crash.proofs.MomentLemmas.{each_then, now_since_start, passes_trans}
+use Rattle.def_crash.proofs.TrailLemmas.{trail_join}
 use Rattle.strat_cursor.specs.Looking.{arrays_there}
-use Rattle.strat_format.specs.Layout.{region_at, other_region}
-use Rattle.strat_format.specs.SuperBlock.{Super}
+use Rattle.def_bytes.specs.Layout.{region_at, other_region}
+use Rattle.def_bytes.specs.SuperBlock.{Super}
 use Rattle.strat_io.specs.Streams.{Appends, Gives}
 use Rattle.strat_io.proofs.StreamLemmas.{appends_then}
 use Rattle.strat_model.specs.declared.replies.Refusal.TheVariants as why
@@ -29,15 +29,15 @@ use Rattle.strat_model.specs.Table.{Cursor, Table, bare}
 use Rattle.strat_model.specs.Batch.{tables_before}
 use Rattle.strat_model.specs.Run.{Position, Response, response_bytes, Exchange, Answers, IsRun, is_change, sent_bytes}
 use Rattle.strat_promote.specs.Job.{blocks_listed}
-use Rattle.strat_recovery.specs.Opening.{recover}
-use Rattle.strat_recovery.specs.StateTable.{table_of}
-use Rattle.strat_standing.specs.Contents.{Contents, contents_state}
-use Rattle.strat_standing.specs.Standing.{ShowsTable}
+use Rattle.def_recovery.specs.Opening.{recover}
+use Rattle.def_meaning.specs.StateTable.{table_of}
+use Rattle.def_publish.specs.Contents.{Contents, contents_state}
+use Rattle.def_publish.specs.Standing.{ShowsTable}
 use Rattle.strat_publish.specs.Outcomes.{IsDamagedIn}
 use Rattle.strat_open.specs.Following.{ChangesGateAlone, FollowsFrom, IsOpenedAs}
 use Rattle.strat_memory.specs.Held.{Held, IsConsistent, IsOnDisk, StandsAt, StandsWith, arrays_held, head_held, position_at}
 use Rattle.strat_publish.specs.Settling.{carries_out}
-use Rattle.strat_state.specs.State.{IsPaid}
+use Rattle.def_state.specs.State.{IsPaid}
 use Rattle.strat_memory.specs.Paying.{IsPaidIn, ArePaidSince}
 use Rattle.strat_publish.proofs.LaidLemmas.{kept_on}
 use Rattle.strat_memory.proofs.OnDiskLemmas.{read_on}

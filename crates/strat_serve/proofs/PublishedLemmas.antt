@@ -4,11 +4,11 @@ use Rattle.std.specs.Prelude.{Contains, IfSome, flat_map}
 use Rattle.std.proofs.lemmas.List.Elements.{Contains-append_cases}
 use Rattle.strat_base.specs.declared.descriptors.ArrayDesc.{ArrayDesc}
 use Rattle.strat_base.specs.declared.descriptors.LevelDesc.{LevelDesc}
-use Rattle.strat_crash.specs.Moments.{DiskView, Images, Passes}
-use Rattle.strat_crash.proofs.MomentLemmas.{at_told}
+use Rattle.def_crash.specs.Moments.{DiskView, Images, Passes}
+use Rattle.def_crash.proofs.MomentLemmas.{at_told}
 use Rattle.strat_cursor.specs.Held.{HeldCursors, no_cursors}
 use Rattle.strat_cursor.specs.Looking.{arrays_there}
-use Rattle.strat_standing.proofs.ListLemmas.{contained_among}
+use Rattle.def_publish.proofs.ListLemmas.{contained_among}
 use Rattle.strat_memory.specs.Held.{Held, IsConsistent, IsOnDisk, arrays_held}
 use Rattle.strat_serve.specs.Session.{WasPublished}
 

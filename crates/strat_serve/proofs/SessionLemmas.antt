@@ -8,9 +8,9 @@ use Rattle.std.proofs.lemmas.List.Concat.{flat_map-append}
 use Rattle.strat_base.specs.declared.failures.Fault.{Fault}
 use Rattle.strat_base.specs.declared.failures.Fault.TheVariants as fault
 use Rattle.strat_base.specs.Numbers.{AreBytes}
-use Rattle.strat_crash.specs.Faults.{Rose}
-use Rattle.strat_crash.specs.Image.{Image}
-use Rattle.strat_crash.specs.Moments.{DiskView, Passes}
+use Rattle.def_crash.specs.Faults.{Rose}
+use Rattle.def_crash.specs.Image.{Image}
+use Rattle.def_crash.specs.Moments.{DiskView, Passes}
 use Rattle.strat_io.specs.Streams.{Appends}
 use Rattle.strat_io.proofs.StreamLemmas.{appends_then}
 use Rattle.strat_model.specs.declared.ended.Ended.{Ended}
@@ -19,9 +19,9 @@ use Rattle.strat_model.specs.Stream.{frame, IsBody, is_partial, is_too_long, Spl
 use Rattle.strat_model.specs.Table.{Table, bare}
 use Rattle.strat_model.specs.Batch.{tables_before}
 use Rattle.strat_model.specs.Run.{Response, response_bytes, AnswersFault, Exchange, Interruption, Transcript, bodies_of, sent_bytes}
-use Rattle.strat_recovery.specs.StateTable.{table_of}
-use Rattle.strat_standing.specs.Contents.{contents_state}
-use Rattle.strat_standing.specs.Standing.{ShowsTable}
+use Rattle.def_meaning.specs.StateTable.{table_of}
+use Rattle.def_publish.specs.Contents.{contents_state}
+use Rattle.def_publish.specs.Standing.{ShowsTable}
 use Rattle.strat_open.specs.Following.{FollowsFrom}
 use Rattle.strat_memory.specs.Held.{Held, IsConsistent, IsOnDisk, head_held, position_at}
 use Rattle.strat_memory.proofs.PayingLemmas.{paid_now}

@@ -1,14 +1,14 @@
 -- Runs over disks whose images show several tables.
 use Rattle.std.proofs.Common.{◌⊎◌, inl, inr, ℕ, zero, suc, [], ◌∷◌, arith}
 use Rattle.std.proofs.lemmas.Bool.{cases_lt}
-use Rattle.strat_crash.specs.Image.{Image}
-use Rattle.strat_crash.specs.Moments.{DiskView, Exposes, Images, Since}
-use Rattle.strat_crash.specs.Trail.{At}
-use Rattle.strat_crash.proofs.MomentLemmas.{at_told}
+use Rattle.def_crash.specs.Image.{Image}
+use Rattle.def_crash.specs.Moments.{DiskView, Exposes, Images, Since}
+use Rattle.def_crash.specs.Trail.{At}
+use Rattle.def_crash.proofs.MomentLemmas.{at_told}
 use Rattle.strat_model.specs.Run.{Transcript, tables_of}
 use Rattle.strat_model.specs.Table.{Table}
-use Rattle.strat_standing.specs.Several.{EachShows, ShowOneOfSince, ShowsOneOf}
-use Rattle.strat_standing.specs.Standing.{LeavesContent, ShowsTable}
+use Rattle.def_publish.specs.Several.{EachShows, ShowOneOfSince, ShowsOneOf}
+use Rattle.def_publish.specs.Standing.{LeavesContent, ShowsTable}
 use Rattle.strat_open.specs.Following.{FollowsFrom, IsOpenedAs, LeavesOpening}
 use Rattle.strat_memory.specs.Held.{Held}
 use Rattle.strat_serve.specs.Tables.{GoesThroughTables}

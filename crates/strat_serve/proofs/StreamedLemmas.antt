@@ -12,10 +12,10 @@ use Rattle.strat_base.proofs.NumberLemmas.{length-be, number-be, number-take}
 use Rattle.strat_model.specs.Spelling.{command_body, counted}
 use Rattle.strat_model.specs.Stream.{frame, IsBody, Splits, Whole, Rest, Long, ending_of, is_too_long}
 use Rattle.strat_model.proofs.StreamLemmas.{one_splitting, same_frame}
-use Rattle.strat_recovery.specs.StateTable.{request_for}
-use Rattle.strat_recovery.specs.Workload.{next_draw, drawn, leaf_from, drawn_key, drawn_update, drawn_change, changes_from, workload_changes}
-use Rattle.strat_state.specs.State.{tree_after}
-use Rattle.strat_recovery.proofs.WorkloadLemmas.{lengths}
+use Rattle.def_meaning.specs.StateTable.{request_for}
+use Rattle.def_texts.specs.Workload.{next_draw, drawn, leaf_from, drawn_key, drawn_update, drawn_change, changes_from, workload_changes}
+use Rattle.def_state.specs.State.{tree_after}
+use Rattle.def_texts.proofs.WorkloadLemmas.{lengths}
 use Rattle.strat_serve.specs.Generated.{frame_bytes_from, workload_bytes, bodies_from, workload_bodies}
 use Rattle.strat_serve.proofs.FramingLemmas.{length-counted}
 

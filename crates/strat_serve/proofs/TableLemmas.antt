@@ -7,9 +7,9 @@ use Rattle.std.proofs.lemmas.List.{take_all, length-map}
 use Rattle.strat_base.specs.Tree.{Parents}
 use Rattle.strat_base.specs.declared.failures.Fault.{Fault}
 use Rattle.strat_base.specs.declared.failures.Fault.TheVariants as fault
-use Rattle.strat_crash.specs.Image.{Image}
-use Rattle.strat_crash.specs.Moments.{DiskView, Since}
-use Rattle.strat_crash.specs.Trail.{At, Trail}
+use Rattle.def_crash.specs.Image.{Image}
+use Rattle.def_crash.specs.Moments.{DiskView, Since}
+use Rattle.def_crash.specs.Trail.{At, Trail}
 use Rattle.strat_io.specs.Streams.{Appends}
 use Rattle.strat_model.specs.declared.ended.Ended.{Ended}
 use Rattle.strat_model.specs.declared.ended.Ended.TheVariants as ended
@@ -19,9 +19,9 @@ use Rattle.strat_model.specs.Ended.{status_of}
 use Rattle.strat_model.specs.Run.{Position, Response, Exchange, Interruption, Transcript, IsTranscript, UsesOneRegion, bodies_of, responses_of, tables_of, of_interruption, sent_bytes}
 use Rattle.strat_model.specs.Stream.{frame, Splits, Whole, Rest, Long, ending_of, is_too_long}
 use Rattle.strat_model.specs.Table.{Table}
-use Rattle.strat_standing.specs.Standing.{ShowsTable}
-use Rattle.strat_state.specs.Level.{Level, IsStratified, is_dense}
-use Rattle.strat_state.specs.State.{State, stored, updates_of, versions_of}
+use Rattle.def_publish.specs.Standing.{ShowsTable}
+use Rattle.def_state.specs.Level.{Level, IsStratified, is_dense}
+use Rattle.def_state.specs.State.{State, stored, updates_of, versions_of}
 use Rattle.strat_open.specs.Following.{FollowsFrom}
 use Rattle.strat_memory.specs.Paying.{IsPaidIn}
 use Rattle.strat_serve.specs.Session.{AreAnsweredBy, Begins, RespondsTo, Session, SendsAllButLast, AnswersAll, WaitsForNone, Served, FollowsRun, all_responses, listed_response, last_output, output, too_long_bytes, EndsWithFault, EndsFor, fault_told}

@@ -5,8 +5,8 @@ use Rattle.std.specs.List.{flat_map}
 use Rattle.strat_base.specs.Change.{Change, Put, Delete, Clone}
 use Rattle.strat_base.specs.Tree.{Parents}
 use Rattle.strat_model.specs.Spelling.{command_body, Spells}
-use Rattle.strat_recovery.specs.StateTable.{request_for}
-use Rattle.strat_recovery.specs.Workload.{drawn_key, changes_from, workload_changes, frames_from, workload}
+use Rattle.def_meaning.specs.StateTable.{request_for}
+use Rattle.def_texts.specs.Workload.{drawn_key, changes_from, workload_changes, frames_from, workload}
 use Rattle.strat_serve.specs.declared.drawing.Pick.{Pick}
 use Rattle.strat_serve.specs.declared.drawing.Pick.TheVariants as pick
 

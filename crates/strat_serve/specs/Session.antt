@@ -5,13 +5,13 @@ use Rattle.std.specs.List.{AllByRecursion, flat_map}
 use Rattle.strat_base.specs.declared.descriptors.ArrayDesc.{ArrayDesc}
 use Rattle.strat_base.specs.declared.failures.Fault.{Fault}
 use Rattle.strat_base.specs.declared.failures.Fault.TheVariants as fault
-use Rattle.strat_crash.specs.Blocks.{AgreeOn}
-use Rattle.strat_crash.specs.Faults.{Rose}
-use Rattle.strat_crash.specs.Image.{Image}
-use Rattle.strat_crash.specs.Moments.{DiskView, Exposes, OnlyReads, Passes}
-use Rattle.strat_crash.specs.Trail.{Trail}
-use Rattle.strat_format.specs.Chained.{Chained, manifest_at}
-use Rattle.strat_format.specs.SuperBlock.{Super, newest_in}
+use Rattle.def_crash.specs.Blocks.{AgreeOn}
+use Rattle.def_crash.specs.Faults.{Rose}
+use Rattle.def_crash.specs.Image.{Image}
+use Rattle.def_crash.specs.Moments.{DiskView, Exposes, OnlyReads, Passes}
+use Rattle.def_crash.specs.Trail.{Trail}
+use Rattle.def_bytes.specs.Chained.{Chained, manifest_at}
+use Rattle.def_bytes.specs.SuperBlock.{Super, newest_in}
 use Rattle.strat_io.specs.Streams.{Appends}
 use Rattle.strat_model.specs.declared.ended.Ended.{Ended}
 use Rattle.strat_model.specs.declared.ended.Ended.TheVariants as ended
@@ -27,11 +27,11 @@ use Rattle.strat_model.specs.Table.{Cursor, Table, bare}
 use Rattle.strat_model.specs.Batch.{Continuation, tables_continued}
 use Rattle.strat_model.specs.Run.{is_change, reaches_disk, takes_memory, Position, Response, response_bytes, Answers, AnswersFault, Transcript, IsTranscript, UsesOneRegion, bodies_of, tables_of, sent_bytes}
 use Rattle.strat_promote.specs.Job.{blocks_listed}
-use Rattle.strat_recovery.specs.Head.{Head, descriptors}
-use Rattle.strat_recovery.specs.Opening.{recover}
-use Rattle.strat_recovery.specs.StateTable.{table_of}
-use Rattle.strat_standing.specs.Contents.{Contents, contents_state}
-use Rattle.strat_standing.specs.Standing.{ShowsTable}
+use Rattle.def_recovery.specs.Head.{Head, descriptors}
+use Rattle.def_recovery.specs.Opening.{recover}
+use Rattle.def_meaning.specs.StateTable.{table_of}
+use Rattle.def_publish.specs.Contents.{Contents, contents_state}
+use Rattle.def_publish.specs.Standing.{ShowsTable}
 use Rattle.strat_publish.specs.Outcomes.{IsDamagedIn}
 use Rattle.strat_store.specs.Applying.{IsUntouched, TellsTroubleOf, is_fault, may_write}
 use Rattle.strat_store.specs.Cursoring.{LeavesCursors}

@@ -1,9 +1,9 @@
 -- What a serving run does over a disk that shows a table, in words of tables and of crashes.
 use Rattle.std.specs.Prelude.{◌≡◌, ◌≢◌, ◌≤◌, ◌<◌, ◌⊎◌, ℕ, ◌+◌, ◌*◌, List, [], ◌++◌, length, take, Option, Some, None, IsTrue}
 use Rattle.std.specs.List.{list_all}
-use Rattle.strat_crash.specs.Image.{Image}
-use Rattle.strat_crash.specs.Moments.{DiskView, Images, Since}
-use Rattle.strat_crash.specs.Trail.{At, Trail}
+use Rattle.def_crash.specs.Image.{Image}
+use Rattle.def_crash.specs.Moments.{DiskView, Images, Since}
+use Rattle.def_crash.specs.Trail.{At, Trail}
 use Rattle.strat_io.specs.Streams.{Appends}
 use Rattle.strat_model.specs.declared.ended.Ended.{Ended}
 use Rattle.strat_model.specs.declared.ended.Ended.TheVariants as ended
@@ -13,11 +13,11 @@ use Rattle.strat_model.specs.Ended.{status_of}
 use Rattle.strat_model.specs.Run.{Position, Interruption, Transcript, IsTranscript, UsesOneRegion, bodies_of, responses_of, tables_of, sent_bytes}
 use Rattle.strat_model.specs.Stream.{Splits, Rest, Long, ending_of}
 use Rattle.strat_model.specs.Table.{Table}
-use Rattle.strat_recovery.specs.Opening.{reads_as}
-use Rattle.strat_standing.specs.Standing.{ShowsTable}
-use Rattle.strat_state.specs.Level.{is_dense}
-use Rattle.strat_state.specs.Sound.{IsSound}
-use Rattle.strat_state.specs.State.{State, stored, updates_of, versions_of}
+use Rattle.def_recovery.specs.Opening.{reads_as}
+use Rattle.def_publish.specs.Standing.{ShowsTable}
+use Rattle.def_state.specs.Level.{is_dense}
+use Rattle.def_state.specs.Sound.{IsSound}
+use Rattle.def_state.specs.State.{State, stored, updates_of, versions_of}
 use Rattle.strat_memory.specs.Paying.{IsPaidIn}
 use Rattle.strat_serve.specs.Session.{Took, IsAtEnd, WaitsForNone, too_long_bytes}
 use Rattle.strat_serve.specs.World.{Streams}

@@ -1,11 +1,11 @@
 //! The answer to one frame, and to one that is too long.
 
 ghost use Rattle.std.specs.Prelude.{◌≡◌, ℕ, OnOk, OnErr, IfOk, [], Some, None, is_some, false};
-ghost use Rattle.strat_crash.specs.Blocks.{AgreeOn};
+ghost use Rattle.def_crash.specs.Blocks.{AgreeOn};
 ghost use Rattle.strat_base.specs.declared.failures.Fault.TheVariants as fault;
-ghost use Rattle.strat_crash.specs.Faults.{CountsFaults};
-ghost use Rattle.strat_crash.specs.Image.{Image};
-ghost use Rattle.strat_crash.specs.Moments.{Exposes, Passes};
+ghost use Rattle.def_crash.specs.Faults.{CountsFaults};
+ghost use Rattle.def_crash.specs.Image.{Image};
+ghost use Rattle.def_crash.specs.Moments.{Exposes, Passes};
 ghost use Rattle.strat_frame.specs.Faults.{refusal_for};
 ghost use Rattle.strat_io.specs.Streams.{Appends};
 ghost use Rattle.strat_promote.specs.Job.{blocks_listed};
@@ -79,7 +79,7 @@ pub fn answer_frame<D: Disk>(
     requires kept { IsConsistent store.old }
     ensures ok { IsAnswered (D.view disk.old) (D.view disk.new) store.old body.now result
         store.new out.new }
-    ensures end { store.new.spent ≡ is_some result }
+    ensures state { store.new.spent ≡ is_some result }
     ensures kept { result ≡ None → IsConsistent store.new }
     ensures same { store.new.sb.mem ≡ store.old.sb.mem }
     ensures time { Passes (D.view disk.old) (D.view disk.new) }

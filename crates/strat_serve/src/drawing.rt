@@ -2,8 +2,8 @@
 
 ghost use Rattle.std.specs.Prelude.{◌≡◌, ◌+◌, ◌≤◌, ◌<◌, ◌%◌, ℕ, true, length};
 ghost use Rattle.strat_base.specs.Tree.{has_child};
-ghost use Rattle.strat_recovery.specs.Workload.{next_draw, drawn, leaf_from, drawn_change};
-ghost use Rattle.strat_state.specs.State.{tree_after};
+ghost use Rattle.def_texts.specs.Workload.{next_draw, drawn, leaf_from, drawn_change};
+ghost use Rattle.def_state.specs.State.{tree_after};
 ghost use Rattle.strat_serve.specs.Generated.{picked_change, makes_version};
 
 use arrayvec::ArrayVec;
@@ -34,7 +34,7 @@ fn next_draw(state: u64) -> u64
 /// Draws once: the upper 31 bits of the generator's next state.
 fn draw(state: &mut u64) -> u32
     ensures ok { result ≡ drawn (next_draw state.old) }
-    ensures end { state.new ≡ next_draw state.old }
+    ensures state { state.new ≡ next_draw state.old }
 {
     *state = next_draw(*state);
     (*state / (1 << 33)) as u32
@@ -108,7 +108,7 @@ pub(crate) fn draw_change(state: &mut u64, parents: &mut ArrayVec<Option<u32>, V
         (drawn (next_draw (next_draw (next_draw state.old))) % 1000) }
     ensures kept { (i : ℕ) → parents.new.items
         ≡ tree_after parents.old.items (picked_change i result) }
-    ensures end { state.new ≡ next_draw (next_draw (next_draw state.old)) }
+    ensures state { state.new ≡ next_draw (next_draw (next_draw state.old)) }
     ensures len { 0 < length parents.new.items }
 {
     let kind = draw(state) % 64;

@@ -5,8 +5,8 @@ ghost use Rattle.std.specs.Fmt.{decimal};
 ghost use Rattle.strat_base.specs.Numbers.{be};
 ghost use Rattle.strat_model.specs.Spelling.{command_body, counted};
 ghost use Rattle.strat_model.specs.Stream.{frame};
-ghost use Rattle.strat_recovery.specs.StateTable.{request_for};
-ghost use Rattle.strat_recovery.specs.Workload.{last_digit, drawn_key};
+ghost use Rattle.def_meaning.specs.StateTable.{request_for};
+ghost use Rattle.def_texts.specs.Workload.{last_digit, drawn_key};
 ghost use Rattle.strat_base.specs.Change.{Put, Delete};
 ghost use Rattle.strat_serve.specs.Generated.{picked_change};
 

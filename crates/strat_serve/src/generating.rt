@@ -1,7 +1,7 @@
 //! A source whose bytes are made as they are read, and a sink that keeps nothing.
 
 ghost use Rattle.std.specs.Prelude.{◌≡◌, ◌+◌, ◌-◌, ◌≤◌, ◌<◌, ℕ, length, take, min, List, Option, IsOk, IfOk, OnErr};
-ghost use Rattle.strat_crash.specs.Faults.{CountsFaults};
+ghost use Rattle.def_crash.specs.Faults.{CountsFaults};
 ghost use Rattle.strat_io.specs.Streams.{Gives, Appends};
 ghost use Rattle.strat_serve.specs.Generated.{workload_bytes, bytes_left, IsGenerating};
 

@@ -4,13 +4,13 @@
 ghost use Rattle.std.specs.List.{flat_map};
 ghost use Rattle.std.specs.Prelude.{◌≡◌, ◌≢◌, ◌<◌, ◌≤◌, ◌⊎◌, ◌+◌, ℕ, List, [], ◌++◌, Contains, IsSome, None, Ok, Option, Some, length, map, slice_get, take, true};
 ghost use Rattle.strat_base.specs.declared.descriptors.ArrayDesc.{ArrayDesc};
-ghost use Rattle.strat_crash.specs.Blocks.{AgreeOn};
-ghost use Rattle.strat_crash.specs.Faults.{Rose};
-ghost use Rattle.strat_crash.specs.Image.{Image, Outside};
-ghost use Rattle.strat_crash.specs.Moments.{Exposes, Images, Since};
-ghost use Rattle.strat_crash.specs.Trail.{At};
-ghost use Rattle.strat_format.specs.Layout.{region_at, other_region};
-ghost use Rattle.strat_format.specs.SuperBlock.{Super, newest_in};
+ghost use Rattle.def_crash.specs.Blocks.{AgreeOn};
+ghost use Rattle.def_crash.specs.Faults.{Rose};
+ghost use Rattle.def_crash.specs.Image.{Image, Outside};
+ghost use Rattle.def_crash.specs.Moments.{Exposes, Images, Since};
+ghost use Rattle.def_crash.specs.Trail.{At};
+ghost use Rattle.def_bytes.specs.Layout.{region_at, other_region};
+ghost use Rattle.def_bytes.specs.SuperBlock.{Super, newest_in};
 ghost use Rattle.strat_model.specs.declared.ended.Ended.{Ended};
 ghost use Rattle.strat_model.specs.declared.ended.Ended.TheVariants as ended;
 ghost use Rattle.strat_model.specs.declared.replies.Refusal.{Refusal};
@@ -25,10 +25,10 @@ ghost use Rattle.strat_model.specs.Spelling.{Spells, IsRefusedAs};
 ghost use Rattle.strat_model.specs.Stream.{frame};
 ghost use Rattle.strat_model.specs.Table.{Table};
 ghost use Rattle.strat_promote.specs.Job.{blocks_listed};
-ghost use Rattle.strat_recovery.specs.Head.{Head};
-ghost use Rattle.strat_recovery.specs.Opening.{recover};
-ghost use Rattle.strat_standing.specs.Several.{EachShows, ShowOneOfSince, ShowsOneOf};
-ghost use Rattle.strat_standing.specs.Standing.{LeavesContent, ShowsTable};
+ghost use Rattle.def_recovery.specs.Head.{Head};
+ghost use Rattle.def_recovery.specs.Opening.{recover};
+ghost use Rattle.def_publish.specs.Several.{EachShows, ShowOneOfSince, ShowsOneOf};
+ghost use Rattle.def_publish.specs.Standing.{LeavesContent, ShowsTable};
 ghost use Rattle.strat_publish.specs.Outcomes.{IsDamagedIn};
 ghost use Rattle.strat_store.specs.Applying.{is_fault};
 ghost use Rattle.strat_open.specs.Following.{IsOpenedAs, LeavesOpening};
@@ -38,7 +38,7 @@ ghost use Rattle.strat_serve.specs.Session.{Begins, AreCalm, FollowsContinued, F
 ghost use Rattle.strat_serve.specs.Tables.{AnswersAsTable, EndsAtTables, GoesThroughTables, KeepsSpace, begins_at};
 ghost use Rattle.strat_serve.specs.World.{Streams, beside};
 
-use strat_crash::laws::Viewed;
+use def_crash::laws::Viewed;
 
 /// An image shows one table, and a run that is served from it begins there. What a run leaves at each
 /// moment shows one of its tables, at or after the last that it acknowledged by then: so where a run

@@ -1,8 +1,8 @@
 //! The serving run.
 
 ghost use Rattle.std.specs.Prelude.{◌≡◌, ◌≢◌, ◌<◌, ◌≤◌, ◌+◌, length, take, [], IfOk, IfSome, IfNone, OnOk, OnErr, false};
-ghost use Rattle.strat_crash.specs.Faults.{CountsFaults};
-ghost use Rattle.strat_crash.specs.Moments.{Passes};
+ghost use Rattle.def_crash.specs.Faults.{CountsFaults};
+ghost use Rattle.def_crash.specs.Moments.{Passes};
 ghost use Rattle.strat_io.specs.Streams.{Appends};
 ghost use Rattle.strat_open.specs.Causes.{ended_for};
 ghost use Rattle.strat_memory.specs.Held.{IsConsistent};
@@ -93,7 +93,7 @@ fn at_end(held: usize) -> Ended
 }
 
 /// Serves frames from a source to a sink over an open store, as `serve` does.
-#[tactic(auto, using(strat_crash::proofs::MomentLemmas::passes_trans))]
+#[tactic(auto, using(def_crash::proofs::MomentLemmas::passes_trans))]
 fn serve_frames<S: Source, K: Sink, D: Disk>(
     store: &mut Store,
     buffers: &mut Buffers,
@@ -166,7 +166,7 @@ fn serve_frames<S: Source, K: Sink, D: Disk>(
 /// it touches the disk, and reads at most 4,096 bytes at a time. It reads on when each whole frame among
 /// them is answered: any reply may be the one that fails, and by then no more was read than a piece behind
 /// those whose replies went out. A reply goes out when the change that it answers is durable.
-#[tactic(auto, using(strat_crash::proofs::MomentLemmas::passes_trans))]
+#[tactic(auto, using(def_crash::proofs::MomentLemmas::passes_trans))]
 pub fn serve<S: Source, K: Sink, D: Disk>(
     alloc: Global,
     source: &mut S,

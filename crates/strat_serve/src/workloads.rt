@@ -2,7 +2,7 @@
 
 ghost use Rattle.std.specs.Prelude.{◌≡◌, ◌≢◌, ◌≤◌, ◌<◌, ◌*◌, ◌^◌, ◌++◌, ℕ, List, [], length, take};
 ghost use Rattle.strat_model.specs.Stream.{Splits, Long, ending_of};
-ghost use Rattle.strat_recovery.specs.Workload.{workload_changes};
+ghost use Rattle.def_texts.specs.Workload.{workload_changes};
 ghost use Rattle.strat_serve.specs.Generated.{workload_bytes, workload_bodies, AskFor};
 
 /// The bytes of a workload are whole frames, none of which is too long, and few: of 1,000,000 changes

@@ -1,6 +1,6 @@
 //! New stores in memory, and runs over them.
 
-ghost use Rattle.strat_format.specs.SuperBlock.{AreLimits};
+ghost use Rattle.def_bytes.specs.SuperBlock.{AreLimits};
 
 use std::alloc::Global;
 use strat_disk::{Disk, MemDisk};

@@ -6,7 +6,7 @@ use Rattle.strat_base.specs.Tree.{Parents, is_ancestor, IsTree}
 use Rattle.strat_base.proofs.ListFacts.{Among, any_from, any_among, all_at, among_filter, filter_among}
 use Rattle.strat_arena.specs.declared.items.Item.{Item}
 use Rattle.strat_live.specs.Group.{is_descending, is_nearer, is_live_item}
-use Rattle.strat_plan.specs.Plan.{Plan, horizon_of, part_of, IsSplit}
+use Rattle.def_split.specs.Plan.{Plan, horizon_of, part_of, IsSplit}
 use Rattle.strat_split.specs.Taken.{is_taken_item}
 use Rattle.strat_split.proofs.TakenLemmas.{live_taken}
 

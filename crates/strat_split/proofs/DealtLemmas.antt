@@ -4,9 +4,9 @@ use Rattle.std.specs.Option.{option_or, is_some}
 use Rattle.std.proofs.lemmas.Bool.{lt-ltb, le-ltb, eq-eqb, ne_eqb, cases_eq, cases_lt}
 use Rattle.std.proofs.lemmas.List.{get_or-set_other, length-map}
 use Rattle.strat_base.specs.Tree.{Parents}
-use Rattle.strat_base.proofs.TreeLemmas.{option_cases}
+use Rattle.strat_base.proofs.ResultFacts.{option_cases}
 use Rattle.strat_arena.specs.declared.items.Item.{Item}
-use Rattle.strat_plan.specs.Plan.{part_of}
+use Rattle.def_split.specs.Plan.{part_of}
 use Rattle.strat_split.specs.Chains.{first_labelled}
 use Rattle.strat_split.specs.Dealing.{Deal, labels_of, above_of, items_taken, item_leads, taken_over, with_gift, passed_on, IsSplitFor, IsDealing, IsNextPart, TakeNothing}
 use Rattle.strat_split.specs.Hanging.{carrier_of, carriers_of}

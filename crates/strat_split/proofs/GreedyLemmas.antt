@@ -5,7 +5,8 @@ use Rattle.std.proofs.lemmas.List.{get_or-set_same, get_or-set_other, get_or-rep
 use Rattle.std.specs.List.{slice_get}
 use Rattle.std.proofs.lemmas.Option.{slice_get-get_or}
 use Rattle.strat_base.specs.Tree.{Parents, parent_of, IsTree}
-use Rattle.strat_base.proofs.TreeLemmas.{option_cases, parent_older, root_is_zero}
+use Rattle.strat_base.proofs.ResultFacts.{option_cases}
+use Rattle.strat_base.proofs.TreeLemmas.{parent_older, root_is_zero}
 use Rattle.strat_tree.specs.Ancestor.{up}
 use Rattle.strat_split.specs.Survey.{Told}
 use Rattle.strat_split.specs.Greedy.{is_enough, fate_after, open_after, sums_taken, sums_after, sums_from, leads_of_rest, fate_of}

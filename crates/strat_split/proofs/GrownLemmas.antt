@@ -3,11 +3,12 @@ use Rattle.std.proofs.Common.{◌≡◌, ◌<◌, ℕ, zero, suc, Bool, eqb, ltb
 use Rattle.std.specs.List.{list_any}
 use Rattle.std.specs.Option.{option_map_or}
 use Rattle.strat_base.specs.Tree.{Parents, parent_of, climb, IsTree}
-use Rattle.strat_base.proofs.TreeLemmas.{option_cases, parent_older}
+use Rattle.strat_base.proofs.ResultFacts.{option_cases}
+use Rattle.strat_base.proofs.TreeLemmas.{parent_older}
 use Rattle.strat_arena.specs.declared.items.Item.{Item}
 use Rattle.strat_live.specs.Counting.{SameParents}
 use Rattle.strat_live.specs.Group.{is_live_item}
-use Rattle.strat_plan.specs.Plan.{Plan, horizon_of, part_of, part_at, IsSplit}
+use Rattle.def_split.specs.Plan.{Plan, horizon_of, part_of, part_at, IsSplit}
 use Rattle.strat_split.specs.Taken.{is_inherited_item, is_taken_item}
 
 module _ (parents : Parents) (tree : IsTree parents) (n : ℕ) (others : Parents) (same : SameParents n others parents) where

@@ -6,8 +6,8 @@ use Rattle.strat_base.specs.Tree.{Parents}
 use Rattle.strat_base.specs.Entries.{Entry, is_of}
 use Rattle.strat_arena.specs.declared.items.Item.{Item}
 use Rattle.strat_live.proofs.GroupLemmas.{live_keyed}
-use Rattle.strat_plan.specs.Plan.{Plan, part_of, part_at}
-use Rattle.strat_plan.specs.Planned.{is_inherited, is_taken}
+use Rattle.def_split.specs.Plan.{Plan, part_of, part_at}
+use Rattle.def_split.specs.Planned.{is_inherited, is_taken}
 use Rattle.strat_split.specs.Taken.{is_inherited_item, is_taken_item}
 
 module _ (parents : Parents) (items : List Item) (key : List ℕ) (entry : Item → Entry) (keyed : list_all (λ y. is_of key (entry y)) items ≡ true) (at : (item : Item) → (entry item).version ≡ item.version) where

@@ -6,11 +6,12 @@ use Rattle.std.proofs.lemmas.List.{get_or-map, length-map}
 use Rattle.std.proofs.lemmas.Option.{slice_get-get_or}
 use Rattle.strat_base.specs.Tree.{Parents, is_ancestor}
 use Rattle.strat_base.proofs.ListFacts.{Among, any_from, all_at, among_filter, find_some}
-use Rattle.strat_base.proofs.TreeLemmas.{option_cases, parent_older, along_path}
+use Rattle.strat_base.proofs.ResultFacts.{option_cases}
+use Rattle.strat_base.proofs.TreeLemmas.{parent_older, along_path}
 use Rattle.strat_arena.specs.declared.items.Item.{Item}
 use Rattle.strat_live.specs.Counting.{SameParents, item_versions, are_below}
 use Rattle.strat_live.specs.Group.{is_descending, is_nearer, is_live_item}
-use Rattle.strat_plan.specs.Plan.{part_of, part_at, in_no_part}
+use Rattle.def_split.specs.Plan.{part_of, part_at, in_no_part}
 use Rattle.strat_split.specs.Dealing.{above_of, items_taken, item_leads, taken_over, with_gift, IsSplitFor}
 use Rattle.strat_split.specs.Hanging.{carrier_of, carriers_of}
 use Rattle.strat_split.specs.PlanSeen.{part_seen, plan_seen}

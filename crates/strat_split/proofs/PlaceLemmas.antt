@@ -4,7 +4,7 @@ use Rattle.std.proofs.lemmas.Bool.{eq-eqb, ne_eqb, cases_eq}
 use Rattle.std.proofs.lemmas.List.{get_or-set_same, get_or-set_other, get_or-replicate, length-set, length-replicate}
 use Rattle.strat_base.specs.Tree.{IsTree}
 use Rattle.strat_tree.specs.Ancestor.{up}
-use Rattle.strat_plan.specs.Plan.{in_no_part}
+use Rattle.def_split.specs.Plan.{in_no_part}
 use Rattle.strat_split.specs.Survey.{Told, AreCounted}
 use Rattle.strat_split.specs.Greedy.{sums_from, leads_of_rest, fate_of, open_after, fate_after}
 use Rattle.strat_split.specs.Placing.{nth_part, part_sum, part_below, top_part, IsFit, IsServed, IsSoFar, IsPlaced}

@@ -5,7 +5,7 @@ use Rattle.std.proofs.lemmas.Bool.{eq-eqb, ne_eqb, cases_eq, cases_lt}
 use Rattle.std.proofs.lemmas.List.{get_or-set_same, get_or-set_other, get_or_append_left, get_or_push, length_push, length-set}
 use Rattle.strat_base.specs.Tree.{parent_of}
 use Rattle.strat_tree.specs.Ancestor.{up}
-use Rattle.strat_plan.specs.Plan.{in_no_part}
+use Rattle.def_split.specs.Plan.{in_no_part}
 use Rattle.strat_split.specs.Survey.{Told, AreCounted}
 use Rattle.strat_split.specs.Greedy.{sums_from, leads_of_rest, open_after}
 use Rattle.strat_split.specs.Placing.{nth_part, part_sum, IsFit, IsServed, IsSoFar}

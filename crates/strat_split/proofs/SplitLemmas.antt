@@ -4,15 +4,16 @@ use Rattle.std.specs.List.{sum_by}
 use Rattle.std.specs.Option.{option_map_or}
 use Rattle.std.proofs.lemmas.List.{length-map}
 use Rattle.strat_base.specs.Tree.{Parents, parent_of}
-use Rattle.strat_base.proofs.TreeLemmas.{option_cases, root_is_zero, parent_older}
+use Rattle.strat_base.proofs.ResultFacts.{option_cases}
+use Rattle.strat_base.proofs.TreeLemmas.{root_is_zero, parent_older}
 use Rattle.strat_tree.specs.Ancestor.{up}
-use Rattle.strat_state.specs.Counted.{own_at, keys_at}
+use Rattle.def_state.specs.Counted.{own_at, keys_at}
 use Rattle.strat_live.specs.Tallies.{Tallies}
 use Rattle.strat_live.specs.Counting.{IsCount, SameParents}
 use Rattle.strat_live.proofs.CountingLemmas.{live_same}
 use Rattle.strat_live.proofs.CountingLaws.{live_grows, live_grows_by_own, root_live, own_live}
-use Rattle.strat_plan.specs.Plan.{IsSplit, in_no_part, horizon_of, part_of, part_at, members}
-use Rattle.strat_plan.specs.Plan as defined
+use Rattle.def_split.specs.Plan.{IsSplit, in_no_part, horizon_of, part_of, part_at, members}
+use Rattle.def_split.specs.Plan as defined
 use Rattle.strat_split.specs.Survey.{Told, IsSized, AreCounted}
 use Rattle.strat_split.specs.Greedy.{sums_from}
 use Rattle.strat_split.specs.Placing.{nth_part, part_sum, IsSoFar, IsDivided}

@@ -12,7 +12,7 @@ use Rattle.strat_base.proofs.TreeLemmas.{ancestor_among, among_ancestor, on_root
 use Rattle.strat_arena.specs.declared.items.Item.{Item}
 use Rattle.strat_live.specs.Counting.{are_below}
 use Rattle.strat_live.specs.Group.{is_descending, is_nearer, is_live_item}
-use Rattle.strat_plan.specs.Plan.{Plan, horizon_of, part_of, part_at, IsSplit}
+use Rattle.def_split.specs.Plan.{Plan, horizon_of, part_of, part_at, IsSplit}
 use Rattle.strat_split.specs.Taken.{is_inherited_item, is_taken_item}
 
 pub item_among : (items : List Item) (j : ℕ) (d : Item) → j < length items → Among (get_or items j d) items

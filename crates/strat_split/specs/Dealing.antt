@@ -6,8 +6,8 @@ use Rattle.strat_base.specs.Tree.{Parents, IsTree}
 use Rattle.strat_arena.specs.declared.items.Item.{Item}
 use Rattle.strat_live.specs.Counting.{SameParents, item_versions, are_below}
 use Rattle.strat_live.specs.Group.{is_descending, is_live_item}
-use Rattle.strat_plan.specs.Plan.{part_at, IsSplit}
-use Rattle.strat_state.specs.Counted.{sees_one}
+use Rattle.def_split.specs.Plan.{part_at, IsSplit}
+use Rattle.def_state.specs.Counted.{sees_one}
 use Rattle.strat_split.specs.Chains.{first_labelled}
 use Rattle.strat_split.specs.Hanging.{carriers_of}
 use Rattle.strat_split.specs.PlanSeen.{plan_seen}

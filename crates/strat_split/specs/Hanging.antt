@@ -1,6 +1,6 @@
 -- Which parts hang below the versions of each part.
 use Rattle.std.specs.Prelude.{ℕ, List, map, slice_get, Option, unwrap_or, option_and_then}
-use Rattle.strat_plan.specs.Plan.{in_no_part}
+use Rattle.def_split.specs.Plan.{in_no_part}
 use Rattle.strat_split.specs.Chains.{first_labelled}
 use Rattle.strat_split.specs.declared.parts.Part.{Part}
 

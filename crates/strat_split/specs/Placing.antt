@@ -1,7 +1,7 @@
 -- How far versions are placed in parts, while they are taken from the least up.
 use Rattle.std.specs.Prelude.{◌≡◌, ◌<◌, ◌≤◌, ℕ, ◌+◌, ◌*◌, zero, suc, ◌==◌, cond, List, [], ◌∷◌, ◌++◌, length, slice_index, slice_index_or, slice_set, min, None, Some, ◌⊎◌}
 use Rattle.std.specs.Option.{option_map_or}
-use Rattle.strat_plan.specs.Plan.{in_no_part}
+use Rattle.def_split.specs.Plan.{in_no_part}
 use Rattle.strat_tree.specs.Ancestor.{up}
 use Rattle.strat_split.specs.Survey.{Told}
 use Rattle.strat_split.specs.Greedy.{sums_from}

@@ -1,6 +1,6 @@
 -- Plans as definitions have them.
 use Rattle.std.specs.Prelude.{map}
-use Rattle.strat_plan.specs.Plan as defined
+use Rattle.def_split.specs.Plan as defined
 use Rattle.strat_split.specs.declared.parts.Part.{Part}
 use Rattle.strat_split.specs.declared.parts.Plan.{Plan}
 

@@ -4,7 +4,7 @@ use Rattle.std.specs.Option.{option_map_or}
 use Rattle.strat_base.specs.Tree.{Parents}
 use Rattle.strat_arena.specs.declared.items.Item.{Item}
 use Rattle.strat_live.specs.Group.{is_live_item}
-use Rattle.strat_plan.specs.Plan.{Plan, part_of, part_at}
+use Rattle.def_split.specs.Plan.{Plan, part_of, part_at}
 
 -- an item is live where a part hangs
 abbrev pub is_inherited_item : Parents → List Item → Option ℕ → Item → Bool

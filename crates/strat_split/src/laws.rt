@@ -7,13 +7,13 @@ ghost use Rattle.strat_base.specs.Entries.{Entry, is_of};
 ghost use Rattle.strat_base.specs.Tree.{Parents, IsTree};
 ghost use Rattle.strat_live.specs.Counting.{SameParents, item_versions};
 ghost use Rattle.strat_live.specs.Group.{is_descending, is_live_item};
-ghost use Rattle.strat_plan.specs.Plan.{Plan, horizon_of, part_of, IsSplit};
-ghost use Rattle.strat_plan.specs.Planned.{is_taken};
+ghost use Rattle.def_split.specs.Plan.{Plan, horizon_of, part_of, IsSplit};
+ghost use Rattle.def_split.specs.Planned.{is_taken};
 ghost use Rattle.strat_split.specs.Dealing.{IsSplitFor};
 ghost use Rattle.strat_split.specs.PlanSeen.{plan_seen};
 ghost use Rattle.strat_split.specs.Taken.{is_taken_item};
 ghost use Rattle.strat_split.specs.declared.parts.Plan.{Plan as PlanHere};
-ghost use Rattle.strat_state.specs.Counted.{own_at, keys_at};
+ghost use Rattle.def_state.specs.Counted.{own_at, keys_at};
 
 /// What is live at a version of a part is taken by the part. So a part that hangs below a version of
 /// another takes nothing over that the other does not take.

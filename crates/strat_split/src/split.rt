@@ -3,11 +3,11 @@
 ghost use Rattle.std.specs.Prelude.{◌≡◌, ◌<◌, ◌≤◌, ℕ, List, length, slice_set, IfOk};
 ghost use Rattle.strat_base.specs.Tree.{Parents};
 ghost use Rattle.strat_live.specs.Counting.{IsCount, SameParents};
-ghost use Rattle.strat_plan.specs.Plan.{IsSplit};
+ghost use Rattle.def_split.specs.Plan.{IsSplit};
 ghost use Rattle.strat_split.specs.Placing.{nth_part, lowered, IsLowered, IsDivided};
 ghost use Rattle.strat_split.specs.PlanSeen.{plan_seen};
 ghost use Rattle.strat_split.specs.Survey.{told, IsSized, AreCounted};
-ghost use Rattle.strat_state.specs.Counted.{own_at, keys_at};
+ghost use Rattle.def_state.specs.Counted.{own_at, keys_at};
 
 use crate::gather::gather;
 use crate::parts::{Part, Plan};

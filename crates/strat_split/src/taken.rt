@@ -4,7 +4,7 @@ ghost use Rattle.std.specs.Prelude.{◌≡◌, ◌<◌, ◌==◌, length, slice_
 ghost use Rattle.strat_arena.specs.declared.items.Item.{Item};
 ghost use Rattle.strat_live.specs.Counting.{are_below};
 ghost use Rattle.strat_live.specs.Group.{is_descending, is_live_item};
-ghost use Rattle.strat_plan.specs.Plan.{part_of};
+ghost use Rattle.def_split.specs.Plan.{part_of};
 ghost use Rattle.strat_split.specs.PlanSeen.{plan_seen};
 ghost use Rattle.strat_split.specs.Taken.{is_inherited_item, is_taken_item};
 

@@ -4,17 +4,17 @@ use Rattle.std.specs.Prelude.{if◌then◌else◌}
 use Rattle.strat_base.specs.Change.{Change}
 use Rattle.strat_base.specs.Change as change
 use Rattle.strat_base.specs.declared.descriptors.ArrayDesc.{ArrayDesc}
-use Rattle.strat_crash.specs.Blocks.{AgreeOn}
-use Rattle.strat_crash.specs.Image.{Image}
-use Rattle.strat_crash.specs.Moments.{DiskView}
+use Rattle.def_crash.specs.Blocks.{AgreeOn}
+use Rattle.def_crash.specs.Image.{Image}
+use Rattle.def_crash.specs.Moments.{DiskView}
 use Rattle.strat_cursor.proofs.HoldingLemmas.{goes_on_in, goes_on_later}
 use Rattle.strat_cursor.proofs.RowLemmas.{image_rows}
 use Rattle.strat_cursor.proofs.RetiredLemmas.{retired_rest}
 use Rattle.strat_cursor.specs.Cursors.{MayGoOn, arrays_named}
 use Rattle.strat_cursor.specs.Held.{AreRowsOf, HeldCursor, HeldCursors}
-use Rattle.strat_format.specs.Arrays.{blocks_of}
-use Rattle.strat_format.specs.Chained.{Chained}
-use Rattle.strat_format.specs.Manifest.{Manifest}
+use Rattle.def_bytes.specs.Arrays.{blocks_of}
+use Rattle.def_bytes.specs.Chained.{Chained}
+use Rattle.def_bytes.specs.Manifest.{Manifest}
 use Rattle.strat_model.specs.Answer.{Answer, accepts, plain}
 use Rattle.strat_model.specs.Pairs.{Pairs, set, unset}
 use Rattle.strat_model.specs.Run.{Position, is_carried_out, is_change, takes_memory}
@@ -22,9 +22,9 @@ use Rattle.strat_model.specs.Step.{Outcome, clone, has_row, is_frozen, pairs_at,
 use Rattle.strat_model.specs.Table.{Cursor, Table}
 use Rattle.strat_model.specs.declared.replies.Refusal.TheVariants as why
 use Rattle.strat_model.specs.declared.replies.Reply.TheVariants as reply
-use Rattle.strat_recovery.specs.StateTable.{request_for, table_of}
-use Rattle.strat_standing.specs.Next.{arrays_made}
-use Rattle.strat_standing.specs.Contents.{Contents, contents_state}
+use Rattle.def_meaning.specs.StateTable.{request_for, table_of}
+use Rattle.def_publish.specs.Next.{arrays_made}
+use Rattle.def_publish.specs.Contents.{Contents, contents_state}
 use Rattle.strat_store.proofs.CursoringLemmas.{agree_of, cursor_names}
 use Rattle.strat_store.specs.Applying.{IsAppliedTo, is_fault}
 use Rattle.strat_store.specs.Cursoring.{IsAppliedAt, LeavesCursors}

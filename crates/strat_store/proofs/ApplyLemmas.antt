@@ -9,17 +9,17 @@ use Rattle.strat_base.specs.Change.{Change}
 use Rattle.strat_base.specs.Change as change
 use Rattle.strat_base.specs.Tree.{is_known}
 use Rattle.strat_array.specs.Kept.{Blocks}
-use Rattle.strat_crash.specs.Image.{Image}
-use Rattle.strat_crash.specs.Moments.{DiskView, Exposes, Since, OnlyReads}
-use Rattle.strat_crash.specs.Trail.{Trail}
-use Rattle.strat_crash.proofs.MomentLemmas.{now_since_start}
-use Rattle.strat_crash.proofs.TrailLemmas.{trail_of_one, trail_of_two}
+use Rattle.def_crash.specs.Image.{Image}
+use Rattle.def_crash.specs.Moments.{DiskView, Exposes, Since, OnlyReads}
+use Rattle.def_crash.specs.Trail.{Trail}
+use Rattle.def_crash.proofs.MomentLemmas.{now_since_start}
+use Rattle.def_crash.proofs.TrailLemmas.{trail_of_one, trail_of_two}
 use Rattle.strat_base.specs.declared.descriptors.ArrayDesc.{ArrayDesc}
 use Rattle.strat_cursor.proofs.TableRows.{rows_length}
 use Rattle.strat_cursor.specs.Cursors.{is_opened}
-use Rattle.strat_format.specs.Arrays.{block_on}
+use Rattle.def_bytes.specs.Arrays.{block_on}
 use Rattle.strat_cursor.specs.Looking.{AreOfOldArrays, LooksThrough, ReadsArrays, arrays_there}
-use Rattle.strat_format.specs.Damage.{Read}
+use Rattle.def_bytes.specs.Damage.{Read}
 use Rattle.strat_journal.specs.Log.{Log}
 use Rattle.strat_model.specs.declared.replies.Reply.{Reply}
 use Rattle.strat_model.specs.declared.replies.Reply.TheVariants as reply
@@ -37,13 +37,13 @@ use Rattle.strat_model.proofs.FillLemmas.{empties_none, not_carried, stays}
 use Rattle.strat_model.specs.Spelling.{is_bound, is_limit, has_lawful_sizes}
 use Rattle.strat_model.specs.Step.{Outcome, advanced, step, replies_with, refuses, has_row, pairs_at, found, page}
 use Rattle.strat_model.specs.Table.{Cursor, Table, bare}
-use Rattle.strat_recovery.specs.Head.{Head}
-use Rattle.strat_recovery.specs.Opening.{state_of, opened}
-use Rattle.strat_recovery.specs.StateTable.{table_of, request_for}
-use Rattle.strat_standing.proofs.FreeLemmas.{shows_contents}
-use Rattle.strat_standing.proofs.PartsLemmas.{reads_head, reads_state}
-use Rattle.strat_standing.specs.Contents.{Contents, contents_head, contents_state}
-use Rattle.strat_standing.specs.Standing.{LeavesContent, ShowsTable}
+use Rattle.def_recovery.specs.Head.{Head}
+use Rattle.def_recovery.specs.Opening.{state_of, opened}
+use Rattle.def_meaning.specs.StateTable.{table_of, request_for}
+use Rattle.def_publish.proofs.FreeLemmas.{shows_contents}
+use Rattle.def_publish.proofs.PartsLemmas.{reads_head, reads_state}
+use Rattle.def_publish.specs.Contents.{Contents, contents_head, contents_state}
+use Rattle.def_publish.specs.Standing.{LeavesContent, ShowsTable}
 use Rattle.strat_memory.proofs.MemoryLawLemmas.{version_told, store_told_with, version_unknown}
 use Rattle.strat_store.proofs.AppliedLemmas.{next_later}
 use Rattle.strat_store.proofs.CursoringLemmas.{looks_wider, stands_now, stands_still, still_going}

@@ -6,18 +6,18 @@ use Rattle.std.proofs.lemmas.Bool.{cases_Bool, eq-eqb}
 use Rattle.std.proofs.lemmas.List.{append-nil}
 use Rattle.strat_array.proofs.EntriesOnLemmas.{entries_on-append}
 use Rattle.strat_base.proofs.ListFacts.{among_flat, any_from}
-use Rattle.strat_base.proofs.TreeLemmas.{option_cases}
+use Rattle.strat_base.proofs.ResultFacts.{option_cases}
 use Rattle.strat_base.specs.Entries.{Entry, lead_entries}
 use Rattle.strat_base.specs.declared.descriptors.ArrayDesc.{ArrayDesc}
 use Rattle.strat_base.specs.declared.descriptors.LevelDesc.{LevelDesc}
-use Rattle.strat_crash.specs.Image.{Image}
+use Rattle.def_crash.specs.Image.{Image}
 use Rattle.strat_cursor.specs.Looking.{arrays_there}
-use Rattle.strat_format.specs.Arrays.{block_on, blocks_of, entries_on}
+use Rattle.def_bytes.specs.Arrays.{block_on, blocks_of, entries_on}
 use Rattle.strat_promote.specs.Job.{blocks_listed}
 use Rattle.strat_promote.specs.Leads.{comes_after, last_of, misfit_after}
 use Rattle.strat_promote.proofs.LeadLemmas.{misfit_back, misfit_none, misfit_step, no_misfit}
-use Rattle.strat_recovery.specs.Bad.{IsBad, begins_after, misplaced, unread}
-use Rattle.strat_standing.proofs.ListLemmas.{among_contained, contained_among}
+use Rattle.def_recovery.specs.Bad.{IsBad, begins_after, misplaced, unread}
+use Rattle.def_publish.proofs.ListLemmas.{among_contained, contained_among}
 use Rattle.strat_publish.specs.Outcomes.{IsDamagedIn}
 use Rattle.strat_memory.specs.Held.{arrays_held}
 use Rattle.strat_memory.specs.Memory.{Memory}

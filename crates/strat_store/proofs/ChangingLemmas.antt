@@ -11,17 +11,17 @@ use Rattle.strat_base.specs.Tree.{Parents}
 use Rattle.strat_base.specs.declared.descriptors.ArrayDesc.{ArrayDesc}
 use Rattle.strat_base.specs.declared.descriptors.LevelDesc.{LevelDesc}
 use Rattle.strat_base.proofs.ListFacts.{Among, among_in_flat, among_right, get_among}
-use Rattle.strat_crash.specs.Blocks.{AgreeOn, KeepsBlock, KeepsTaken}
-use Rattle.strat_crash.specs.Image.{Image}
-use Rattle.strat_crash.specs.Moments.{DiskView, Exposes}
-use Rattle.strat_crash.specs.Trail.{Trail}
-use Rattle.strat_crash.proofs.ImageLemmas.{window_same}
+use Rattle.def_crash.specs.Blocks.{AgreeOn, KeepsBlock, KeepsTaken}
+use Rattle.def_crash.specs.Image.{Image}
+use Rattle.def_crash.specs.Moments.{DiskView, Exposes}
+use Rattle.def_crash.specs.Trail.{Trail}
+use Rattle.def_crash.proofs.ImageLemmas.{window_same}
 use Rattle.strat_cursor.specs.Held.{AreRowsOf, HeldCursors}
-use Rattle.strat_format.specs.Arrays.{blocks_of}
-use Rattle.strat_format.specs.Block.{block_in}
-use Rattle.strat_format.specs.Chained.{Chained}
-use Rattle.strat_format.specs.Layout.{first_free}
-use Rattle.strat_format.specs.SuperBlock.{Super}
+use Rattle.def_bytes.specs.Arrays.{blocks_of}
+use Rattle.def_bytes.specs.Block.{block_in}
+use Rattle.def_bytes.specs.Chained.{Chained}
+use Rattle.def_bytes.specs.Layout.{first_free}
+use Rattle.def_bytes.specs.SuperBlock.{Super}
 use Rattle.strat_gate.specs.SuperView.{super_of}
 use Rattle.strat_journal.specs.Log.{Log}
 use Rattle.strat_model.specs.Answer.{plain, accepts}
@@ -32,19 +32,19 @@ use Rattle.strat_model.specs.Table.{Table, bare}
 use Rattle.strat_model.specs.declared.replies.Refusal.TheVariants as why
 use Rattle.strat_model.specs.declared.replies.Reply.{Reply}
 use Rattle.strat_model.specs.declared.replies.Reply.TheVariants as reply
-use Rattle.strat_recovery.specs.Head.{descriptors, head_marks}
-use Rattle.strat_recovery.specs.Opened.{parents_in}
-use Rattle.strat_recovery.specs.Opening.{state_of}
-use Rattle.strat_recovery.specs.StateTable.{table_of, request_for}
-use Rattle.strat_recovery.proofs.HeadLemmas.{state_with}
-use Rattle.strat_recovery.proofs.StateTableLemmas.{accepts_same, steps_to}
-use Rattle.strat_standing.specs.Appending.{IsLogOf, with_batch}
-use Rattle.strat_standing.specs.Contents.{Contents, contents_head, contents_state}
-use Rattle.strat_standing.specs.Standing.{ShowsTable, ContentsStand}
-use Rattle.strat_standing.proofs.ListLemmas.{among_contained, contained_among}
-use Rattle.strat_state.specs.Level.{Level}
-use Rattle.strat_state.specs.Sound.{is_accepted, are_accepted, accepts_change, Takes}
-use Rattle.strat_state.specs.State.{tree_after, marks_after}
+use Rattle.def_recovery.specs.Head.{descriptors, head_marks}
+use Rattle.def_recovery.specs.Opened.{parents_in}
+use Rattle.def_recovery.specs.Opening.{state_of}
+use Rattle.def_meaning.specs.StateTable.{table_of, request_for}
+use Rattle.def_recovery.proofs.HeadLemmas.{state_with}
+use Rattle.def_meaning.proofs.StateTableLemmas.{accepts_same, steps_to}
+use Rattle.def_publish.specs.Appending.{IsLogOf, with_batch}
+use Rattle.def_publish.specs.Contents.{Contents, contents_head, contents_state}
+use Rattle.def_publish.specs.Standing.{ShowsTable, ContentsStand}
+use Rattle.def_publish.proofs.ListLemmas.{among_contained, contained_among}
+use Rattle.def_state.specs.Level.{Level}
+use Rattle.def_state.specs.Sound.{is_accepted, are_accepted, accepts_change, Takes}
+use Rattle.def_state.specs.State.{tree_after, marks_after}
 use Rattle.strat_store.specs.Applying.{IsAppliedTo, FollowsStep, is_fault, ran_short, table_left}
 use Rattle.strat_memory.specs.Held.{AreKept, head_held, contents_held, IsConsistent, StandsWith, position_with}
 use Rattle.strat_cursor.specs.Looking.{AreCachedFrom}

@@ -12,10 +12,10 @@ use Rattle.strat_base.specs.Entries.{Entry}
 use Rattle.strat_base.specs.Tree.{is_known}
 use Rattle.strat_base.specs.declared.descriptors.ArrayDesc.{ArrayDesc}
 use Rattle.strat_base.specs.declared.descriptors.LevelDesc.{LevelDesc}
-use Rattle.strat_crash.specs.Blocks.{AgreeOn}
-use Rattle.strat_crash.specs.Faults.{HasCause}
-use Rattle.strat_crash.specs.Image.{Image}
-use Rattle.strat_crash.specs.Moments.{DiskView, Exposes}
+use Rattle.def_crash.specs.Blocks.{AgreeOn}
+use Rattle.def_crash.specs.Faults.{HasCause}
+use Rattle.def_crash.specs.Image.{Image}
+use Rattle.def_crash.specs.Moments.{DiskView, Exposes}
 use Rattle.strat_cursor.proofs.HoldingLemmas.{asked_may_go_on, goes_on_moved, goes_on_without}
 use Rattle.strat_cursor.proofs.TableRows.{rows_length, rows_less, rows_opened, table_none, table_started, table_told}
 use Rattle.strat_cursor.specs.Cursors.{MayGoOn, TellsNext, arrays_named, closed_at, is_opened, moved_at, pairs_left}
@@ -26,7 +26,7 @@ use Rattle.strat_cursor.specs.declared.cursors.CursorFault.{CursorFault}
 use Rattle.strat_cursor.specs.declared.cursors.CursorFault.TheVariants as start_fault
 use Rattle.strat_cursor.specs.declared.cursors.NextFault.{NextFault}
 use Rattle.strat_cursor.specs.declared.cursors.NextFault.TheVariants as next_fault
-use Rattle.strat_format.specs.Arrays.{blocks_of, block_on}
+use Rattle.def_bytes.specs.Arrays.{blocks_of, block_on}
 use Rattle.strat_model.specs.Answer.{Answer, accepts, as_told, plain, refusal}
 use Rattle.strat_model.specs.Pairs.{Pairs, range}
 use Rattle.strat_model.specs.Request.{Request, OpenCursor, NextPairs, CloseCursor}
@@ -38,13 +38,13 @@ use Rattle.strat_model.specs.declared.replies.Refusal.TheVariants as why
 use Rattle.strat_model.specs.declared.replies.Reply.{Reply}
 use Rattle.strat_model.specs.declared.replies.Reply.TheVariants as reply
 use Rattle.strat_promote.specs.Job.{blocks_listed}
-use Rattle.strat_recovery.specs.Head.{descriptors}
-use Rattle.strat_recovery.specs.StateTable.{table_of}
-use Rattle.strat_standing.proofs.FreeLemmas.{read_stands}
-use Rattle.strat_standing.proofs.ListLemmas.{among_contained, contained_among}
-use Rattle.strat_standing.specs.Contents.{Contents, contents_state}
-use Rattle.strat_standing.specs.Standing.{ContentsStand, LeavesContent}
-use Rattle.strat_state.specs.Level.{Level}
+use Rattle.def_recovery.specs.Head.{descriptors}
+use Rattle.def_meaning.specs.StateTable.{table_of}
+use Rattle.def_publish.proofs.FreeLemmas.{read_stands}
+use Rattle.def_publish.proofs.ListLemmas.{among_contained, contained_among}
+use Rattle.def_publish.specs.Contents.{Contents, contents_state}
+use Rattle.def_publish.specs.Standing.{ContentsStand, LeavesContent}
+use Rattle.def_state.specs.Level.{Level}
 use Rattle.strat_store.proofs.GettingLemmas.{blamed, cached, known, none_damaged, ordered}
 use Rattle.strat_publish.proofs.WholeLemmas.{whole_read}
 use Rattle.strat_store.proofs.RangingLemmas.{map_seen, page_told, table_asked}

@@ -14,9 +14,9 @@ use Rattle.strat_base.specs.declared.descriptors.ArrayDesc.{ArrayDesc}
 use Rattle.strat_base.specs.declared.descriptors.LevelDesc.{LevelDesc}
 use Rattle.strat_base.specs.declared.failures.Fault.{Fault}
 use Rattle.strat_base.specs.declared.failures.Fault.TheVariants as fault
-use Rattle.strat_crash.specs.Image.{Image}
-use Rattle.strat_crash.specs.Moments.{DiskView}
-use Rattle.strat_format.specs.Arrays.{blocks_of, block_on, entries_on}
+use Rattle.def_crash.specs.Image.{Image}
+use Rattle.def_crash.specs.Moments.{DiskView}
+use Rattle.def_bytes.specs.Arrays.{blocks_of, block_on, entries_on}
 use Rattle.strat_model.specs.Answer.{Answer, as_told, accepts}
 use Rattle.strat_model.specs.Pairs.{value_of}
 use Rattle.strat_model.specs.Request.{Get}
@@ -24,21 +24,21 @@ use Rattle.strat_model.specs.Step.{Outcome, step, found, refuses, replies_with, 
 use Rattle.strat_model.specs.declared.replies.Refusal.TheVariants as why
 use Rattle.strat_model.specs.declared.replies.Reply.TheVariants as reply
 use Rattle.strat_promote.specs.Job.{blocks_listed}
-use Rattle.strat_recovery.proofs.AskedLemmas.{asked_same}
-use Rattle.strat_recovery.proofs.HeadLemmas.{state_with}
-use Rattle.strat_recovery.proofs.OpeningLemmas.{map_some, next_some}
-use Rattle.strat_recovery.specs.Asked.{on_disk, asked}
-use Rattle.strat_recovery.specs.Head.{descriptors}
-use Rattle.strat_recovery.specs.Opening.{state_of}
-use Rattle.strat_recovery.specs.StateTable.{table_of}
-use Rattle.strat_standing.proofs.FreeLemmas.{read_stands}
-use Rattle.strat_standing.proofs.ListLemmas.{among_contained, contained_among}
-use Rattle.strat_standing.specs.Contents.{Contents, contents_state}
-use Rattle.strat_standing.specs.Standing.{LeavesContent, ContentsStand}
-use Rattle.strat_state.specs.Level.{Level}
-use Rattle.strat_state.specs.LookUp.{looked_up}
-use Rattle.strat_state.specs.Reading.{level_zero}
-use Rattle.strat_state.specs.State.{State, versions_of, is_living}
+use Rattle.def_recovery.proofs.AskedLemmas.{asked_same}
+use Rattle.def_recovery.proofs.HeadLemmas.{state_with}
+use Rattle.def_recovery.proofs.OpeningLemmas.{map_some, next_some}
+use Rattle.def_recovery.specs.Asked.{on_disk, asked}
+use Rattle.def_recovery.specs.Head.{descriptors}
+use Rattle.def_recovery.specs.Opening.{state_of}
+use Rattle.def_meaning.specs.StateTable.{table_of}
+use Rattle.def_publish.proofs.FreeLemmas.{read_stands}
+use Rattle.def_publish.proofs.ListLemmas.{among_contained, contained_among}
+use Rattle.def_publish.specs.Contents.{Contents, contents_state}
+use Rattle.def_publish.specs.Standing.{LeavesContent, ContentsStand}
+use Rattle.def_state.specs.Level.{Level}
+use Rattle.def_state.specs.LookUp.{looked_up}
+use Rattle.def_state.specs.Reading.{level_zero}
+use Rattle.def_state.specs.State.{State, versions_of, is_living}
 use Rattle.strat_publish.proofs.LookLawLemmas.{in_order}
 use Rattle.strat_memory.proofs.MemoryLawLemmas.{key_unknown, key_found, known_of, living_of}
 use Rattle.strat_store.specs.Applying.{is_fault, IsLookedUp}

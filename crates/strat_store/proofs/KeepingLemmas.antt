@@ -15,17 +15,17 @@ use Rattle.strat_cursor.specs.Held.{HeldCursor, HeldCursors}
 use Rattle.strat_cursor.specs.Looking.{arrays_there, arrays_asked, levels_there}
 use Rattle.strat_extent.proofs.CountLemmas.{times_append}
 use Rattle.strat_extent.specs.Blocks.{times_in, total_len}
-use Rattle.strat_format.specs.Chained.{Chained}
-use Rattle.strat_format.specs.SuperBlock.{Super}
+use Rattle.def_bytes.specs.Chained.{Chained}
+use Rattle.def_bytes.specs.SuperBlock.{Super}
 use Rattle.strat_gate.specs.SuperView.{super_of}
 use Rattle.strat_model.specs.Answer.{Answer, accepts}
 use Rattle.strat_model.specs.Pairs.{Pairs}
 use Rattle.strat_model.specs.Request.{Request, OpenCursor, NextPairs, CloseCursor}
 use Rattle.strat_model.specs.declared.replies.Reply.{Reply}
 use Rattle.strat_model.specs.declared.replies.Reply.TheVariants as reply
-use Rattle.strat_plan.proofs.ListLemmas.{map_among}
-use Rattle.strat_standing.proofs.ListLemmas.{among_contained, contained_among}
-use Rattle.strat_standing.specs.Occupied.{extents_of}
+use Rattle.def_split.proofs.ListLemmas.{map_among}
+use Rattle.def_publish.proofs.ListLemmas.{among_contained, contained_among}
+use Rattle.def_publish.specs.Occupied.{extents_of}
 use Rattle.strat_publish.proofs.RoomLemmas.{asked_total, there_total}
 use Rattle.strat_publish.proofs.NeededLemmas.{needed_still, needed_those}
 use Rattle.strat_store.specs.Cursoring.{cursors_after, paged_at}

@@ -8,18 +8,18 @@ use Rattle.strat_base.specs.Tree.{Parents}
 use Rattle.strat_base.specs.declared.descriptors.ArrayDesc.{ArrayDesc}
 use Rattle.strat_base.specs.declared.failures.Trouble.{Trouble}
 use Rattle.strat_base.specs.declared.failures.Trouble.TheVariants as trouble
-use Rattle.strat_crash.proofs.BlockLemmas.{keeps_trans}
-use Rattle.strat_crash.specs.Blocks.{AgreeOn, KeepsTaken}
-use Rattle.strat_crash.specs.Image.{Image}
-use Rattle.strat_crash.specs.Moments.{DiskView, Exposes, Passes, TearsOnly, OnlyReads}
+use Rattle.def_crash.proofs.BlockLemmas.{keeps_trans}
+use Rattle.def_crash.specs.Blocks.{AgreeOn, KeepsTaken}
+use Rattle.def_crash.specs.Image.{Image}
+use Rattle.def_crash.specs.Moments.{DiskView, Exposes, Passes, TearsOnly, OnlyReads}
 use Rattle.strat_cursor.proofs.RetiredLemmas.{retired_rest}
 use Rattle.strat_cursor.specs.Cursors.{retired_all}
 use Rattle.strat_cursor.specs.Held.{AreRowsOf, HeldCursor, HeldCursors}
 use Rattle.strat_cursor.specs.Looking.{arrays_there}
-use Rattle.strat_format.specs.Chained.{Chained}
-use Rattle.strat_format.specs.Layout.{region_at, region_size}
-use Rattle.strat_format.specs.Manifest.{Manifest}
-use Rattle.strat_format.specs.SuperBlock.{Super}
+use Rattle.def_bytes.specs.Chained.{Chained}
+use Rattle.def_bytes.specs.Layout.{region_at, region_size}
+use Rattle.def_bytes.specs.Manifest.{Manifest}
+use Rattle.def_bytes.specs.SuperBlock.{Super}
 use Rattle.strat_gate.specs.SuperView.{super_of}
 use Rattle.strat_manifest.specs.ManifestView.{manifest_of}
 use Rattle.strat_model.specs.Answer.{Answer, accepts}
@@ -31,9 +31,9 @@ use Rattle.strat_model.specs.declared.replies.Reply.{Reply}
 use Rattle.strat_model.specs.declared.replies.Reply.TheVariants as reply
 use Rattle.strat_store.specs.Applying.{HoldsTheSame, IsUntouched, change_wanted, is_fault, may_write, refusal_of_trouble}
 use Rattle.strat_promote.specs.Job.{blocks_listed}
-use Rattle.strat_recovery.specs.StateTable.{request_for}
-use Rattle.strat_standing.specs.Contents.{Contents, contents_state}
-use Rattle.strat_state.specs.State.{IsPaid}
+use Rattle.def_meaning.specs.StateTable.{request_for}
+use Rattle.def_publish.specs.Contents.{Contents, contents_state}
+use Rattle.def_state.specs.State.{IsPaid}
 use Rattle.strat_store.specs.Cursoring.{LeavesCursors}
 use Rattle.strat_memory.specs.Held.{Held, ArePlaced, IsConsistent, IsOnDisk, StandsWith, arrays_held}
 use Rattle.strat_memory.specs.Memory.{KeepsRows, Memory, prepared, refusal_of_change, reply_to}

@@ -4,24 +4,24 @@ use Rattle.std.specs.List.{list_all}
 use Rattle.std.proofs.lemmas.Bool.{ltb-false}
 use Rattle.strat_base.specs.Change.{Change, change_bytes, is_lawful}
 use Rattle.strat_base.proofs.ChangeLemmas.{length-change_bytes}
-use Rattle.strat_crash.specs.Blocks.{KeepsTaken}
-use Rattle.strat_crash.specs.Image.{Image, patch}
-use Rattle.strat_crash.specs.Moments.{DiskView, Exposes}
-use Rattle.strat_crash.specs.Trail.{Trail}
-use Rattle.strat_crash.proofs.ImageLemmas.{outside_patch}
-use Rattle.strat_format.specs.Layout.{first_free}
-use Rattle.strat_format.specs.Records.{records_bytes}
+use Rattle.def_crash.specs.Blocks.{KeepsTaken}
+use Rattle.def_crash.specs.Image.{Image, patch}
+use Rattle.def_crash.specs.Moments.{DiskView, Exposes}
+use Rattle.def_crash.specs.Trail.{Trail}
+use Rattle.def_crash.proofs.ImageLemmas.{outside_patch}
+use Rattle.def_bytes.specs.Layout.{first_free}
+use Rattle.def_bytes.specs.Records.{records_bytes}
 use Rattle.strat_journal.specs.Log.{Log, Stands, HoldsBatch, batch_joined, gate_of}
 use Rattle.strat_journal.proofs.LaidLemmas.{length-records_bytes, region_takes}
-use Rattle.strat_recovery.specs.StateTable.{table_of}
-use Rattle.strat_recovery.proofs.StateTableLemmas.{stays_sound}
-use Rattle.strat_standing.specs.Appending.{IsLogOf, with_batch, AppendsBatch}
-use Rattle.strat_standing.specs.Contents.{Contents, contents_state}
-use Rattle.strat_standing.specs.Standing.{ShowsTable, LeavesContent, ContentsStand}
-use Rattle.strat_standing.proofs.AppendLemmas.{stands_journal, either_reads, either_trail, appended_trail, appended_stands}
-use Rattle.strat_standing.proofs.PlaceLemmas.{places}
-use Rattle.strat_state.specs.Sound.{IsSound, Takes}
-use Rattle.strat_state.specs.State.{IsPaid}
+use Rattle.def_meaning.specs.StateTable.{table_of}
+use Rattle.def_meaning.proofs.StateTableLemmas.{stays_sound}
+use Rattle.def_publish.specs.Appending.{IsLogOf, with_batch, AppendsBatch}
+use Rattle.def_publish.specs.Contents.{Contents, contents_state}
+use Rattle.def_publish.specs.Standing.{ShowsTable, LeavesContent, ContentsStand}
+use Rattle.def_publish.proofs.AppendLemmas.{stands_journal, either_reads, either_trail, appended_trail, appended_stands}
+use Rattle.def_publish.proofs.PlaceLemmas.{places}
+use Rattle.def_state.specs.Sound.{IsSound, Takes}
+use Rattle.def_state.specs.State.{IsPaid}
 use Rattle.strat_memory.proofs.PayingLemmas.{paid_as, paid_appended}
 use Rattle.strat_memory.specs.Paying.{ArePaidSince}
 use Rattle.strat_publish.specs.Publishing.{is_in_front}

@@ -15,14 +15,14 @@ use Rattle.strat_base.specs.Tree.{Parents}
 use Rattle.strat_base.specs.declared.descriptors.ArrayDesc.{ArrayDesc}
 use Rattle.strat_base.specs.declared.descriptors.LevelDesc.{LevelDesc}
 use Rattle.strat_base.specs.declared.failures.Fault.{Fault}
-use Rattle.strat_crash.specs.Faults.{ReadsAtMost}
-use Rattle.strat_crash.specs.Image.{Image}
-use Rattle.strat_crash.specs.Moments.{DiskView}
-use Rattle.strat_format.specs.Arrays.{blocks_of, entries_on}
+use Rattle.def_crash.specs.Faults.{ReadsAtMost}
+use Rattle.def_crash.specs.Image.{Image}
+use Rattle.def_crash.specs.Moments.{DiskView}
+use Rattle.def_bytes.specs.Arrays.{blocks_of, entries_on}
 use Rattle.strat_level.specs.Levels.{desc_for}
-use Rattle.strat_recovery.specs.Asked.{on_disk}
-use Rattle.strat_state.specs.LookUp.{looked_up, first_live}
-use Rattle.strat_state.specs.Reading.{live_of}
+use Rattle.def_recovery.specs.Asked.{on_disk}
+use Rattle.def_state.specs.LookUp.{looked_up, first_live}
+use Rattle.def_state.specs.Reading.{live_of}
 use Rattle.strat_cursor.specs.Looking.{levels_there, arrays_asked, arrays_there, AreInOrder, AreCachedFrom, LooksThrough, HaveFewBlocks, HaveOwnIds, MayBeAsked, asked_of_level, array_says, decides, reads_of_arrays}
 use Rattle.strat_cursor.proofs.ThroughLemmas.{still_one, through_trans}
 use Rattle.strat_cursor.proofs.PickLemmas.{asked_among, asked_there, level_next, only}

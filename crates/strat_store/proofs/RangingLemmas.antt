@@ -15,15 +15,15 @@ use Rattle.strat_base.specs.declared.descriptors.ArrayDesc.{ArrayDesc}
 use Rattle.strat_base.specs.declared.descriptors.LevelDesc.{LevelDesc}
 use Rattle.strat_base.specs.declared.failures.Fault.{Fault}
 use Rattle.strat_base.specs.declared.failures.Fault.TheVariants as fault
-use Rattle.strat_crash.specs.Image.{Image}
-use Rattle.strat_crash.specs.Moments.{DiskView}
+use Rattle.def_crash.specs.Image.{Image}
+use Rattle.def_crash.specs.Moments.{DiskView}
 use Rattle.strat_cursor.proofs.MapFound.{map_found}
 use Rattle.strat_cursor.proofs.HoldingLemmas.{asked_cached, asked_ordered, asked_own}
 use Rattle.strat_cursor.specs.Looking.{levels_there, arrays_asked, arrays_there, AreInOrder, AreCachedFrom, LooksThrough, NamesNoBlock, HaveOwnIds}
 use Rattle.strat_cursor.specs.Ranges.{content_on, seen_in, arrays_picked, FillsPage, IsMapSeen, IsPageOf}
 use Rattle.strat_cursor.specs.Views.{arrays_read, zeros_in, IsReadable, TellsPage}
 use Rattle.strat_cursor.specs.declared.view.View.{View}
-use Rattle.strat_format.specs.Arrays.{block_on}
+use Rattle.def_bytes.specs.Arrays.{block_on}
 use Rattle.strat_level.specs.Levels.{desc_for}
 use Rattle.strat_model.proofs.MapLemmas.{set_keeps_map}
 use Rattle.strat_model.specs.Answer.{Answer, as_told, accepts}
@@ -33,15 +33,15 @@ use Rattle.strat_model.specs.Request.{Scan}
 use Rattle.strat_model.specs.Step.{step, page, refuses, replies_with, pairs_at}
 use Rattle.strat_model.specs.declared.replies.Refusal.TheVariants as why
 use Rattle.strat_model.specs.declared.replies.Reply.TheVariants as reply
-use Rattle.strat_recovery.proofs.StateTableLemmas.{pairs_same}
-use Rattle.strat_recovery.specs.Asked.{on_disk}
-use Rattle.strat_recovery.specs.StateTable.{table_of}
-use Rattle.strat_standing.specs.Contents.{Contents}
-use Rattle.strat_standing.specs.Standing.{LeavesContent}
-use Rattle.strat_state.specs.Level.{Level}
-use Rattle.strat_state.specs.LookUp.{looked_up, first_live}
-use Rattle.strat_state.specs.Maps.{map_over, with_value, value_over}
-use Rattle.strat_state.specs.State.{State, versions_of, sources}
+use Rattle.def_meaning.proofs.StateTableLemmas.{pairs_same}
+use Rattle.def_recovery.specs.Asked.{on_disk}
+use Rattle.def_meaning.specs.StateTable.{table_of}
+use Rattle.def_publish.specs.Contents.{Contents}
+use Rattle.def_publish.specs.Standing.{LeavesContent}
+use Rattle.def_state.specs.Level.{Level}
+use Rattle.def_state.specs.LookUp.{looked_up, first_live}
+use Rattle.def_state.specs.Maps.{map_over, with_value, value_over}
+use Rattle.def_state.specs.State.{State, versions_of, sources}
 use Rattle.strat_store.proofs.GettingLemmas.{blamed, none_damaged, it, ordered, cached, known, asked_is, stays, living}
 use Rattle.strat_publish.proofs.WholeLemmas.{whole_read}
 use Rattle.strat_store.specs.Applying.{is_fault, IsLookedUp}

@@ -6,10 +6,10 @@ use Rattle.strat_base.specs.Change as change
 use Rattle.strat_base.specs.Tree.{is_known, has_child}
 use Rattle.strat_base.specs.declared.failures.Trouble.{Trouble}
 use Rattle.strat_base.specs.declared.failures.Trouble.TheVariants as trouble
-use Rattle.strat_crash.specs.Moments.{DiskView, Passes}
-use Rattle.strat_crash.specs.Trail.{Trail}
-use Rattle.strat_crash.proofs.MomentLemmas.{since_now}
-use Rattle.strat_crash.proofs.TrailLemmas.{trail_of_one, trail_join, trail_more}
+use Rattle.def_crash.specs.Moments.{DiskView, Passes}
+use Rattle.def_crash.specs.Trail.{Trail}
+use Rattle.def_crash.proofs.MomentLemmas.{since_now}
+use Rattle.def_crash.proofs.TrailLemmas.{trail_of_one, trail_join, trail_more}
 use Rattle.strat_model.specs.Answer.{plain, accepts}
 use Rattle.strat_model.specs.Run.{MayFill, is_carried_out}
 use Rattle.strat_model.proofs.FillLemmas.{carried, empties_none, filled_full, first_fill, refused_not, stays}
@@ -19,10 +19,10 @@ use Rattle.strat_model.specs.declared.replies.Refusal.{Refusal}
 use Rattle.strat_model.specs.declared.replies.Refusal.TheVariants as why
 use Rattle.strat_model.specs.declared.replies.Reply.{Reply}
 use Rattle.strat_model.specs.declared.replies.Reply.TheVariants as reply
-use Rattle.strat_recovery.specs.StateTable.{table_of, request_for}
-use Rattle.strat_standing.specs.Contents.{Contents, contents_state}
-use Rattle.strat_standing.specs.Standing.{ShowsTable}
-use Rattle.strat_standing.proofs.FreeLemmas.{shows_contents}
+use Rattle.def_meaning.specs.StateTable.{table_of, request_for}
+use Rattle.def_publish.specs.Contents.{Contents, contents_state}
+use Rattle.def_publish.specs.Standing.{ShowsTable}
+use Rattle.def_publish.proofs.FreeLemmas.{shows_contents}
 use Rattle.strat_store.specs.Applying.{IsAppliedTo, FollowsStep, tells_fault, table_left, refusal_of_trouble}
 use Rattle.strat_publish.specs.Outcomes.{IsPublishedAs}
 use Rattle.strat_memory.specs.Held.{head_held, IsConsistent, StandsWith, position_with}

@@ -3,7 +3,7 @@ use Rattle.std.specs.Prelude.{◌≡◌, ◌≤◌, ◌⊎◌, ℕ, Bool, true, 
 use Rattle.strat_base.specs.Change.{Change}
 use Rattle.strat_base.specs.declared.descriptors.ArrayDesc.{ArrayDesc}
 use Rattle.strat_base.specs.declared.descriptors.LevelDesc.{LevelDesc}
-use Rattle.strat_crash.specs.Moments.{DiskView}
+use Rattle.def_crash.specs.Moments.{DiskView}
 use Rattle.strat_cursor.specs.Cursors.{closed_at, moved_at}
 use Rattle.strat_cursor.specs.Held.{HeldCursors}
 use Rattle.strat_cursor.specs.declared.cursors.CursorFault.{CursorFault}
@@ -19,7 +19,7 @@ use Rattle.strat_model.specs.Table.{Cursor}
 use Rattle.strat_model.specs.declared.replies.Refusal.TheVariants as why
 use Rattle.strat_model.specs.declared.replies.Reply.{Reply}
 use Rattle.strat_model.specs.declared.replies.Reply.TheVariants as reply
-use Rattle.strat_standing.specs.Contents.{Contents}
+use Rattle.def_publish.specs.Contents.{Contents}
 use Rattle.strat_store.specs.Applying.{change_wanted}
 use Rattle.strat_memory.specs.Held.{Held, StandsAt, arrays_held, position_at, table_at}
 use Rattle.strat_memory.specs.Memory.{Memory, cursor_from, with_cursor}

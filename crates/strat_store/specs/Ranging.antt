@@ -7,7 +7,7 @@ use Rattle.strat_base.specs.declared.descriptors.ArrayDesc.{ArrayDesc}
 use Rattle.strat_base.specs.declared.descriptors.LevelDesc.{LevelDesc}
 use Rattle.strat_base.specs.declared.failures.Fault.{Fault}
 use Rattle.strat_base.specs.declared.failures.Fault.TheVariants as fault
-use Rattle.strat_crash.specs.Image.{Image}
+use Rattle.def_crash.specs.Image.{Image}
 use Rattle.strat_cursor.specs.Cursors.{MayGoOn, arrays_of_number, is_opened, pairs_left}
 use Rattle.strat_cursor.specs.Held.{HeldCursor, HeldCursors, IsMapHeld}
 use Rattle.strat_cursor.specs.Looking.{AreCachedAs, AreInOrder, ReadsArrays, arrays_asked, levels_there}
@@ -20,7 +20,7 @@ use Rattle.strat_model.specs.Step.{found, page}
 use Rattle.strat_model.specs.declared.replies.Refusal.TheVariants as why
 use Rattle.strat_model.specs.declared.replies.Reply.{Reply}
 use Rattle.strat_model.specs.declared.replies.Reply.TheVariants as reply
-use Rattle.strat_recovery.specs.Asked.{asked}
+use Rattle.def_recovery.specs.Asked.{asked}
 use Rattle.strat_store.specs.Applying.{change_wanted}
 use Rattle.strat_store.specs.Getting.{MayTellOfKey}
 use Rattle.strat_memory.specs.Held.{Held}

@@ -5,23 +5,23 @@ ghost use Rattle.std.specs.Prelude.{◌≡◌, ◌≢◌, ◌<◌, ◌≤◌, �
 ghost use Rattle.strat_array.specs.Kept.{Blocks};
 ghost use Rattle.strat_base.specs.Change.{is_lawful};
 ghost use Rattle.strat_base.specs.ChangeView.{change_of};
-ghost use Rattle.strat_crash.specs.Blocks.{KeepsTaken};
-ghost use Rattle.strat_crash.specs.Faults.{CountsFaults};
-ghost use Rattle.strat_crash.specs.Image.{Image};
-ghost use Rattle.strat_crash.specs.Moments.{Exposes, Passes, TearsOnly};
-ghost use Rattle.strat_crash.specs.Trail.{Trail};
-ghost use Rattle.strat_format.specs.Layout.{region_at, region_size};
+ghost use Rattle.def_crash.specs.Blocks.{KeepsTaken};
+ghost use Rattle.def_crash.specs.Faults.{CountsFaults};
+ghost use Rattle.def_crash.specs.Image.{Image};
+ghost use Rattle.def_crash.specs.Moments.{Exposes, Passes, TearsOnly};
+ghost use Rattle.def_crash.specs.Trail.{Trail};
+ghost use Rattle.def_bytes.specs.Layout.{region_at, region_size};
 ghost use Rattle.strat_model.specs.Answer.{accepts, plain};
 ghost use Rattle.strat_model.specs.declared.replies.Refusal.{Refusal};
 ghost use Rattle.strat_model.specs.declared.replies.Refusal.TheVariants as why;
 ghost use Rattle.strat_model.specs.declared.replies.Reply.TheVariants as reply;
 ghost use Rattle.strat_promote.specs.Obstacles.{told_as};
-ghost use Rattle.strat_recovery.specs.StateTable.{table_of, request_for};
-ghost use Rattle.strat_standing.specs.Appending.{IsLogOf, with_batch};
-ghost use Rattle.strat_standing.specs.Contents.{Contents, contents_state};
-ghost use Rattle.strat_standing.specs.Standing.{ShowsTable, ContentsStand};
-ghost use Rattle.strat_state.specs.Sound.{Takes};
-ghost use Rattle.strat_state.specs.State.{IsPaid};
+ghost use Rattle.def_meaning.specs.StateTable.{table_of, request_for};
+ghost use Rattle.def_publish.specs.Appending.{IsLogOf, with_batch};
+ghost use Rattle.def_publish.specs.Contents.{Contents, contents_state};
+ghost use Rattle.def_publish.specs.Standing.{ShowsTable, ContentsStand};
+ghost use Rattle.def_state.specs.Sound.{Takes};
+ghost use Rattle.def_state.specs.State.{IsPaid};
 ghost use Rattle.strat_store.specs.Applying.{IsAppliedTo, FollowsStep, FailsAsTold, HoldsTheSame, is_fault, may_write, refusal_of_trouble};
 ghost use Rattle.strat_publish.specs.Outcomes.{IsDamagedIn};
 ghost use Rattle.strat_store.specs.Cursoring.{LeavesCursors};
@@ -95,7 +95,7 @@ fn carry_out<D: Disk>(held: &mut OpenStore, disk: &mut D, change: &Change<'_>) -
         × (IsPaid (contents_state x) → ArePaidSince (D.view disk.new) (D.view disk.old).moment) }
     ensures kept { is_fault result ≡ false → (cached : Blocks)
         → IsConsistent (held_of held.new cached) }
-    ensures end { (cached : Blocks)
+    ensures disk { (cached : Blocks)
         → KeepsPublished (held_of held.old cached) (held_of held.new cached)
         × (IsOnDisk (D.view disk.old) (held_of held.old cached)
         → IsOnDisk (D.view disk.new) (held_of held.new cached)) }
@@ -149,7 +149,7 @@ fn carry_out_anew<D: Disk>(
         (plain result) }
     ensures kept { is_fault result ≡ false → (cached : Blocks)
         → IsConsistent (held_of held.new cached) }
-    ensures end { (cached : Blocks) → LeavesPublished (D.view disk.old) (D.view disk.new)
+    ensures disk { (cached : Blocks) → LeavesPublished (D.view disk.old) (D.view disk.new)
         (held_of held.old cached) (accepts result) result (held_after held.new cached result)
         × LeavesCursors (held_of held.old cached) (request_for (change_of change.now))
         (plain result) (held_after held.new cached result) }
@@ -190,7 +190,7 @@ pub(crate) fn change<D: Disk>(
         (plain result) }
     ensures kept { is_fault result ≡ false → (cached : Blocks)
         → IsConsistent (held_of held.new cached) }
-    ensures end { (cached : Blocks) → LeavesPublished (D.view disk.old) (D.view disk.new)
+    ensures disk { (cached : Blocks) → LeavesPublished (D.view disk.old) (D.view disk.new)
         (held_of held.old cached) (accepts result) result (held_after held.new cached result)
         × LeavesCursors (held_of held.old cached) (request_for (change_of change.now))
         (plain result) (held_after held.new cached result) }

@@ -2,17 +2,17 @@
 
 ghost use Rattle.std.specs.Prelude.{◌≡◌, ◌≢◌, ◌≤◌, ℕ, List, [], length, false};
 ghost use Rattle.strat_array.specs.Kept.{Blocks};
-ghost use Rattle.strat_crash.specs.Image.{Image};
-ghost use Rattle.strat_crash.specs.Moments.{Exposes};
+ghost use Rattle.def_crash.specs.Image.{Image};
+ghost use Rattle.def_crash.specs.Moments.{Exposes};
 ghost use Rattle.strat_cursor.specs.Cursors.{arrays_named, arrays_of_number, is_opened};
 ghost use Rattle.strat_cursor.specs.Looking.{LooksThrough, ReadsArrays};
-ghost use Rattle.strat_format.specs.Arrays.{block_on};
+ghost use Rattle.def_bytes.specs.Arrays.{block_on};
 ghost use Rattle.strat_model.specs.Answer.{as_told, plain};
 ghost use Rattle.strat_model.specs.Request.{OpenCursor, NextPairs, CloseCursor};
 ghost use Rattle.strat_model.specs.Table.{Cursor};
 ghost use Rattle.strat_model.specs.declared.replies.Refusal.TheVariants as why;
 ghost use Rattle.strat_model.specs.declared.replies.Reply.TheVariants as reply;
-ghost use Rattle.strat_standing.specs.Contents.{Contents};
+ghost use Rattle.def_publish.specs.Contents.{Contents};
 ghost use Rattle.strat_store.specs.Applying.{FailsAsTold, is_fault};
 ghost use Rattle.strat_publish.specs.Outcomes.{IsDamagedIn};
 ghost use Rattle.strat_store.specs.Cursoring.{IsAppliedAt, cursors_after, reply_of_close, reply_of_next, reply_of_start};
@@ -75,7 +75,7 @@ pub(crate) fn reply_to_open_cursor(
     ensures found { (f : Image) (cached : Blocks) → TellsFrom f (held_of held.old cached)
         (OpenCursor version lo.now hi.now) (plain result) }
     ensures kept { (cached : Blocks) → IsConsistent (held_of held.new cached) }
-    ensures end { held.new ≡ record held.old {
+    ensures state { held.new ≡ record held.old {
       memory = record held.old.memory {
         cursors = cursors_after held.old.memory held.old.published.levels
             (OpenCursor version lo.now hi.now) (plain result);
@@ -116,7 +116,7 @@ pub(crate) fn reply_to_next_pairs<D: Disk>(
         → TellsFrom f (held_of held.old cache.old) (NextPairs number limit)
         (as_told result out.new) }
     ensures kept { (cached : Blocks) → IsConsistent (held_of held.new cached) }
-    ensures end { held.new ≡ record held.old {
+    ensures state { held.new ≡ record held.old {
       memory = record held.old.memory {
         cursors = cursors_after held.old.memory held.old.published.levels
             (NextPairs number limit) (as_told result out.new);
@@ -148,7 +148,7 @@ pub(crate) fn reply_to_close_cursor(held: &mut OpenStore, number: u64) -> Reply
     ensures found { (f : Image) (cached : Blocks) → TellsFrom f (held_of held.old cached)
         (CloseCursor number) (plain result) }
     ensures kept { (cached : Blocks) → IsConsistent (held_of held.new cached) }
-    ensures end { held.new ≡ record held.old {
+    ensures state { held.new ≡ record held.old {
       memory = record held.old.memory {
         cursors = cursors_after held.old.memory held.old.published.levels (CloseCursor number)
             (plain result);

@@ -2,9 +2,9 @@
 
 ghost use Rattle.std.specs.Prelude.{◌≡◌, ℕ, List, Option, Some};
 ghost use Rattle.strat_base.specs.declared.descriptors.LevelDesc.{LevelDesc};
-ghost use Rattle.strat_crash.specs.Image.{Image};
+ghost use Rattle.def_crash.specs.Image.{Image};
 ghost use Rattle.strat_cursor.specs.Looking.{arrays_there};
-ghost use Rattle.strat_recovery.specs.Bad.{IsBad};
+ghost use Rattle.def_recovery.specs.Bad.{IsBad};
 ghost use Rattle.strat_publish.specs.Outcomes.{IsDamagedIn};
 ghost use Rattle.strat_memory.specs.Held.{arrays_held};
 ghost use Rattle.strat_memory.specs.Memory.{Memory};

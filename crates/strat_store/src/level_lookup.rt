@@ -6,11 +6,11 @@ ghost use Rattle.strat_array.specs.Told.{TellsFound, AddsPair};
 ghost use Rattle.strat_base.specs.declared.descriptors.ArrayDesc.{ArrayDesc};
 ghost use Rattle.strat_base.specs.declared.failures.Fault.TheVariants.{Damaged, Device};
 ghost use Rattle.strat_base.specs.declared.limits.TheConstants.{PAIRS_MAX};
-ghost use Rattle.strat_crash.specs.Faults.{HasCause};
-ghost use Rattle.strat_crash.specs.Image.{Image};
-ghost use Rattle.strat_crash.specs.Moments.{Exposes};
-ghost use Rattle.strat_recovery.specs.Asked.{on_disk};
-ghost use Rattle.strat_state.specs.LookUp.{looked_up};
+ghost use Rattle.def_crash.specs.Faults.{HasCause};
+ghost use Rattle.def_crash.specs.Image.{Image};
+ghost use Rattle.def_crash.specs.Moments.{Exposes};
+ghost use Rattle.def_recovery.specs.Asked.{on_disk};
+ghost use Rattle.def_state.specs.LookUp.{looked_up};
 ghost use Rattle.strat_cursor.specs.Looking.{levels_there, arrays_there, MayBeFound, AreInOrder, AreCachedFrom, LooksThrough, NamesNoBlock, HaveOwnIds, MayBeAsked, ReadsArrays, arrays_asked, asked_of_level, array_says, decides};
 
 use strat_array::{Cache, Scratch, Seen, find};

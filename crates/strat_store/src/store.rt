@@ -5,19 +5,19 @@ ghost use Rattle.strat_array.specs.Kept.{Blocks};
 ghost use Rattle.strat_base.specs.ChangeView.{change_of};
 ghost use Rattle.strat_base.specs.Finds.{Finds};
 ghost use Rattle.strat_base.specs.Tree.{is_known};
-ghost use Rattle.strat_crash.specs.Faults.{HasCause, ReadsAtMost};
-ghost use Rattle.strat_crash.specs.Image.{Image};
-ghost use Rattle.strat_crash.specs.Moments.{Exposes, Passes};
-ghost use Rattle.strat_format.specs.Chain.{chain_length};
-ghost use Rattle.strat_format.specs.Layout.{region_blocks};
+ghost use Rattle.def_crash.specs.Faults.{HasCause, ReadsAtMost};
+ghost use Rattle.def_crash.specs.Image.{Image};
+ghost use Rattle.def_crash.specs.Moments.{Exposes, Passes};
+ghost use Rattle.def_bytes.specs.Chain.{chain_length};
+ghost use Rattle.def_bytes.specs.Layout.{region_blocks};
 ghost use Rattle.strat_model.specs.Answer.{as_told};
 ghost use Rattle.strat_model.specs.Command.{request_of};
 ghost use Rattle.strat_model.specs.Spelling.{has_lawful_sizes};
 ghost use Rattle.strat_model.specs.Table.{Cursor};
 ghost use Rattle.strat_model.specs.declared.replies.Refusal.TheVariants as why;
 ghost use Rattle.strat_model.specs.declared.replies.Reply.TheVariants as reply;
-ghost use Rattle.strat_recovery.specs.Opening.{recover};
-ghost use Rattle.strat_standing.specs.Contents.{Contents};
+ghost use Rattle.def_recovery.specs.Opening.{recover};
+ghost use Rattle.def_publish.specs.Contents.{Contents};
 ghost use Rattle.strat_store.specs.Applying.{FollowsStep, FailsAsTold, IsUntouched, TellsTroubleOf, change_wanted, is_fault};
 ghost use Rattle.strat_publish.specs.Outcomes.{IsDamagedIn};
 ghost use Rattle.strat_store.specs.Cursoring.{IsAppliedAt, LeavesCursors, cursors_after, is_of_cursor};
@@ -191,7 +191,7 @@ fn query<D: Disk>(
         → TellsFrom f (held_of held.old cache.old)
         (request_of command.now) (as_told result out.new) }
     ensures kept { (cached : Blocks) → IsConsistent (held_of held.new cached) }
-    ensures end { held.new ≡ record held.old {
+    ensures state { held.new ≡ record held.old {
       memory = record held.old.memory {
         cursors = cursors_after held.old.memory held.old.published.levels
             (request_of command.now) (as_told result out.new);

@@ -11,13 +11,13 @@ use Rattle.strat_base.specs.Numbers.{be, number}
 use Rattle.strat_base.specs.Samples.{says}
 use Rattle.strat_base.specs.Tree.{climb}
 use Rattle.strat_base.specs.declared.descriptors.ArrayDesc.{ArrayDesc}
-use Rattle.strat_crash.specs.Image.{over, window}
+use Rattle.def_crash.specs.Image.{over, window}
 use Rattle.strat_cursor.proofs.PickLemmas.{only}
 use Rattle.strat_cursor.specs.Looking.{arrays_asked, levels_there}
-use Rattle.strat_format.specs.Arrays.{block_on, blocks_of, entries_on}
-use Rattle.strat_format.specs.Block.{block_bytes, block_in, entries_in}
-use Rattle.strat_recovery.specs.Asked.{asked}
-use Rattle.strat_state.specs.LookUp.{first_live}
+use Rattle.def_bytes.specs.Arrays.{block_on, blocks_of, entries_on}
+use Rattle.def_bytes.specs.Block.{block_bytes, block_in, entries_in}
+use Rattle.def_recovery.specs.Asked.{asked}
+use Rattle.def_state.specs.LookUp.{first_live}
 use Rattle.strat_store.specs.Ranging.{AreReadAs, IsMapAsked}
 use Rattle.strat_store_pins.specs.Examples.{array_in, children_apart, one_block, with_cached}
 

@@ -4,22 +4,22 @@ use Rattle.strat_base.specs.EntryBytes.{entry_in}
 use Rattle.strat_base.specs.Numbers.{number, be}
 use Rattle.strat_base.specs.Tree.{climb}
 use Rattle.strat_base.specs.Change.{change_in}
-use Rattle.strat_crash.specs.Image.{window, over}
-use Rattle.strat_format.specs.Arrays.{entries_on}
-use Rattle.strat_format.specs.Block.{block_in, block_bytes, entries_in}
-use Rattle.strat_format.specs.Chain.{link_bytes}
-use Rattle.strat_format.specs.Chained.{chain_from}
-use Rattle.strat_format.specs.Manifest.{all_pass, read_number, read_items, read_extent, read_array, read_level, read_mark, read_only, read_manifest, manifest_in, manifest_bytes}
-use Rattle.strat_format.specs.Records.{records}
-use Rattle.strat_format.specs.SuperBlock.{IsLawful, slot_of, slot_in, zeros}
-use Rattle.strat_promotion.specs.Promoted.{SaysTheSame}
-use Rattle.strat_recovery.specs.Opening.{recover}
-use Rattle.strat_state.proofs.BreachLemmas.{sound_from_none}
-use Rattle.strat_state.specs.Sound.{IsSound}
-use Rattle.strat_state.specs.State.{deep, map_at}
-use Rattle.strat_standing.specs.Contents.{contents_state}
-use Rattle.strat_standing.specs.Publication.{Succeeds}
-use Rattle.strat_standing.specs.Worked.{chain_logged, chain_next, published_disk}
+use Rattle.def_crash.specs.Image.{window, over}
+use Rattle.def_bytes.specs.Arrays.{entries_on}
+use Rattle.def_bytes.specs.Block.{block_in, block_bytes, entries_in}
+use Rattle.def_bytes.specs.Chain.{link_bytes}
+use Rattle.def_bytes.specs.Chained.{chain_from}
+use Rattle.def_bytes.specs.Manifest.{all_pass, read_number, read_items, read_extent, read_array, read_level, read_mark, read_only, read_manifest, manifest_in, manifest_bytes}
+use Rattle.def_bytes.specs.Records.{records}
+use Rattle.def_bytes.specs.SuperBlock.{IsLawful, slot_of, slot_in, zeros}
+use Rattle.def_promote.specs.Promoted.{SaysTheSame}
+use Rattle.def_recovery.specs.Opening.{recover}
+use Rattle.def_state.proofs.BreachLemmas.{sound_from_none}
+use Rattle.def_state.specs.Sound.{IsSound}
+use Rattle.def_state.specs.State.{deep, map_at}
+use Rattle.def_publish.specs.Contents.{contents_state}
+use Rattle.def_publish.specs.Publication.{Succeeds}
+use Rattle.def_publish.specs.Worked.{chain_logged, chain_next, published_disk}
 use Rattle.strat_store_pins.specs.Publications.{chain_grown, chain_behind, new_logged, new_next, twice_disk}
 
 -- the old region's first gate, before it is shut

@@ -4,9 +4,9 @@ use Rattle.strat_base.specs.Entries.{Entry}
 use Rattle.strat_base.specs.declared.descriptors.ArrayDesc.{ArrayDesc}
 use Rattle.strat_base.specs.declared.descriptors.LevelDesc.{LevelDesc}
 use Rattle.strat_cursor.specs.Held.{HeldCursor, HeldCursors}
-use Rattle.strat_crash.specs.Image.{Image, patch}
-use Rattle.strat_format.specs.Manifest.{new_manifest}
-use Rattle.strat_recovery.specs.Disks.{array_block, new_super}
+use Rattle.def_crash.specs.Image.{Image, patch}
+use Rattle.def_bytes.specs.Manifest.{new_manifest}
+use Rattle.def_recovery.specs.Disks.{array_block, new_super}
 use Rattle.strat_memory.specs.Held.{Held}
 use Rattle.strat_memory.specs.Memory.{Memory, fresh_memory}
 

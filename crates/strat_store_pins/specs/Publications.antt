@@ -1,12 +1,12 @@
 -- Contents whose journal has one change, or one more than a region takes, and what takes their place.
 use Rattle.std.specs.Prelude.{ℕ, false, [], ◌∷◌, ◌++◌}
 use Rattle.strat_base.specs.Change.{Clone}
-use Rattle.strat_crash.specs.Image.{Image, patch}
-use Rattle.strat_format.specs.Manifest.{new_manifest}
-use Rattle.strat_format.specs.SuperBlock.{fields, spelled}
-use Rattle.strat_recovery.specs.Disks.{new_super}
-use Rattle.strat_standing.specs.Contents.{Contents}
-use Rattle.strat_standing.specs.Worked.{new_contents, chain_logged, chain_next, chain_again, published_disk}
+use Rattle.def_crash.specs.Image.{Image, patch}
+use Rattle.def_bytes.specs.Manifest.{new_manifest}
+use Rattle.def_bytes.specs.SuperBlock.{fields, spelled}
+use Rattle.def_recovery.specs.Disks.{new_super}
+use Rattle.def_publish.specs.Contents.{Contents}
+use Rattle.def_publish.specs.Worked.{new_contents, chain_logged, chain_next, chain_again, published_disk}
 
 -- with a fifth change, behind the full region
 abbrev pub chain_grown : Contents

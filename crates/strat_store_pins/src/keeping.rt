@@ -13,7 +13,7 @@ ghost use Rattle.strat_publish.specs.Counting.{CountsWritten, KeepsCount, manife
 ghost use Rattle.strat_publish.specs.Settling.{HasPublished, KeepsCursors};
 ghost use Rattle.strat_store_pins.specs.Examples.{cursors, memory};
 
-use strat_crash::laws::Viewed;
+use def_crash::laws::Viewed;
 
 /// A manifest counts just the entries of the arrays that it numbers anew, and neither fewer nor more.
 pub fn entries_are_counted_once()

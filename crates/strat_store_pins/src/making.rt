@@ -2,9 +2,9 @@
 //! does nothing.
 
 ghost use Rattle.std.specs.Prelude.{◌≡◌, ◌≢◌, ◌==◌, ◌||◌, if◌then◌else◌, ℕ};
-ghost use Rattle.strat_crash.specs.Image.{Image};
-ghost use Rattle.strat_format.specs.Layout.{open_flag, region_at};
-ghost use Rattle.strat_standing.specs.Worked.{resting};
+ghost use Rattle.def_crash.specs.Image.{Image};
+ghost use Rattle.def_bytes.specs.Layout.{open_flag, region_at};
+ghost use Rattle.def_publish.specs.Worked.{resting};
 ghost use Rattle.strat_open.specs.Format.{IsBlank, IsFormatted, IsNewStore};
 
 /// A disk is blank where neither slot begins with an open gate, whatever else it has: here open gates everywhere else.

@@ -3,13 +3,13 @@
 
 ghost use Rattle.std.specs.Prelude.{◌≡◌, [], ◌∷◌, None, Err};
 ghost use Rattle.strat_base.specs.Change.{Clone};
-ghost use Rattle.strat_recovery.specs.Disks.{chain_manifest};
-ghost use Rattle.strat_recovery.specs.Opening.{recover};
-ghost use Rattle.strat_standing.specs.Contents.{sealed_part, later_part, sealed_state};
-ghost use Rattle.strat_standing.specs.Next.{IsNextOf, MayBeNext};
-ghost use Rattle.strat_standing.specs.Publication.{Succeeds, IsPrepared, IsPromotedFrom};
-ghost use Rattle.strat_standing.specs.Standing.{ContentsStand};
-ghost use Rattle.strat_standing.specs.Worked.{resting, chain_logged, chain_next, chain_again, chain_made, published_disk, at_generation};
+ghost use Rattle.def_recovery.specs.Disks.{chain_manifest};
+ghost use Rattle.def_recovery.specs.Opening.{recover};
+ghost use Rattle.def_publish.specs.Contents.{sealed_part, later_part, sealed_state};
+ghost use Rattle.def_publish.specs.Next.{IsNextOf, MayBeNext};
+ghost use Rattle.def_publish.specs.Publication.{Succeeds, IsPrepared, IsPromotedFrom};
+ghost use Rattle.def_publish.specs.Standing.{ContentsStand};
+ghost use Rattle.def_publish.specs.Worked.{resting, chain_logged, chain_next, chain_again, chain_made, published_disk, at_generation};
 ghost use Rattle.strat_store_pins.specs.Publications.{chain_grown, chain_behind, new_logged, new_next, at_format, twice_disk};
 
 /// The next contents count just the entries that were written, and number the next array behind those that were made; they

@@ -3,24 +3,24 @@
 
 ghost use Rattle.std.specs.List.{flat_map};
 ghost use Rattle.std.specs.Prelude.{◌≡◌, ◌≤◌, ◌<◌, ◌⊎◌, ◌+◌, ◌*◌, ◌++◌, ℕ, List, Option, true, false, length, take, Some, Err};
-ghost use Rattle.strat_crash.specs.Image.{Image};
-ghost use Rattle.strat_crash.specs.Moments.{Exposes, Images, Since};
-ghost use Rattle.strat_crash.specs.Trail.{At, Trail};
+ghost use Rattle.def_crash.specs.Image.{Image};
+ghost use Rattle.def_crash.specs.Moments.{Exposes, Images, Since};
+ghost use Rattle.def_crash.specs.Trail.{At, Trail};
 ghost use Rattle.strat_model.specs.Request.{Request};
 ghost use Rattle.strat_model.specs.Run.{Response, Transcript, bodies_of, is_change, responses_of, sent_bytes, tables_of};
 ghost use Rattle.strat_model.specs.Spelling.{Spells};
 ghost use Rattle.strat_model.specs.Stream.{frame, is_partial};
 ghost use Rattle.strat_model.specs.declared.ended.Ended.TheVariants as ended;
-ghost use Rattle.strat_recovery.specs.Opening.{recover, reads_as};
+ghost use Rattle.def_recovery.specs.Opening.{recover, reads_as};
 ghost use Rattle.strat_serve.specs.Session.{ExposesDamage, IsAtEnd, SendsPrefix, WaitsForNone, WritesNothing};
 ghost use Rattle.strat_serve.specs.Tables.{AnswersUntil, AnswersUntilCut, AnswersUntilFault, EndsAtTables, GoesThroughTables, KeepsSpace};
-ghost use Rattle.strat_standing.specs.Standing.{ShowsTable};
-ghost use Rattle.strat_state.specs.Sound.{IsSound};
-ghost use Rattle.strat_state.specs.State.{State, stored, updates_of};
+ghost use Rattle.def_publish.specs.Standing.{ShowsTable};
+ghost use Rattle.def_state.specs.Sound.{IsSound};
+ghost use Rattle.def_state.specs.State.{State, stored, updates_of};
 ghost use Rattle.strat_store.specs.Applying.{may_write};
 ghost use Rattle.strat_memory.specs.Paying.{IsPaidIn};
 
-use strat_crash::laws::Viewed;
+use def_crash::laws::Viewed;
 
 /// The last piece, of at most 4,096 bytes, was read behind less than a frame, which stood behind at most so many.
 pub fn a_run_waits_for_no_frame()

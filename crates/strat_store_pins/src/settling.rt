@@ -3,24 +3,24 @@
 
 ghost use Rattle.std.specs.Prelude.{◌≡◌, ◌≢◌, ◌≤◌, ◌⊎◌, ◌+◌, ◌-◌, ℕ, suc, Bool, List, true, false, length, replicate, Contains, Some, None, Ok};
 ghost use Rattle.strat_base.specs.declared.descriptors.ArrayDesc.{ArrayDesc};
-ghost use Rattle.strat_crash.specs.Blocks.{AgreeOn};
-ghost use Rattle.strat_crash.specs.Image.{Image};
-ghost use Rattle.strat_crash.specs.Moments.{Exposes, Images, Since};
+ghost use Rattle.def_crash.specs.Blocks.{AgreeOn};
+ghost use Rattle.def_crash.specs.Image.{Image};
+ghost use Rattle.def_crash.specs.Moments.{Exposes, Images, Since};
 ghost use Rattle.strat_cursor.specs.Cursors.{retired_all};
-ghost use Rattle.strat_format.specs.Chained.{manifest_at};
-ghost use Rattle.strat_format.specs.Layout.{newest_format};
-ghost use Rattle.strat_format.specs.Arrays.{block_on};
-ghost use Rattle.strat_format.specs.Manifest.{Manifest};
-ghost use Rattle.strat_format.specs.SuperBlock.{Super, newest_in};
+ghost use Rattle.def_bytes.specs.Chained.{manifest_at};
+ghost use Rattle.def_bytes.specs.Layout.{newest_format};
+ghost use Rattle.def_bytes.specs.Arrays.{block_on};
+ghost use Rattle.def_bytes.specs.Manifest.{Manifest};
+ghost use Rattle.def_bytes.specs.SuperBlock.{Super, newest_in};
 ghost use Rattle.strat_model.specs.Request.{Delete, Get, Stat};
 ghost use Rattle.strat_model.specs.declared.replies.Refusal.TheVariants as why;
 ghost use Rattle.strat_model.specs.declared.replies.Reply.{Reply};
 ghost use Rattle.strat_model.specs.declared.replies.Reply.TheVariants as reply;
 ghost use Rattle.strat_promote.specs.Job.{blocks_listed};
-ghost use Rattle.strat_recovery.specs.Head.{parent_numbers};
-ghost use Rattle.strat_standing.specs.Contents.{Contents, contents_state};
-ghost use Rattle.strat_standing.specs.Next.{arrays_made};
-ghost use Rattle.strat_state.specs.State.{IsPaid};
+ghost use Rattle.def_recovery.specs.Head.{parent_numbers};
+ghost use Rattle.def_publish.specs.Contents.{Contents, contents_state};
+ghost use Rattle.def_publish.specs.Next.{arrays_made};
+ghost use Rattle.def_state.specs.State.{IsPaid};
 ghost use Rattle.strat_store.specs.Applying.{TellsTroubleOf};
 ghost use Rattle.strat_memory.specs.Held.{Held, IsOnDisk, StandsWith, arrays_held};
 ghost use Rattle.strat_memory.specs.Memory.{Memory};
@@ -28,7 +28,7 @@ ghost use Rattle.strat_publish.specs.Counting.{CountsWritten, KeepsCount, manife
 ghost use Rattle.strat_memory.specs.Paying.{IsPaidIn};
 ghost use Rattle.strat_publish.specs.Settling.{ArePublishedTo, HasPublished, LeavesPublished, arrays_taken};
 
-use strat_crash::laws::Viewed;
+use def_crash::laws::Viewed;
 
 /// A change that was carried out at a full journal left the other slot, with the next generation and the other region, and a
 /// manifest of all that memory counts, in the newest format and with no version dropped.

@@ -6,8 +6,8 @@ ghost use Rattle.strat_array.specs.Kept.{IsBlockRead};
 ghost use Rattle.strat_base.specs.Change as change;
 ghost use Rattle.strat_base.specs.Entries.{Entry};
 ghost use Rattle.strat_base.specs.declared.descriptors.ArrayDesc.{ArrayDesc};
-ghost use Rattle.strat_crash.specs.Moments.{OnlyReads};
-ghost use Rattle.strat_format.specs.Arrays.{blocks_of};
+ghost use Rattle.def_crash.specs.Moments.{OnlyReads};
+ghost use Rattle.def_bytes.specs.Arrays.{blocks_of};
 ghost use Rattle.strat_model.specs.Request.{Clone, Delete, DropVersion, Put, Stat};
 ghost use Rattle.strat_model.specs.declared.replies.Refusal.TheVariants as why;
 ghost use Rattle.strat_model.specs.declared.replies.Reply.{Reply};
@@ -16,7 +16,7 @@ ghost use Rattle.strat_store.specs.Applying.{IsUntouched, may_write};
 ghost use Rattle.strat_memory.specs.Held.{Held, arrays_held};
 ghost use Rattle.strat_memory.specs.Memory.{Memory, memory_after, refusal_of_change};
 
-use strat_crash::laws::Viewed;
+use def_crash::laws::Viewed;
 
 /// A change that is told of want of memory leaves all that the store holds, but for the memory that stands ready.
 pub fn a_change_short_of_memory_leaves_what_is_held<D: Viewed>()

@@ -5,7 +5,8 @@ use Rattle.std.proofs.lemmas.Nat.{pow_pos}
 use Rattle.std.proofs.lemmas.Bool.{eq-eqb, ne_eqb, cases_Bool}
 use Rattle.strat_base.specs.Tree.{Parents, parent_of, path, is_ancestor, below, IsTree}
 use Rattle.strat_base.proofs.ListFacts.{Among}
-use Rattle.strat_base.proofs.TreeLemmas.{option_cases, parent_older, root_is_zero, path_root, path_up, along_path, ancestor_among, among_ancestor, below_here, below_up, below_found, below_greatest}
+use Rattle.strat_base.proofs.ResultFacts.{option_cases}
+use Rattle.strat_base.proofs.TreeLemmas.{parent_older, root_is_zero, path_root, path_up, along_path, ancestor_among, among_ancestor, below_here, below_up, below_found, below_greatest}
 use Rattle.std.proofs.lemmas.List.{get_or_read}
 use Rattle.strat_tree.specs.Ancestor.{up, ancestor_at}
 use Rattle.strat_tree.specs.TreeView.{TreeView}

@@ -5,7 +5,8 @@ use Rattle.std.specs.Option.{option_map_or}
 use Rattle.std.proofs.lemmas.Bool.{eq-eqb, ne_eqb, cases_eq, cases_lt}
 use Rattle.std.proofs.lemmas.List.{length-set, get_or-set_same, get_or-set_other}
 use Rattle.strat_base.specs.Tree.{Parents, parent_of, IsTree}
-use Rattle.strat_base.proofs.TreeLemmas.{option_cases, parent_older, root_is_zero}
+use Rattle.strat_base.proofs.ResultFacts.{option_cases}
+use Rattle.strat_base.proofs.TreeLemmas.{parent_older, root_is_zero}
 use Rattle.strat_tree.specs.Intervals.{size_given, sizes_given, passed_up, first_left, AreSizes, AreIntervals}
 
 -- the sum of the first n values

@@ -5,7 +5,8 @@ use Rattle.std.specs.List.{list_any}
 use Rattle.std.specs.Option.{option_map_or}
 use Rattle.strat_base.specs.Tree.{Parents, parent_of, climb, path, is_ancestor, IsTree}
 use Rattle.strat_base.proofs.ListFacts.{Among}
-use Rattle.strat_base.proofs.TreeLemmas.{option_cases, parent_older, root_is_zero, along_path, on_root, on_path, from_path, self_on_path, path_le, child_on_path, ancestor_among, among_ancestor}
+use Rattle.strat_base.proofs.ResultFacts.{option_cases}
+use Rattle.strat_base.proofs.TreeLemmas.{parent_older, root_is_zero, along_path, on_root, on_path, from_path, self_on_path, path_le, child_on_path, ancestor_among, among_ancestor}
 use Rattle.strat_tree.specs.Preorder.{IsPreorder}
 use Rattle.strat_tree.specs.Intervals.{AreIntervals}
 

@@ -1,5 +1,5 @@
 use Rattle.std.proofs.Common.{◌∙◌}
-use Rattle.strat_crash.proofs.MomentLemmas.{leaves_refl}
+use Rattle.def_crash.proofs.MomentLemmas.{leaves_refl}
 use Rattle.castle.specs.Outcomes.{format_text}
 use Rattle.strat_open.proofs.FormatLemmas.{none_yet}
 use Rattle.strat_serve.proofs.SendLemmas.{sends_prefix}

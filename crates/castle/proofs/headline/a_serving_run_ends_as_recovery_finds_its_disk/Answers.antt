@@ -1,8 +1,8 @@
 use Rattle.std.proofs.Common.{◌≡◌, ℕ, Option, None, Some, inl, inr, refl, sym, subst, arith}
 use Rattle.std.specs.Prelude.{Ok, Err}
-use Rattle.strat_format.specs.Damage.{Read}
+use Rattle.def_bytes.specs.Damage.{Read}
 use Rattle.strat_model.specs.Ended.{status_of}
-use Rattle.strat_recovery.specs.Head.{Head}
+use Rattle.def_recovery.specs.Head.{Head}
 use Rattle.castle.specs.Outcomes.{EndsAsFound}
 use Rattle.castle.proofs.HeadlineLemmas.{damaged_by, ended_by, found_flat, gave_device, gave_for, gives_up}
 use Rattle.castle.proofs.headline.a_serving_run_ends_as_recovery_finds_its_disk.Goals as goal

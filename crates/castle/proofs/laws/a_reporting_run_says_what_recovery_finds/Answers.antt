@@ -1,7 +1,7 @@
 use Rattle.std.proofs.Common.{◌≡◌, ℕ, Option, inl, inr, refl, sym, ap, subst, ◌∙◌, arith}
-use Rattle.strat_format.specs.Damage.{Read}
+use Rattle.def_bytes.specs.Damage.{Read}
 use Rattle.strat_model.specs.Ended.{status_of}
-use Rattle.strat_recovery.specs.Head.{Head}
+use Rattle.def_recovery.specs.Head.{Head}
 use Rattle.strat_report.specs.Reporting.{AppendsFront, levels_text}
 use Rattle.castle.proofs.HeadlineLemmas.{ended_by}
 use Rattle.castle.proofs.OutcomeLemmas.{causes, report_cut, report_damaged, report_done, report_ends_by, report_none, report_same}

@@ -1,6 +1,6 @@
 use Rattle.std.proofs.Common.{◌≢◌, ◌<◌, ◌+◌, ◌-◌, List, ◌++◌, ◌∷◌, [], length, take, get_or, sym, ap, ◌∙◌, subst, arith, length-append}
 use Rattle.strat_base.specs.declared.descriptors.Extent.{Extent}
-use Rattle.strat_format.specs.Arrays.{blocks_of}
+use Rattle.def_bytes.specs.Arrays.{blocks_of}
 use Rattle.strat_array.specs.Pushed.{AreMaximal}
 use Rattle.strat_array.proofs.JoinLemmas.{popped, before_last, last_apart, instead, blocks_joined, maximal_joined, maximal_more}
 use Rattle.strat_array.proofs.blocks.put_block.Goals as goal

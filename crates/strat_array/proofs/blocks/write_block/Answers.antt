@@ -1,4 +1,4 @@
-use Rattle.strat_crash.proofs.BlockLemmas.{write_tears}
+use Rattle.def_crash.proofs.BlockLemmas.{write_tears}
 use Rattle.strat_array.proofs.blocks.write_block.Goals as goal
 
 pub returns-clause-same : goal.returns-clause-same

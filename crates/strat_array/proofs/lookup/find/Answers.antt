@@ -1,9 +1,10 @@
-use Rattle.strat_format.specs.Arrays.{blocks_of}
+use Rattle.def_bytes.specs.Arrays.{blocks_of}
 use Rattle.strat_array.specs.Left.{all_in}
 use Rattle.strat_array.specs.Steps.{left_from}
 use Rattle.strat_array.proofs.KeptLemmas.{looks_trans, stands_after}
 use Rattle.strat_array.proofs.FoundLemmas.{answers_live}
-use Rattle.strat_array.proofs.SearchLemmas.{no_block_same, err_of, if_ok_then}
+use Rattle.strat_base.proofs.ResultFacts.{err_of, if_ok_then}
+use Rattle.strat_array.proofs.SearchLemmas.{no_block_same}
 use Rattle.strat_array.proofs.lookup.find.Goals as goal
 
 pub returns-in_err-place-clause-damaged : goal.returns-in_err-place-clause-damaged

@@ -1,5 +1,5 @@
 use Rattle.std.proofs.Common.{◌≡◌, ◌≤◌, length, ◌+◌, ◌-◌, ◌*◌, ◌^◌}
-use Rattle.strat_format.specs.Arrays.{blocks_of}
+use Rattle.def_bytes.specs.Arrays.{blocks_of}
 use Rattle.strat_array.specs.Steps.{blocks_ahead}
 use Rattle.strat_array.proofs.FindLemmas.{Walking}
 use Rattle.strat_array.proofs.lookup.live_from.Given as goal

@@ -1,6 +1,6 @@
 use Rattle.std.proofs.Common.{◌≡◌, ◌≤◌, ◌+◌, ◌-◌, ◌++◌, drop, length}
 use Rattle.std.specs.List.{range_with_len}
-use Rattle.strat_format.specs.Arrays.{blocks_of}
+use Rattle.def_bytes.specs.Arrays.{blocks_of}
 use Rattle.strat_array.proofs.numbers.first_left.Given as goal
 
 abbrev pub invariant-loop-first : goal.invariant-loop-first

@@ -1,5 +1,5 @@
 use Rattle.std.proofs.Common.{◌≡◌, ◌+◌, drop, length}
-use Rattle.strat_format.specs.Arrays.{blocks_of}
+use Rattle.def_bytes.specs.Arrays.{blocks_of}
 use Rattle.strat_array.proofs.place.count_blocks.Given as goal
 
 abbrev pub invariant-loop-x : goal.invariant-loop-x

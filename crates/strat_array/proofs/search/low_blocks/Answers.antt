@@ -1,8 +1,9 @@
 use Rattle.std.proofs.Common.{List, length, refl, ap, ◌∙◌}
 use Rattle.strat_base.specs.declared.descriptors.Extent.{Extent}
-use Rattle.strat_format.specs.Arrays.{blocks_of}
+use Rattle.def_bytes.specs.Arrays.{blocks_of}
 use Rattle.strat_array.proofs.KeptLemmas.{looks_trans}
-use Rattle.strat_array.proofs.SearchLemmas.{halving_begins, halving_goes_on, halving_ends, no_block_same, err_of}
+use Rattle.strat_base.proofs.ResultFacts.{err_of}
+use Rattle.strat_array.proofs.SearchLemmas.{halving_begins, halving_goes_on, halving_ends, no_block_same}
 use Rattle.strat_array.proofs.search.low_blocks.Goals as goal
 
 pub loop-low-init : goal.loop-low-init

@@ -1,10 +1,11 @@
 use Rattle.std.proofs.Common.{List, None, refl, subst, sym, arith}
 use Rattle.strat_base.specs.Entries.{Entry}
-use Rattle.strat_format.specs.Arrays.{blocks_of}
+use Rattle.def_bytes.specs.Arrays.{blocks_of}
 use Rattle.strat_array.specs.Kept.{Looks, ArrayStands}
 use Rattle.strat_array.proofs.KeptLemmas.{looks_trans, stands_after}
 use Rattle.strat_array.proofs.PlaceLemmas.{listed_filled, sought_at_start, settled_at_start, sought_behind, settled_behind}
-use Rattle.strat_array.proofs.SearchLemmas.{no_block_same, err_of}
+use Rattle.strat_base.proofs.ResultFacts.{err_of}
+use Rattle.strat_array.proofs.SearchLemmas.{no_block_same}
 use Rattle.strat_array.proofs.search.seek.Given.{Over}
 use Rattle.strat_array.proofs.search.seek.Goals as goal
 use Rattle.strat_array.proofs.search.seek.Goals.{After-low_blocks}

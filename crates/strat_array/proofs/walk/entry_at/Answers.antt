@@ -3,7 +3,7 @@ use Rattle.strat_base.specs.EntryView.{entry_of}
 use Rattle.strat_array.specs.declared.place.Place.{Place}
 use Rattle.strat_array.proofs.KeptLemmas.{stands_after}
 use Rattle.strat_array.proofs.FindLemmas.{left_held}
-use Rattle.strat_array.proofs.SearchLemmas.{err_of}
+use Rattle.strat_base.proofs.ResultFacts.{err_of}
 use Rattle.strat_array.proofs.walk.entry_at.Goals as goal
 
 pub returns-in_err-at-clause-damaged : goal.returns-in_err-at-clause-damaged

@@ -1,5 +1,5 @@
 use Rattle.strat_extent.specs.Blocks.{is_free}
-use Rattle.strat_format.specs.Arrays.{blocks_of}
+use Rattle.def_bytes.specs.Arrays.{blocks_of}
 use Rattle.strat_block.proofs.BlockFacts.{block_stands-in}
 use Rattle.strat_array.proofs.PushLemmas.{block_added}
 use Rattle.strat_array.proofs.TakesLemmas.{takes_nothing, takes_one}

@@ -17,7 +17,7 @@ loop-i-preserved c =
     let first = t.first in
     let room' = c.loop-i.invariant.room in
     record {
-      all = pending_then c.args.entries.now c.loop-i.i _ c.loop-i.writer.pending c.push.new.self.pending c.loop-i-test.true c.in_ok-push.ensures.end c.loop-i.invariant.all;
+      all = pending_then c.args.entries.now c.loop-i.i _ c.loop-i.writer.pending c.push.new.self.pending c.loop-i-test.true c.in_ok-push.ensures.state c.loop-i.invariant.all;
       count = c.in_ok-push.ensures.len.0 ∙ ap (λ (n : ℕ). n + 1) c.loop-i.invariant.count;
       room = omega arith;
       used = used_once_taken c.loop-i.space c.push.new.space c.loop-i.writer.extents c.push.new.self.extents t c.loop-i.invariant.used;

@@ -2,7 +2,7 @@ use Rattle.std.proofs.Common.{◌≡◌, ◌≤◌, ◌+◌, ◌-◌, take, map,
 use Rattle.strat_base.specs.EntryView.{entry_of}
 use Rattle.strat_array.specs.Taking.{AreUsed}
 use Rattle.strat_extent.specs.Blocks.{used_count}
-use Rattle.strat_format.specs.Arrays.{blocks_of}
+use Rattle.def_bytes.specs.Arrays.{blocks_of}
 use Rattle.strat_array.specs.Pushed.{IsEndOf}
 use Rattle.strat_array_tests.proofs.writer.push_all.Given as goal
 

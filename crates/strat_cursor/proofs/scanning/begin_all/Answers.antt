@@ -1,6 +1,6 @@
 use Rattle.std.proofs.Common.{refl, ◌∙◌, arith}
 use Rattle.std.proofs.lemmas.List.{length-set}
-use Rattle.strat_array.proofs.SearchLemmas.{err_of}
+use Rattle.strat_base.proofs.ResultFacts.{err_of}
 use Rattle.strat_cursor.specs.Sources.{reads_left, reads_of_source}
 use Rattle.strat_cursor.proofs.ContestLemmas.{get_here}
 use Rattle.strat_cursor.proofs.ThroughLemmas.{through_more, through_trans, names_more, names_earlier}

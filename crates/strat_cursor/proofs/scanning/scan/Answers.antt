@@ -1,5 +1,5 @@
 use Rattle.std.proofs.Common.{ℕ, ap, ◌∙◌, subst}
-use Rattle.strat_crash.specs.Faults.{ReadsAtMost}
+use Rattle.def_crash.specs.Faults.{ReadsAtMost}
 use Rattle.strat_cursor.specs.Looking.{ReadsArrays, reads_of_arrays}
 use Rattle.strat_cursor.specs.Views.{arrays_read}
 use Rattle.strat_cursor.proofs.ReadLemmas.{reads_of_sources}

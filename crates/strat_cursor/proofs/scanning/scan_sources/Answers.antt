@@ -1,5 +1,5 @@
 use Rattle.std.proofs.Common.{List, ℕ, sym, subst, ◌∙◌}
-use Rattle.strat_array.proofs.SearchLemmas.{if_ok_then}
+use Rattle.strat_base.proofs.ResultFacts.{if_ok_then}
 use Rattle.strat_cursor.specs.Turning.{AreUpTo}
 use Rattle.strat_cursor.proofs.ThroughLemmas.{through_trans}
 use Rattle.strat_cursor.proofs.TurnLemmas.{at_hand}

@@ -1,5 +1,5 @@
 use Rattle.std.proofs.Common.{ap}
-use Rattle.strat_array.proofs.SearchLemmas.{err_of}
+use Rattle.strat_base.proofs.ResultFacts.{err_of}
 use Rattle.strat_array.specs.declared.place.Place.{Place}
 use Rattle.strat_cursor.specs.declared.desks.Desk.{Desk}
 use Rattle.strat_cursor.proofs.SourceLemmas.{zero_goes, zero_steps, array_goes, through_source, names_source, looks_desk}

@@ -1,8 +1,9 @@
 use Rattle.std.proofs.Common.{List, [], subst}
 use Rattle.strat_base.specs.Entries.{Entry}
-use Rattle.strat_format.specs.Arrays.{blocks_of}
+use Rattle.def_bytes.specs.Arrays.{blocks_of}
 use Rattle.strat_array.proofs.KeptLemmas.{looks_trans, stands_after}
-use Rattle.strat_array.proofs.SearchLemmas.{no_block_same, err_of, if_ok_then}
+use Rattle.strat_base.proofs.ResultFacts.{err_of, if_ok_then}
+use Rattle.strat_array.proofs.SearchLemmas.{no_block_same}
 use Rattle.strat_cursor.specs.Sources.{PassesUndue, left_behind}
 use Rattle.strat_cursor.proofs.sources.begin_place.Goals as goal
 

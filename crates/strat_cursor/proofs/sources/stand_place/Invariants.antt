@@ -1,5 +1,5 @@
 use Rattle.std.proofs.Common.{◌≡◌, ◌≤◌, length, ◌+◌}
-use Rattle.strat_format.specs.Arrays.{blocks_of}
+use Rattle.def_bytes.specs.Arrays.{blocks_of}
 use Rattle.strat_array.specs.Steps.{blocks_ahead}
 use Rattle.strat_cursor.specs.Sources.{places_ahead}
 use Rattle.strat_cursor.proofs.StandLemmas.{Standing}

@@ -1,6 +1,6 @@
 use Rattle.std.proofs.Common.{length, ◌∙◌, subst, arith, get_or}
 use Rattle.std.proofs.lemmas.List.{length-set}
-use Rattle.strat_array.proofs.SearchLemmas.{err_of}
+use Rattle.strat_base.proofs.ResultFacts.{err_of}
 use Rattle.strat_base.specs.Entries.{Entry}
 use Rattle.std.specs.declared.option.Option.{Option}
 use Rattle.strat_cursor.specs.Sources.{IsSpent, steps_left, reads_left}

@@ -1,4 +1,4 @@
-use Rattle.strat_crash.proofs.MomentLemmas.{passes_trans, tears_then_leaves, through_err}
+use Rattle.def_crash.proofs.MomentLemmas.{passes_trans, tears_then_leaves, through_err}
 use Rattle.strat_disk.proofs.disk.write_through.Goals as goal
 
 pub returns-in_err-sync-clause-ok : goal.returns-in_err-sync-clause-ok

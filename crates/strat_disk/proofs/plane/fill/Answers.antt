@@ -1,5 +1,5 @@
 use Rattle.std.proofs.Common.{◌<◌, slice_index, length, arith}
-use Rattle.strat_crash.proofs.ImageLemmas.{is_window}
+use Rattle.def_crash.proofs.ImageLemmas.{is_window}
 use Rattle.strat_disk.proofs.plane.fill.Goals as goal
 
 pub returns : goal.returns

@@ -1,4 +1,4 @@
-use Rattle.strat_crash.proofs.MomentLemmas.{passes_trans}
+use Rattle.def_crash.proofs.MomentLemmas.{passes_trans}
 use Rattle.strat_gate.proofs.RaisingLemmas.{first_tears, first_moment, both_tear, second_moment, all_content, failed}
 use Rattle.strat_gate.proofs.commit.gate_commit.Goals as goal
 

@@ -1,6 +1,6 @@
 use Rattle.std.proofs.Common.{sym, ◌∙◌, inl}
 use Rattle.std.proofs.lemmas.Bool.{eqb-true, eqb-false}
-use Rattle.strat_crash.proofs.MomentLemmas.{leaves_then_tears}
+use Rattle.def_crash.proofs.MomentLemmas.{leaves_then_tears}
 use Rattle.strat_gate.proofs.gate.gate_ensure_shut.Goals as goal
 
 pub returns-in_err-gate_shut-clause-same : goal.returns-in_err-gate_shut-clause-same

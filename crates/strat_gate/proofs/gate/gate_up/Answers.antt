@@ -1,7 +1,7 @@
 use Rattle.std.proofs.Common.{◌≡◌, ◌==◌, ℕ, ◌+◌, List, get_or, ap, ◌∙◌, arith}
-use Rattle.strat_crash.specs.Image.{Image, window}
-use Rattle.strat_crash.proofs.ImageLemmas.{window_at}
-use Rattle.strat_crash.proofs.MomentLemmas.{at_told}
+use Rattle.def_crash.specs.Image.{Image, window}
+use Rattle.def_crash.proofs.ImageLemmas.{window_at}
+use Rattle.def_crash.proofs.MomentLemmas.{at_told}
 use Rattle.strat_gate.proofs.gate.gate_up.Goals as goal
 
 pub returns-clause-ok : goal.returns-clause-ok

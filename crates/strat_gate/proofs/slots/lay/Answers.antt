@@ -1,9 +1,9 @@
 use Rattle.std.proofs.Common.{◌≡◌, ◌*◌, ◌+◌, [], ◌∷◌, Some, length, inl, arith}
-use Rattle.strat_crash.specs.Image.{Image, patch}
-use Rattle.strat_crash.specs.Moments.{Since, TearsOnly}
-use Rattle.strat_format.specs.SuperBlock.{body}
-use Rattle.strat_crash.proofs.MomentLemmas.{at_told, passes_trans, tears_trans, tears_wider}
-use Rattle.strat_format.proofs.SuperBlockLemmas.{length-body}
+use Rattle.def_crash.specs.Image.{Image, patch}
+use Rattle.def_crash.specs.Moments.{Since, TearsOnly}
+use Rattle.def_bytes.specs.SuperBlock.{body}
+use Rattle.def_crash.proofs.MomentLemmas.{at_told, passes_trans, tears_trans, tears_wider}
+use Rattle.def_bytes.proofs.SuperBlockLemmas.{length-body}
 use Rattle.strat_gate.specs.SuperView.{super_of}
 use Rattle.strat_gate.specs.Laying.{LaysOver, OldOrNew}
 use Rattle.strat_gate.proofs.LayingLemmas.{closing, closed, bodied, raised, to_second, to_third, content_laid}

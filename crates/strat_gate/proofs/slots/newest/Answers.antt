@@ -1,4 +1,4 @@
-use Rattle.strat_crash.proofs.MomentLemmas.{reads_trans}
+use Rattle.def_crash.proofs.MomentLemmas.{reads_trans}
 use Rattle.strat_gate.proofs.slots.newest.Goals as goal
 
 pub returns-in_default-read_slot-clause-same : goal.returns-in_default-read_slot-clause-same

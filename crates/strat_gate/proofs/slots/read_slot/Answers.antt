@@ -1,7 +1,7 @@
 use Rattle.std.proofs.Common.{◌≡◌, ap, sym, ◌∙◌}
-use Rattle.strat_crash.specs.Image.{Image, window}
-use Rattle.strat_format.specs.SuperBlock.{slot_of, slot_in}
-use Rattle.strat_crash.proofs.MomentLemmas.{at_told}
+use Rattle.def_crash.specs.Image.{Image, window}
+use Rattle.def_bytes.specs.SuperBlock.{slot_of, slot_in}
+use Rattle.def_crash.proofs.MomentLemmas.{at_told}
 use Rattle.strat_gate.proofs.slots.read_slot.Goals as goal
 
 pub returns-clause-ok : goal.returns-clause-ok

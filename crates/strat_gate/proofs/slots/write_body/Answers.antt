@@ -1,5 +1,5 @@
 use Rattle.std.proofs.Common.{refl}
-use Rattle.strat_format.specs.SuperBlock.{zeros}
+use Rattle.def_bytes.specs.SuperBlock.{zeros}
 use Rattle.strat_gate.proofs.slots.write_body.Goals as goal
 
 pub spell-requires-clause-none : goal.spell-requires-clause-none

@@ -1,7 +1,7 @@
 use Rattle.std.proofs.Common.{◌≡◌, ℕ, [], ◌++◌, List, take, ap, ◌∙◌}
 use Rattle.strat_base.specs.Numbers.{be, placed}
-use Rattle.strat_format.specs.SuperBlock.{Super, magic, spelled, fields, zeros}
-use Rattle.strat_format.proofs.SuperBlockLemmas.{spelled_next}
+use Rattle.def_bytes.specs.SuperBlock.{Super, magic, spelled, fields, zeros}
+use Rattle.def_bytes.proofs.SuperBlockLemmas.{spelled_next}
 use Rattle.strat_gate.specs.SuperView.{super_of}
 use Rattle.strat_gate.proofs.superblock.spell.Goals as goal
 

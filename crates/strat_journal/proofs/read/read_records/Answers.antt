@@ -1,7 +1,7 @@
 use Rattle.std.proofs.Common.{◌≡◌, ◌∙◌, ℕ, ap, sym, arith}
-use Rattle.strat_crash.proofs.MomentLemmas.{reads_trans}
-use Rattle.strat_format.specs.Layout as places
-use Rattle.strat_format.specs.Layout.{is_open}
+use Rattle.def_crash.proofs.MomentLemmas.{reads_trans}
+use Rattle.def_bytes.specs.Layout as places
+use Rattle.def_bytes.specs.Layout.{is_open}
 use Rattle.strat_journal.proofs.BothRegionsLemmas.{alone, off_by}
 use Rattle.strat_journal.proofs.read.read_records.Goals as goal
 

@@ -1,4 +1,4 @@
-use Rattle.strat_crash.proofs.MomentLemmas.{reads_trans}
+use Rattle.def_crash.proofs.MomentLemmas.{reads_trans}
 use Rattle.std.proofs.Common.{refl, ◌∙◌, arith}
 use Rattle.std.proofs.lemmas.Result.{err_from_is_err_and}
 use Rattle.strat_journal.proofs.ReadLemmas.{same_err, begun, one_more, ends_shut, ends_torn, ends_full, front_kept}

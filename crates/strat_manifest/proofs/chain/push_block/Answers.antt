@@ -1,5 +1,5 @@
 use Rattle.std.proofs.Common.{◌≡◌, ◌∙◌, ◌-◌, ◌<◌, ℕ, get_or, length, ap, arith}
-use Rattle.strat_format.specs.Arrays.{blocks_of}
+use Rattle.def_bytes.specs.Arrays.{blocks_of}
 use Rattle.strat_manifest.proofs.ChainSeenLemmas.{block_joined}
 use Rattle.strat_manifest.proofs.chain.push_block.Goals as goal
 

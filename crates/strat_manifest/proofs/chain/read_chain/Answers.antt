@@ -1,9 +1,9 @@
 use Rattle.std.proofs.Common.{◌≡◌, ◌-◌, ℕ, [], Err, ap, sym, ◌∙◌, refl}
-use Rattle.strat_crash.specs.Image.{Image}
-use Rattle.strat_crash.proofs.MomentLemmas.{reads_trans}
-use Rattle.strat_format.specs.Arrays.{blocks_of}
-use Rattle.strat_format.specs.Chain.{chain_length}
-use Rattle.strat_format.specs.Chained.{chain_from}
+use Rattle.def_crash.specs.Image.{Image}
+use Rattle.def_crash.proofs.MomentLemmas.{reads_trans}
+use Rattle.def_bytes.specs.Arrays.{blocks_of}
+use Rattle.def_bytes.specs.Chain.{chain_length}
+use Rattle.def_bytes.specs.Chained.{chain_from}
 use Rattle.strat_manifest.proofs.ChainReadLemmas.{ReadsLink, followed_all, followed_on}
 use Rattle.strat_manifest.proofs.chain.read_chain.Given.{Over}
 use Rattle.strat_manifest.proofs.chain.read_chain.Goals as goal

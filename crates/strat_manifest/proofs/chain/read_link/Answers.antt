@@ -1,6 +1,6 @@
 use Rattle.std.proofs.Common.{◌≡◌, ◌*◌, length, sym, ◌∙◌, ap}
-use Rattle.strat_crash.specs.Image.{Image, window}
-use Rattle.strat_crash.proofs.MomentLemmas.{at_told}
+use Rattle.def_crash.specs.Image.{Image, window}
+use Rattle.def_crash.proofs.MomentLemmas.{at_told}
 use Rattle.strat_manifest.proofs.ChainReadLemmas.{link_told}
 use Rattle.strat_manifest.proofs.chain.read_link.Goals as goal
 

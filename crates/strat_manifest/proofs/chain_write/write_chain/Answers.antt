@@ -2,8 +2,8 @@ use Rattle.std.proofs.Common.{◌≤◌, ap, ◌≡◌, ◌<◌, ◌^◌, ℕ, t
 use Rattle.strat_base.specs.declared.descriptors.Extent.{Extent}
 use Rattle.strat_extent.specs.Blocks.{AreRuns, times_in, is_free}
 use Rattle.strat_extent.proofs.RunLemmas.{runs_weaker}
-use Rattle.strat_format.specs.Arrays.{blocks_of}
-use Rattle.strat_format.specs.Chain.{HoldsChain, next_block}
+use Rattle.def_bytes.specs.Arrays.{blocks_of}
+use Rattle.def_bytes.specs.Chain.{HoldsChain, next_block}
 use Rattle.strat_manifest.proofs.ChainWriteLemmas.{taken_free, chain_made, first_fits}
 use Rattle.strat_manifest.proofs.chain_write.write_chain.Given.{Over}
 use Rattle.strat_manifest.proofs.chain_write.write_chain.Goals as goal

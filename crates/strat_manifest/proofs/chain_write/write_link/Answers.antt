@@ -1,4 +1,4 @@
-use Rattle.strat_crash.proofs.BlockLemmas.{write_tears}
+use Rattle.def_crash.proofs.BlockLemmas.{write_tears}
 use Rattle.strat_manifest.proofs.chain_write.write_link.Goals as goal
 
 pub returns-clause-images : goal.returns-clause-images

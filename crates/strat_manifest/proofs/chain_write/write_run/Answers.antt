@@ -1,6 +1,6 @@
 use Rattle.std.proofs.Common.{◌+◌, ◌-◌, ◌*◌, ℕ, List, take, arith, refl, subst, ◌∙◌}
-use Rattle.strat_crash.specs.Moments.{Writes}
-use Rattle.strat_format.specs.Chain.{link_bytes}
+use Rattle.def_crash.specs.Moments.{Writes}
+use Rattle.def_bytes.specs.Chain.{link_bytes}
 use Rattle.strat_manifest.proofs.ChainWriteLemmas.{run_more, run_tears, run_all}
 use Rattle.strat_manifest.proofs.chain_write.write_run.Goals as goal
 

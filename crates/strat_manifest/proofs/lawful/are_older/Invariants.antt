@@ -1,5 +1,5 @@
 use Rattle.std.proofs.Common.{◌≡◌, suc, drop}
-use Rattle.strat_format.specs.Manifest.{are_older}
+use Rattle.def_bytes.specs.Manifest.{are_older}
 use Rattle.strat_manifest.proofs.lawful.are_older.Given as goal
 
 abbrev pub invariant-loop-i : goal.invariant-loop-i

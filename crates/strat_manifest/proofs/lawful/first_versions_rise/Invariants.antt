@@ -1,5 +1,5 @@
 use Rattle.std.proofs.Common.{◌≡◌, length, map}
-use Rattle.strat_format.specs.Manifest.{is_rising, first_version}
+use Rattle.def_bytes.specs.Manifest.{is_rising, first_version}
 use Rattle.strat_manifest.proofs.lawful.first_versions_rise.Given as goal
 
 abbrev pub invariant-loop-left : goal.invariant-loop-left

@@ -1,5 +1,5 @@
 use Rattle.std.proofs.Common.{◌≡◌, length}
-use Rattle.strat_format.specs.Manifest.{is_rising}
+use Rattle.def_bytes.specs.Manifest.{is_rising}
 use Rattle.strat_manifest.proofs.lawful.rise.Given as goal
 
 abbrev pub invariant-loop-left : goal.invariant-loop-left

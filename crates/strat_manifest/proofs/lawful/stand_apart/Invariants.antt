@@ -1,5 +1,5 @@
 use Rattle.std.proofs.Common.{◌≡◌, length}
-use Rattle.strat_format.specs.Manifest.{are_apart}
+use Rattle.def_bytes.specs.Manifest.{are_apart}
 use Rattle.strat_manifest.proofs.lawful.stand_apart.Given as goal
 
 abbrev pub invariant-loop-left : goal.invariant-loop-left

@@ -1,6 +1,6 @@
 use Rattle.std.proofs.Common.{◌≡◌, inl, inr, None, rules, sym, ap, ◌∙◌, arith}
-use Rattle.strat_format.specs.Layout.{newest_format}
-use Rattle.strat_format.specs.Manifest.{manifest_in}
+use Rattle.def_bytes.specs.Layout.{newest_format}
+use Rattle.def_bytes.specs.Manifest.{manifest_in}
 use Rattle.strat_manifest.specs.Reading.{read_head}
 use Rattle.strat_manifest.specs.declared.manifest.ManifestFault.TheVariants as fault
 use Rattle.strat_manifest.proofs.ParseLemmas.{head_missing, versions_refused, behind_missing, all_refused, all_spelled, all_found}

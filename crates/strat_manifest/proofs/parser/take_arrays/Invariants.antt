@@ -1,5 +1,5 @@
 use Rattle.std.proofs.Common.{◌≡◌, ◌-◌}
-use Rattle.strat_format.specs.Manifest.{read_array, read_items}
+use Rattle.def_bytes.specs.Manifest.{read_array, read_items}
 use Rattle.strat_manifest.proofs.ItemLemmas.{continued}
 use Rattle.strat_manifest.proofs.parser.take_arrays.Given as goal
 

@@ -1,7 +1,7 @@
 use Rattle.std.proofs.Common.{◌≡◌, ◌≤◌, ◌+◌, ◌++◌, length, take}
 use Rattle.std.specs.List.{flat_map}
 use Rattle.std.specs.Prelude.{vec_len, vec_capacity}
-use Rattle.strat_format.specs.Manifest.{array_bytes}
+use Rattle.def_bytes.specs.Manifest.{array_bytes}
 use Rattle.strat_manifest.proofs.printer.add_arrays.Given as goal
 
 abbrev pub invariant-loop-a : goal.invariant-loop-a

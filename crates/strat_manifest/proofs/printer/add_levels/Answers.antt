@@ -1,5 +1,5 @@
 use Rattle.std.proofs.Common.{arith}
-use Rattle.strat_format.specs.Manifest.{level_bytes}
+use Rattle.def_bytes.specs.Manifest.{level_bytes}
 use Rattle.strat_manifest.proofs.PrintLemmas.{size_within}
 use Rattle.strat_manifest.proofs.printer.add_levels.Goals as goal
 

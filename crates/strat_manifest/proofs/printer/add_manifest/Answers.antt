@@ -2,7 +2,7 @@ use Rattle.std.proofs.Common.{ℕ, List, ◌+◌, ◌++◌, length, ap, ◌∙�
 use Rattle.std.specs.List.{flat_map}
 use Rattle.strat_base.specs.Numbers.{be}
 use Rattle.strat_base.specs.declared.descriptors.LevelDesc.{LevelDesc}
-use Rattle.strat_format.specs.Manifest.{level_bytes}
+use Rattle.def_bytes.specs.Manifest.{level_bytes}
 use Rattle.strat_manifest.specs.ManifestView.{manifest_of}
 use Rattle.strat_manifest.proofs.PrintLemmas.{manifest_added}
 use Rattle.strat_manifest.proofs.printer.add_manifest.Goals as goal

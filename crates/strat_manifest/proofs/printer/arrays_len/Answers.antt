@@ -1,5 +1,5 @@
 use Rattle.std.proofs.Common.{arith}
-use Rattle.strat_format.specs.Manifest.{array_bytes}
+use Rattle.def_bytes.specs.Manifest.{array_bytes}
 use Rattle.strat_manifest.proofs.PrintLemmas.{size_within}
 use Rattle.strat_manifest.proofs.printer.arrays_len.Goals as goal
 

@@ -1,6 +1,6 @@
 use Rattle.std.proofs.Common.{◌≡◌, length, take}
 use Rattle.std.specs.List.{flat_map}
-use Rattle.strat_format.specs.Manifest.{array_bytes}
+use Rattle.def_bytes.specs.Manifest.{array_bytes}
 use Rattle.strat_manifest.proofs.printer.arrays_len.Given as goal
 
 abbrev pub invariant-loop-a : goal.invariant-loop-a

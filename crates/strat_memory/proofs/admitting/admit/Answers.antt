@@ -1,10 +1,10 @@
 use Rattle.std.proofs.Common.{◌≡◌, List, true, refl, sym, ap, subst, ◌∙◌}
 use Rattle.std.specs.List.{list_all}
 use Rattle.strat_base.specs.declared.descriptors.LevelDesc.{LevelDesc}
-use Rattle.strat_format.specs.Arrays.{blocks_of}
+use Rattle.def_bytes.specs.Arrays.{blocks_of}
 use Rattle.strat_gate.specs.SuperView.{super_of}
 use Rattle.strat_manifest.specs.ManifestView.{manifest_of}
-use Rattle.strat_recovery.specs.Opening.{has_own_versions}
+use Rattle.def_recovery.specs.Opening.{has_own_versions}
 use Rattle.strat_memory.specs.Held.{ArePlaced}
 use Rattle.strat_memory.specs.Admitting.{MayBePlaced}
 use Rattle.strat_memory.proofs.AdmitLemmas.{may_be_placed, versions_fail, admitted}

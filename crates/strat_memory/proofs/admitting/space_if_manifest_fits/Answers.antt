@@ -1,10 +1,10 @@
 use Rattle.std.proofs.Common.{sym, ◌∙◌, suc, length}
-use Rattle.strat_format.specs.Arrays.{blocks_of}
+use Rattle.def_bytes.specs.Arrays.{blocks_of}
 use Rattle.strat_gate.specs.SuperView.{super_of}
 use Rattle.strat_manifest.specs.ManifestView.{manifest_of}
 use Rattle.strat_memory.proofs.AdmitLemmas.{counts_fail, ids_fail, ids_are, space_kept, space_none}
 use Rattle.strat_memory.proofs.admitting.space_if_manifest_fits.Goals as goal
-use Rattle.strat_format.proofs.MarkLemmas.{none_marked}
+use Rattle.def_bytes.proofs.MarkLemmas.{none_marked}
 
 pub returns-then-not-counts_are_plausible-clause-none : goal.returns-then-not-counts_are_plausible-clause-none
 returns-then-not-counts_are_plausible-clause-none c = λ _ _.

@@ -1,7 +1,7 @@
 use Rattle.std.proofs.Common.{◌≡◌, ℕ, List, drop, ◌++◌}
 use Rattle.std.specs.BTreeSet.{contains}
 use Rattle.std.specs.Ordering.{nat_cmp}
-use Rattle.strat_standing.specs.Occupied.{arrays_in}
+use Rattle.def_publish.specs.Occupied.{arrays_in}
 use Rattle.strat_memory.specs.Belonging.{are_new}
 use Rattle.strat_memory.proofs.IdLemmas.{ids}
 use Rattle.strat_memory.proofs.belonging.add_all_ids.Given as goal

@@ -1,6 +1,6 @@
 use Rattle.std.proofs.Common.{◌≡◌, drop}
 use Rattle.std.specs.List.{list_all}
-use Rattle.strat_recovery.specs.Opening.{is_filled}
+use Rattle.def_recovery.specs.Opening.{is_filled}
 use Rattle.strat_memory.proofs.belonging.are_filled.Given as goal
 
 abbrev pub invariant-loop-array : goal.invariant-loop-array

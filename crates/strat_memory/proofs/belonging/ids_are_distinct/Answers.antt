@@ -3,7 +3,7 @@ use Rattle.std.specs.BTreeMap.{is_at}
 use Rattle.std.specs.BTreeSet.{contains}
 use Rattle.std.specs.List.{list_any}
 use Rattle.std.specs.Ordering.{nat_cmp}
-use Rattle.strat_standing.specs.Occupied.{arrays_in}
+use Rattle.def_publish.specs.Occupied.{arrays_in}
 use Rattle.strat_memory.proofs.IdLemmas.{ids, own_is}
 use Rattle.strat_memory.proofs.belonging.ids_are_distinct.Goals as goal
 

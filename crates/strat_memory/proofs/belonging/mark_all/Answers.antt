@@ -1,5 +1,5 @@
 use Rattle.strat_extent.specs.Change.{CanMark}
-use Rattle.strat_standing.specs.Occupied.{arrays_in, extents_of}
+use Rattle.def_publish.specs.Occupied.{arrays_in, extents_of}
 use Rattle.strat_memory.proofs.OwnLemmas.{chain_fails, marks_both, refused}
 use Rattle.strat_memory.proofs.belonging.mark_all.Goals as goal
 

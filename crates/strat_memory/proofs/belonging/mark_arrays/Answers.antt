@@ -1,6 +1,6 @@
 use Rattle.std.proofs.Common.{arith}
 use Rattle.strat_extent.specs.Change.{CanMark}
-use Rattle.strat_standing.specs.Occupied.{extents_of}
+use Rattle.def_publish.specs.Occupied.{extents_of}
 use Rattle.strat_memory.proofs.OwnLemmas.{array_marked, array_fails, arrays_end, refused}
 use Rattle.strat_memory.proofs.belonging.mark_arrays.Goals as goal
 

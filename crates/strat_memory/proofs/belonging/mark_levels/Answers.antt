@@ -1,6 +1,6 @@
 use Rattle.std.proofs.Common.{arith, subst}
 use Rattle.strat_extent.specs.Change.{CanMark}
-use Rattle.strat_standing.specs.Occupied.{arrays_in, extents_of, UsesMore}
+use Rattle.def_publish.specs.Occupied.{arrays_in, extents_of, UsesMore}
 use Rattle.strat_memory.proofs.OwnLemmas.{level_marked, level_fails, levels_end}
 use Rattle.strat_memory.proofs.belonging.mark_levels.Goals as goal
 

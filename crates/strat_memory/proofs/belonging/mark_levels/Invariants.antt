@@ -1,5 +1,5 @@
 use Rattle.std.proofs.Common.{drop}
-use Rattle.strat_standing.specs.Occupied.{arrays_in, extents_of}
+use Rattle.def_publish.specs.Occupied.{arrays_in, extents_of}
 use Rattle.strat_memory.proofs.OwnLemmas.{Marking}
 use Rattle.strat_memory.proofs.belonging.mark_levels.Given as goal
 

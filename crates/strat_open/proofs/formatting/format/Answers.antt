@@ -1,7 +1,7 @@
 use Rattle.std.proofs.Common.{◌≡◌, ◌*◌, length, Some, inl, inr, arith}
-use Rattle.strat_crash.specs.Image.{Image}
-use Rattle.strat_crash.specs.Moments.{Since}
-use Rattle.strat_crash.proofs.MomentLemmas.{passes_trans, each_then, settled_at}
+use Rattle.def_crash.specs.Image.{Image}
+use Rattle.def_crash.specs.Moments.{Since}
+use Rattle.def_crash.proofs.MomentLemmas.{passes_trans, each_then, settled_at}
 use Rattle.strat_open.specs.Format.{IsBlank, IsShut, IsNoneOrNew, KeepsOthers}
 use Rattle.strat_open.specs.Format.{new_block}
 use Rattle.strat_open.proofs.OtherLemmas.{tears_keep, keep_trans}
@@ -10,7 +10,7 @@ use Rattle.strat_open.proofs.FormatLemmas.{length-new_block, Prepared, prepared,
 use Rattle.strat_open.proofs.formatting.format.Given.{Over}
 use Rattle.strat_open.proofs.formatting.format.Goals as goal
 use Rattle.strat_open.proofs.formatting.format.Goals.{After-write_manifest, After-lay}
-use Rattle.strat_format.specs.Layout.{first_free}
+use Rattle.def_bytes.specs.Layout.{first_free}
 
 pub returns-in_err-shut_all-clause-images : goal.returns-in_err-shut_all-clause-images
 returns-in_err-shut_all-clause-images g c = λ f exposed blank.

@@ -1,7 +1,7 @@
 use Rattle.std.proofs.Common.{◌≡◌, Some, inl, inr, arith}
-use Rattle.strat_crash.specs.Image.{Image}
-use Rattle.strat_format.specs.Layout.{region_at}
-use Rattle.strat_crash.proofs.MomentLemmas.{passes_trans}
+use Rattle.def_crash.specs.Image.{Image}
+use Rattle.def_bytes.specs.Layout.{region_at}
+use Rattle.def_crash.proofs.MomentLemmas.{passes_trans}
 use Rattle.strat_open.specs.Format.{IsBlank, KeepsOthers}
 use Rattle.strat_open.proofs.OtherLemmas.{tears_keep, keep_trans}
 use Rattle.strat_open.proofs.ShutLemmas.{StaysBlank, Shuts, shuts, blank_first, blank_second, blank_behind, blank_then, all_shut}

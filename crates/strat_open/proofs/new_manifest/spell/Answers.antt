@@ -2,7 +2,7 @@ use Rattle.std.proofs.Common.{◌≡◌, ℕ, ◌∙◌, List, length, ap, arith
 use Rattle.strat_base.specs.Numbers.{be, placed}
 use Rattle.strat_base.proofs.PlacedLemmas.{length-placed}
 use Rattle.strat_base.proofs.NumberLemmas.{length-be}
-use Rattle.strat_format.proofs.SuperBlockLemmas.{length-zeros}
+use Rattle.def_bytes.proofs.SuperBlockLemmas.{length-zeros}
 use Rattle.strat_open.proofs.NewBlockLemmas.{spelled_block}
 use Rattle.strat_open.proofs.new_manifest.spell.Goals as goal
 

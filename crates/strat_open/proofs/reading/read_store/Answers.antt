@@ -1,5 +1,5 @@
-use Rattle.strat_crash.specs.Moments.{OnlyReads}
-use Rattle.strat_crash.proofs.MomentLemmas.{reads_trans}
+use Rattle.def_crash.specs.Moments.{OnlyReads}
+use Rattle.def_crash.proofs.MomentLemmas.{reads_trans}
 use Rattle.strat_memory.specs.RecoveredFields.{empty_cache}
 use Rattle.strat_open.proofs.reading.read_store.Given.{Over}
 use Rattle.strat_open.proofs.reading.read_store.Goals as goal

@@ -2,7 +2,7 @@ use Rattle.strat_gate.specs.SuperView.{super_of}
 use Rattle.strat_open.proofs.RecoverLemmas.{load_older, load_room, load_counts}
 use Rattle.strat_open.proofs.recovery.load_memory.Goals as goal
 use Rattle.std.proofs.Common.{refl, suc, length, []}
-use Rattle.strat_format.proofs.MarkLemmas.{none_marked}
+use Rattle.def_bytes.proofs.MarkLemmas.{none_marked}
 use Rattle.strat_memory.specs.Admitting.{chained_of}
 use Rattle.strat_memory.proofs.MemoryLawLemmas.{memory_loaded}
 

@@ -1,8 +1,8 @@
 use Rattle.std.proofs.Common.{◌≡◌, ◌≤◌, ℕ, inl, Err, ap, ◌∙◌, subst}
 use Rattle.std.proofs.lemmas.Result.{err_from_is_err_and}
-use Rattle.strat_crash.specs.Faults.{Rose}
-use Rattle.strat_crash.specs.Moments.{OnlyReads}
-use Rattle.strat_crash.proofs.MomentLemmas.{reads_trans}
+use Rattle.def_crash.specs.Faults.{Rose}
+use Rattle.def_crash.specs.Moments.{OnlyReads}
+use Rattle.def_crash.proofs.MomentLemmas.{reads_trans}
 use Rattle.strat_memory.specs.RecoveredFields.{empty_cache}
 use Rattle.strat_open.specs.declared.attach_fault.AttachFault.{AttachFault}
 use Rattle.strat_open.proofs.OpenLemmas.{failed_cause, looks_kept, opened_as, leaves_follows}

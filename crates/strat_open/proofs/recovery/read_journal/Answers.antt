@@ -3,7 +3,7 @@ use Rattle.std.specs.List.{list_all}
 use Rattle.strat_base.specs.Change.{Change, is_lawful}
 use Rattle.strat_gate.specs.SuperView.{super_of}
 use Rattle.strat_journal.specs.Records.{logged_of}
-use Rattle.strat_recovery.specs.Opened.{parents_in}
+use Rattle.def_recovery.specs.Opened.{parents_in}
 use Rattle.strat_memory.specs.Admitting.{chained_of}
 use Rattle.strat_open.proofs.RecoverLemmas.{journal_recovered, accepted_in_turn}
 use Rattle.strat_open.proofs.recovery.read_journal.Goals as goal

@@ -1,5 +1,5 @@
 use Rattle.std.proofs.Common.{ℕ, Err, ap, ◌∙◌}
-use Rattle.strat_format.specs.Arrays.{blocks_of}
+use Rattle.def_bytes.specs.Arrays.{blocks_of}
 use Rattle.strat_gate.specs.SuperView.{super_of}
 use Rattle.strat_manifest.specs.ManifestView.{manifest_of}
 use Rattle.strat_open.proofs.RecoverLemmas.{damaged_block, manifest_damaged}

@@ -1,6 +1,6 @@
 use Rattle.std.proofs.Common.{◌∙◌}
 use Rattle.std.proofs.lemmas.Result.{err_from_is_err_and}
-use Rattle.strat_crash.proofs.MomentLemmas.{reads_trans}
+use Rattle.def_crash.proofs.MomentLemmas.{reads_trans}
 use Rattle.strat_gate.specs.SuperView.{super_of}
 use Rattle.strat_journal.proofs.ReadLemmas.{same_err}
 use Rattle.strat_memory.specs.Admitting.{chained_of}

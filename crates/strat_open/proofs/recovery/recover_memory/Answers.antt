@@ -23,8 +23,8 @@ returns-clause-found c =
     sym (memory_accepts (super_of c.args.sb.now) (chained_of c.args.published.now).manifest c.in_ok-memory.memory c.in_ok-memory.ensures.ok (map logged_of c.args.logged.now))
     ∙ c.in_ok-replay.ensures.found
 
-pub returns-clause-end : goal.returns-clause-end
-returns-clause-end c =
+pub returns-clause-cursors : goal.returns-clause-cursors
+returns-clause-cursors c =
     ap (λ (m : Memory). m.cursors) c.in_ok-replay.ensures.ok ∙ cursors_redone (map (λ l. l.change) c.args.logged.now) c.in_ok-memory.memory ∙ c.in_ok-memory.ensures.end
 
 pub returns-in_err-replay-clause-damaged : goal.returns-in_err-replay-clause-damaged

@@ -1,6 +1,6 @@
 use Rattle.std.proofs.Common.{Err, Ok, ap, ◌∙◌}
 use Rattle.std.proofs.lemmas.Result.{err_from_is_err_and}
-use Rattle.strat_crash.proofs.MomentLemmas.{reads_trans}
+use Rattle.def_crash.proofs.MomentLemmas.{reads_trans}
 use Rattle.strat_gate.specs.SuperView.{super_of, seen}
 use Rattle.strat_open.proofs.RecoverLemmas.{store_damaged, trouble_is}
 use Rattle.strat_open.proofs.recovery.recover_store.Goals as goal

@@ -6,7 +6,7 @@ use Rattle.std.proofs.lemmas.Result.{err_from_is_err_and}
 use Rattle.std.proofs.lemmas.Simd.{map-map}
 use Rattle.strat_journal.specs.Records.{logged_of}
 use Rattle.strat_base.specs.Change.{Change, is_lawful}
-use Rattle.strat_format.specs.Records.{Logged}
+use Rattle.def_bytes.specs.Records.{Logged}
 use Rattle.strat_open.proofs.RedoLemmas.{redone_all, redone_more, redone_not}
 use Rattle.strat_open.proofs.recovery.replay.Goals as goal
 

@@ -3,7 +3,7 @@ use Rattle.std.specs.List.{slice_get}
 use Rattle.std.proofs.lemmas.List.{get_or_read, length-map}
 use Rattle.std.proofs.lemmas.Option.{slice_get_read, slice_get_within}
 use Rattle.strat_array.specs.Progress.{ArrayProgress}
-use Rattle.strat_plan.specs.Plan.{members}
+use Rattle.def_split.specs.Plan.{members}
 use Rattle.strat_split.specs.PlanSeen.{part_seen, plan_seen}
 use Rattle.strat_promote.proofs.DescribingLemmas.{none_described, one_described, described}
 use Rattle.strat_promote.proofs.closing.describe_each.Goals as goal

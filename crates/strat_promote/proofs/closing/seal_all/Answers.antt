@@ -2,7 +2,7 @@ use Rattle.std.proofs.Common.{◌≡◌, ◌+◌, ◌∙◌, ℕ, Some, slice_se
 use Rattle.std.specs.Prelude.{MatchResult}
 use Rattle.std.specs.List.{slice_get}
 use Rattle.std.proofs.lemmas.Option.{slice_get_read}
-use Rattle.strat_array.proofs.SearchLemmas.{err_of}
+use Rattle.strat_base.proofs.ResultFacts.{err_of}
 use Rattle.strat_promote.specs.Obstacles.{MeetsObstacle}
 use Rattle.strat_promote.proofs.ObstacleLemmas.{gives_kept}
 use Rattle.strat_promote.proofs.ClosingLemmas.{AreTaking, taking_next, sealing_next, all_sealed}

@@ -5,7 +5,7 @@ use Rattle.strat_merge.specs.Runs.{lefts}
 use Rattle.strat_arena.specs.Items.{entries_of}
 use Rattle.strat_arena.specs.declared.items.Item.{Item}
 use Rattle.strat_live.specs.Counting.{SameParents, item_versions, IsTally}
-use Rattle.strat_plan.specs.Groups.{group_versions}
+use Rattle.def_split.specs.Groups.{group_versions}
 use Rattle.strat_promote.specs.Job.{groups_kept}
 use Rattle.strat_promote.specs.Taken.{TakesKept}
 use Rattle.strat_promote.proofs.BudgetLemmas.{group_fits, takes_some}

@@ -1,6 +1,6 @@
 use Rattle.std.proofs.Common.{◌∙◌, refl, arith, map, ap}
 use Rattle.std.proofs.lemmas.List.{map-append}
-use Rattle.strat_array.proofs.SearchLemmas.{err_of}
+use Rattle.strat_base.proofs.ResultFacts.{err_of}
 use Rattle.strat_promote.specs.InputFields.{input_seen}
 use Rattle.strat_promote.specs.LeadFields.{lead_run_seen}
 use Rattle.strat_promote.proofs.OpeningLemmas.{opens_one, one_blamed}

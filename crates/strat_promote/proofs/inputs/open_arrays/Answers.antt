@@ -1,6 +1,6 @@
 use Rattle.std.proofs.Common.{[], ◌∷◌, ◌∙◌, take, arith}
-use Rattle.strat_array.proofs.SearchLemmas.{err_of}
-use Rattle.strat_crash.proofs.MomentLemmas.{reads_trans}
+use Rattle.strat_base.proofs.ResultFacts.{err_of}
+use Rattle.def_crash.proofs.MomentLemmas.{reads_trans}
 use Rattle.strat_promote.proofs.OpeningLemmas.{array_part, array_next, part_readable, part_blamed, part_reads, opens_next, on_err}
 use Rattle.strat_promote.proofs.inputs.open_arrays.Goals as goal
 

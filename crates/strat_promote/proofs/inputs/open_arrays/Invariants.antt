@@ -1,5 +1,5 @@
 use Rattle.std.proofs.Common.{◌≡◌, map, take}
-use Rattle.strat_crash.specs.Moments.{OnlyReads}
+use Rattle.def_crash.specs.Moments.{OnlyReads}
 use Rattle.strat_promote.specs.InputFields.{input_seen}
 use Rattle.strat_promote.specs.Opening.{OpensRuns}
 use Rattle.strat_promote.proofs.inputs.open_arrays.Given as goal

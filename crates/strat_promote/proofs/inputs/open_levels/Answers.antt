@@ -1,6 +1,6 @@
 use Rattle.std.proofs.Common.{◌∙◌, ◌+◌, arith}
-use Rattle.strat_array.proofs.SearchLemmas.{err_of}
-use Rattle.strat_crash.proofs.MomentLemmas.{reads_trans}
+use Rattle.strat_base.proofs.ResultFacts.{err_of}
+use Rattle.def_crash.proofs.MomentLemmas.{reads_trans}
 use Rattle.strat_level.specs.Levels.{level_numbered}
 use Rattle.strat_promote.specs.Job.{arrays_to}
 use Rattle.strat_promote.specs.Opening.{arrays_if_any}

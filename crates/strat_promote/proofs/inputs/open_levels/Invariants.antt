@@ -1,5 +1,5 @@
 use Rattle.std.proofs.Common.{◌≡◌, map}
-use Rattle.strat_crash.specs.Moments.{OnlyReads}
+use Rattle.def_crash.specs.Moments.{OnlyReads}
 use Rattle.strat_promote.specs.InputFields.{input_seen}
 use Rattle.strat_promote.specs.Job.{arrays_to}
 use Rattle.strat_promote.specs.Opening.{OpensRuns}

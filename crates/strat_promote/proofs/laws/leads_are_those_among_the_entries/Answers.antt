@@ -1,6 +1,6 @@
 use Rattle.std.proofs.Common.{None, ap}
 use Rattle.strat_base.specs.Entries.{lead_entries}
-use Rattle.strat_format.specs.Arrays.{blocks_of}
+use Rattle.def_bytes.specs.Arrays.{blocks_of}
 use Rattle.strat_promote.proofs.LeadLemmas.{read_whole}
 use Rattle.strat_promote.proofs.laws.leads_are_those_among_the_entries.Goals as goal
 

@@ -1,6 +1,6 @@
 use Rattle.std.proofs.Common.{None, sym, ap}
 use Rattle.strat_base.specs.Entries.{lead_entries}
-use Rattle.strat_format.specs.Arrays.{blocks_of}
+use Rattle.def_bytes.specs.Arrays.{blocks_of}
 use Rattle.strat_promote.proofs.LeadLemmas.{entries_same, misfit_same}
 use Rattle.strat_promote.proofs.laws.leads_stay_where_their_blocks_do.Goals as goal
 

@@ -1,5 +1,5 @@
 use Rattle.std.proofs.Common.{◌<◌, length, Some, sym, ap, ◌∙◌, arith}
-use Rattle.strat_array.proofs.SearchLemmas.{err_of}
+use Rattle.strat_base.proofs.ResultFacts.{err_of}
 use Rattle.strat_promote.specs.LeadRuns.{entries_at_hand}
 use Rattle.strat_promote.proofs.LeadLemmas.{first_held, held_count, held_on, misfit_none, misfit_back}
 use Rattle.strat_promote.proofs.lead_blocks.read_after.Given.{Over}

@@ -1,6 +1,6 @@
 use Rattle.std.proofs.Common.{Bool, refl, sym, ◌∙◌, subst, arith}
-use Rattle.strat_array.proofs.SearchLemmas.{err_of}
-use Rattle.strat_crash.proofs.MomentLemmas.{reads_trans}
+use Rattle.strat_base.proofs.ResultFacts.{err_of}
+use Rattle.def_crash.proofs.MomentLemmas.{reads_trans}
 use Rattle.strat_promote.specs.LeadRuns.{Turns}
 use Rattle.strat_promote.proofs.LeadLemmas.{front_contains, front_trans}
 use Rattle.strat_promote.proofs.LeadRunLemmas.{reach_begins, reach_goes_on, settled_here, settled_out}
@@ -37,10 +37,10 @@ loop-at-preserved g c =
       next.cause.ok ∙ c.loop-at.invariant.1,
     )
 
-pub returns-clause-end : goal.returns-clause-end
-returns-clause-end g c =
+pub returns-clause-state : goal.returns-clause-state
+returns-clause-state g c =
     settled_here c.args.tag.now c.loop-at.blocks c.loop-at.at c.count.ensures.kept
     (c.loop-at.invariant.0.begins (let within = c.loop-at.invariant.0.passes.within in omega (arith, within, c.count.ensures.ok)))
 
-pub returns-in_err-next-clause-end : goal.returns-in_err-next-clause-end
-returns-in_err-next-clause-end g c = settled_out c.args.tag.now c.loop-at.at c.next.new.self c.in_err-next.ensures.err
+pub returns-in_err-next-clause-state : goal.returns-in_err-next-clause-state
+returns-in_err-next-clause-state g c = settled_out c.args.tag.now c.loop-at.at c.next.new.self c.in_err-next.ensures.err

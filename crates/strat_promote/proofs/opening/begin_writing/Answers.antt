@@ -2,7 +2,7 @@ use Rattle.std.proofs.Common.{◌≡◌, ℕ, List, [], length, map, ap, sym, su
 use Rattle.strat_live.specs.Counting.{SameParents}
 use Rattle.strat_live.specs.Tallies.{Tallies}
 use Rattle.strat_merge.specs.Gathered.{are_under}
-use Rattle.strat_plan.specs.Groups.{group_versions}
+use Rattle.def_split.specs.Groups.{group_versions}
 use Rattle.strat_split.specs.PlanSeen.{plan_seen}
 use Rattle.strat_promote.specs.Filled.{IsFilling}
 use Rattle.strat_promote.specs.InputFields.{input_seen}

@@ -4,13 +4,13 @@ use Rattle.std.specs.List.{list_all}
 use Rattle.strat_arena.specs.Items.{entries_of}
 use Rattle.strat_arena.specs.declared.items.Item.{Item}
 use Rattle.strat_base.specs.Entries.{is_of}
-use Rattle.strat_crash.specs.Image.{Image}
-use Rattle.strat_crash.specs.Moments.{Exposes}
-use Rattle.strat_crash.proofs.BlockLemmas.{blocks_trans, reads_tear_none, exposed_once}
+use Rattle.def_crash.specs.Image.{Image}
+use Rattle.def_crash.specs.Moments.{Exposes}
+use Rattle.def_crash.proofs.BlockLemmas.{blocks_trans, reads_tear_none, exposed_once}
 use Rattle.strat_extent.specs.Blocks.{is_free}
-use Rattle.strat_array.proofs.SearchLemmas.{err_of}
+use Rattle.strat_base.proofs.ResultFacts.{err_of}
 use Rattle.strat_array.proofs.TakesLemmas.{used_agree}
-use Rattle.strat_crash.specs.Faults.{HasCause}
+use Rattle.def_crash.specs.Faults.{HasCause}
 use Rattle.strat_merge.specs.Gathered.{are_under}
 use Rattle.strat_merge.specs.MergerFields.{views_of}
 use Rattle.strat_merge.specs.Runs.{RunView, ReadsLeft, lefts}
@@ -86,7 +86,7 @@ returns-clause-kept g c =
       under = found.1.bound _ c.requires.kept.under;
       filling = c.in_ok-deal_out.ensures.kept;
       ready = λ i e at.
-          c.in_ok-deal_out.ensures.end found.0 e.key keyed
+          c.in_ok-deal_out.ensures.state found.0 e.key keyed
           (subst (λ (k : List ℕ). AreReadyFor k c.args.writing.now.filling.writers.items) begins.1.2 (c.requires.kept.ready begins.0 begins.1.0 begins.1.1)) (found.1.behind i e at);
     }
 

@@ -6,7 +6,7 @@ use Rattle.strat_base.specs.Entries.{Entry}
 use Rattle.strat_base.specs.EntryBytes.{fits_fields}
 use Rattle.strat_base.specs.EntryView.{entry_of}
 use Rattle.strat_array.specs.Pushed.{IsPushed}
-use Rattle.strat_array.proofs.SearchLemmas.{err_of}
+use Rattle.strat_base.proofs.ResultFacts.{err_of}
 use Rattle.strat_promote.proofs.ObstacleLemmas.{gives_kept}
 use Rattle.strat_promote.specs.Obstacles.{MeetsObstacle}
 use Rattle.strat_promote.proofs.PushingLemmas.{item_next, pending_rises, one_more_pushed}
@@ -62,7 +62,7 @@ loop-item-preserved g c = (
       c.args.writer.now c.loop-item.writer c.push_one.new.writer (take c.loop-item.item-index (entries_of c.args.arena.now.pairs c.args.items.now))
       (take (c.loop-item.item-index + 1) (entries_of c.args.arena.now.pairs c.args.items.now)) (entry_of c.entry.result) c.loop-item.invariant.0
       (item_next c.args.arena.now.pairs c.args.items.now c.loop-item.item-index _ (entry_of c.entry.result) c.loop-item-test.true c.entry.ensures)
-      c.push_one.ensures.same.1 c.push_one.ensures.room c.push_one.ensures.same.0 c.in_ok-push_one.ensures.end c.in_ok-push_one.ensures.ok,
+      c.push_one.ensures.same.1 c.push_one.ensures.room c.push_one.ensures.same.0 c.in_ok-push_one.ensures.state c.in_ok-push_one.ensures.ok,
   c.in_ok-push_one.ensures.cause ∙ c.loop-item.invariant.1,
   c.push_one.ensures.reads ∙ c.loop-item.invariant.2,
   (let one = c.in_ok-push_one.ensures.len in let before = c.loop-item.invariant.3 in omega (arith, one, before)),

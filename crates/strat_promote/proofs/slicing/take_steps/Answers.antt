@@ -1,5 +1,5 @@
 use Rattle.std.proofs.Common.{◌+◌, subst, arith}
-use Rattle.strat_array.proofs.SearchLemmas.{err_of}
+use Rattle.strat_base.proofs.ResultFacts.{err_of}
 use Rattle.strat_promote.specs.Job.{arrays_to}
 use Rattle.strat_promote.specs.Owned.{OwnsItsBlocks}
 use Rattle.strat_promote.specs.Stages.{IsReadOf, IsSteady, stage_writers, stage_consumed}

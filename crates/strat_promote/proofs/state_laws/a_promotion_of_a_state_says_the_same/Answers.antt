@@ -1,4 +1,4 @@
-use Rattle.strat_state.proofs.SoundLemmas.{ordered}
+use Rattle.def_state.proofs.SoundLemmas.{ordered}
 use Rattle.strat_promote.proofs.StateInputsLemmas.{begun_leaves, begun_leaves_later}
 use Rattle.strat_promote.proofs.state_laws.a_promotion_of_a_state_says_the_same.Goals as goal
 

@@ -1,7 +1,7 @@
 use Rattle.std.proofs.Common.{◌∙◌, ◌<◌, refl, sym, ap, subst, arith}
-use Rattle.strat_array.proofs.SearchLemmas.{err_of}
-use Rattle.strat_crash.specs.Image.{Image}
-use Rattle.strat_crash.proofs.BlockLemmas.{exposed_once, reads_tear_none}
+use Rattle.strat_base.proofs.ResultFacts.{err_of}
+use Rattle.def_crash.specs.Image.{Image}
+use Rattle.def_crash.proofs.BlockLemmas.{exposed_once, reads_tear_none}
 use Rattle.strat_extent.specs.Blocks.{is_free}
 use Rattle.strat_promote.specs.Closing.{AreAllUsed}
 use Rattle.strat_promote.specs.Job.{arrays_to, blocks_listed}
@@ -15,50 +15,50 @@ use Rattle.strat_promote.proofs.ObstacleLemmas.{block_handed, cause_handed, fit_
 use Rattle.strat_promote.proofs.SliceLemmas.{turned_used, turned_is, turned_takes, turned_on, wrote_once, writes_on, inputs_agree}
 use Rattle.strat_promote.proofs.step.take_step.Goals as goal
 
-pub write-requires-clause-found : goal.write-requires-clause-found
-write-requires-clause-found g c = subst (λ (s : Stage). AreAllUsed c.args.space.now (stage_writers s)) c.in-Writing.is c.requires.found
+pub step_writing-requires-clause-found : goal.step_writing-requires-clause-found
+step_writing-requires-clause-found g c = subst (λ (s : Stage). AreAllUsed c.args.space.now (stage_writers s)) c.in-Writing.is c.requires.found
 
 pub returns-in_ok-next-in-Counting-clause-found : goal.returns-in_ok-next-in-Counting-clause-found
 returns-in_ok-next-in-Counting-clause-found g c =
-    turned_used c.args.space.now c.count.new.counting c.in_ok-next-in-Counting.next (stage.Counting c.count.new.counting) c.turn.new.stage refl c.turn.ensures.ok c.in_ok-next-in-Counting.ensures.none
+    turned_used c.args.space.now c.step_counting.new.counting c.in_ok-next-in-Counting.next (stage.Counting c.step_counting.new.counting) c.enter_stage.new.stage refl c.enter_stage.ensures.ok c.in_ok-next-in-Counting.ensures.none
 
 pub returns-in_ok-next-in-Counting-clause-ok : goal.returns-in_ok-next-in-Counting-clause-ok
 returns-in_ok-next-in-Counting-clause-ok g c = λ f g' job told tells task used underway.
-    turned_on f g' c.args.task.now job _ c.count.new.counting c.in_ok-next-in-Counting.next c.args.stage.now c.turn.new.stage
-    (exposed_once (g.D.Disk.view c.count.new.disk) f g' (c.in_ok-next-in-Counting.ensures.same.same ∙ told) tells) c.in-Counting.is
-    (turned_is c.count.new.counting c.in_ok-next-in-Counting.next (stage.Counting c.count.new.counting) c.turn.new.stage refl c.turn.ensures.ok)
+    turned_on f g' c.args.task.now job _ c.step_counting.new.counting c.in_ok-next-in-Counting.next c.args.stage.now c.enter_stage.new.stage
+    (exposed_once (g.D.Disk.view c.step_counting.new.disk) f g' (c.in_ok-next-in-Counting.ensures.same.same ∙ told) tells) c.in-Counting.is
+    (turned_is c.step_counting.new.counting c.in_ok-next-in-Counting.next (stage.Counting c.step_counting.new.counting) c.enter_stage.new.stage refl c.enter_stage.ensures.ok)
     (c.in_ok-next-in-Counting.ensures.ok f job told task (subst (λ (s : Stage). IsUnderway f job c.args.task.now.first s) c.in-Counting.is underway))
 
 pub returns-in_ok-next-in-Counting-clause-same : goal.returns-in_ok-next-in-Counting-clause-same
-returns-in_ok-next-in-Counting-clause-same g c = reads_tear_none (is_free c.args.space.now) (g.D.Disk.view c.args.disk.now) (g.D.Disk.view c.count.new.disk) c.in_ok-next-in-Counting.ensures.same
+returns-in_ok-next-in-Counting-clause-same g c = reads_tear_none (is_free c.args.space.now) (g.D.Disk.view c.args.disk.now) (g.D.Disk.view c.step_counting.new.disk) c.in_ok-next-in-Counting.ensures.same
 
 pub returns-in_ok-step-in-Writing-clause-reads : goal.returns-in_ok-step-in-Writing-clause-reads
 returns-in_ok-step-in-Writing-clause-reads g c =
-    wrote_once (arrays_to c.args.sources.now.levels.now c.args.task.now.target) (g.D.Disk.reads c.args.disk.now) (g.D.Disk.reads c.write.new.disk) c.args.stage.now _ c.write.new.writing
-    c.in-Writing.field-1 _ c.in-Writing.is c.write.ensures.reads
+    wrote_once (arrays_to c.args.sources.now.levels.now c.args.task.now.target) (g.D.Disk.reads c.args.disk.now) (g.D.Disk.reads c.step_writing.new.disk) c.args.stage.now _ c.step_writing.new.writing
+    c.in-Writing.field-1 _ c.in-Writing.is c.step_writing.ensures.reads
 
 pub returns-in_ok-next-in-Counting-clause-room : goal.returns-in_ok-next-in-Counting-clause-room
 returns-in_ok-next-in-Counting-clause-room g c =
-    turned_takes c.args.space.now c.count.new.counting c.in_ok-next-in-Counting.next c.args.stage.now (stage.Counting c.count.new.counting) c.turn.new.stage (ap stage_writers c.in-Counting.is)
-    (turned_is c.count.new.counting c.in_ok-next-in-Counting.next (stage.Counting c.count.new.counting) c.turn.new.stage refl c.turn.ensures.ok) c.in_ok-next-in-Counting.ensures.none
+    turned_takes c.args.space.now c.step_counting.new.counting c.in_ok-next-in-Counting.next c.args.stage.now (stage.Counting c.step_counting.new.counting) c.enter_stage.new.stage (ap stage_writers c.in-Counting.is)
+    (turned_is c.step_counting.new.counting c.in_ok-next-in-Counting.next (stage.Counting c.step_counting.new.counting) c.enter_stage.new.stage refl c.enter_stage.ensures.ok) c.in_ok-next-in-Counting.ensures.none
 
 pub returns-in_ok-step-in-Writing-clause-ok : goal.returns-in_ok-step-in-Writing-clause-ok
 returns-in_ok-step-in-Writing-clause-ok g c = λ f g' job told tells task used underway.
     let did = c.in_ok-step-in-Writing.step in
     let parts = subst (λ (s : Stage). IsUnderway f job c.args.task.now.first s) c.in-Writing.is underway in
     let on =
-    writes_on f g' c.args.task.now job _ c.write.new.writing c.in-Writing.field-1 did (inputs_agree c.args.space.now (blocks_listed job.arrays) _ _ f g' used c.write.ensures.same told tells) parts.1
+    writes_on f g' c.args.task.now job _ c.step_writing.new.writing c.in-Writing.field-1 did (inputs_agree c.args.space.now (blocks_listed job.arrays) _ _ f g' used c.step_writing.ensures.same told tells) parts.1
     (c.in_ok-step-in-Writing.ensures.ok f g' job told tells task used parts.0) in
-    subst (λ (s : Stage). StepsOn f g' c.args.task.now job (stage_consumed s) (stage.Writing c.write.new.writing c.in-Writing.field-1) did × GoesFurther s (stage.Writing c.write.new.writing c.in-Writing.field-1) did) (sym c.in-Writing.is)
+    subst (λ (s : Stage). StepsOn f g' c.args.task.now job (stage_consumed s) (stage.Writing c.step_writing.new.writing c.in-Writing.field-1) did × GoesFurther s (stage.Writing c.step_writing.new.writing c.in-Writing.field-1) did) (sym c.in-Writing.is)
     (on.0, on.1 c.in-Writing.writing refl)
 
 pub returns-in_ok-stage-in-Begun-clause-same : goal.returns-in_ok-stage-in-Begun-clause-same
-returns-in_ok-stage-in-Begun-clause-same g c = reads_tear_none (is_free c.args.space.now) (g.D.Disk.view c.args.disk.now) (g.D.Disk.view c.begin.new.disk) c.begin.ensures.found.same
+returns-in_ok-stage-in-Begun-clause-same g c = reads_tear_none (is_free c.args.space.now) (g.D.Disk.view c.args.disk.now) (g.D.Disk.view c.start_counting.new.disk) c.start_counting.ensures.found.same
 
 pub returns-in_ok-stage-in-Begun-clause-ok : goal.returns-in_ok-stage-in-Begun-clause-ok
 returns-in_ok-stage-in-Begun-clause-ok g c = λ f g' job told tells task used underway.
     let begun = c.in_ok-stage-in-Begun.field-0 in
-    let same = exposed_once (g.D.Disk.view c.begin.new.disk) f g' (c.begin.ensures.found.same.same ∙ told) tells in
+    let same = exposed_once (g.D.Disk.view c.start_counting.new.disk) f g' (c.start_counting.ensures.found.same.same ∙ told) tells in
     let none = c.in_ok-stage-in-Begun.ensures.len in (
       (subst (λ (h : Image). IsUnderway h job c.args.task.now.first begun) same (c.in_ok-stage-in-Begun.ensures.ok f job told task), none_taken f job _ _ (omega (arith, none))),
       subst (λ (s : Stage). how_far s < how_far begun) (sym c.in-Begun.is) c.in_ok-stage-in-Begun.ensures.time,
@@ -68,7 +68,7 @@ pub returns-in_ok-stage-in-Begun-clause-damaged : goal.returns-in_ok-stage-in-Be
 returns-in_ok-stage-in-Begun-clause-damaged g c = (
   λ b bad. absurd (cc),
   λ f g' told tells used read.
-      subst (λ (h : Image). IsReadOf h (arrays_to c.args.sources.now.levels.now c.args.task.now.target) c.in_ok-stage-in-Begun.field-0) (exposed_once (g.D.Disk.view c.begin.new.disk) f g' (c.begin.ensures.found.same.same ∙ told) tells)
+      subst (λ (h : Image). IsReadOf h (arrays_to c.args.sources.now.levels.now c.args.task.now.target) c.in_ok-stage-in-Begun.field-0) (exposed_once (g.D.Disk.view c.start_counting.new.disk) f g' (c.start_counting.ensures.found.same.same ∙ told) tells)
       (c.in_ok-stage-in-Begun.ensures.damaged f told),
 )
 
@@ -106,9 +106,9 @@ returns-in_ok-next-in-Counting-clause-damaged g c = (
   λ b bad. absurd (cc),
   λ f g' told tells used read.
       let next = c.in_ok-next-in-Counting.next in
-      let same = exposed_once (g.D.Disk.view c.count.new.disk) f g' (c.in_ok-next-in-Counting.ensures.same.same ∙ told) tells in
-      subst (λ (s : Stage). IsReadOf g' (arrays_to c.args.sources.now.levels.now c.args.task.now.target) s) (sym (turned_is c.count.new.counting next (stage.Counting c.count.new.counting) c.turn.new.stage refl c.turn.ensures.ok))
-      (subst (λ (h : Image). IsReadOf h (arrays_to c.args.sources.now.levels.now c.args.task.now.target) (stage_after c.count.new.counting next)) same
+      let same = exposed_once (g.D.Disk.view c.step_counting.new.disk) f g' (c.in_ok-next-in-Counting.ensures.same.same ∙ told) tells in
+      subst (λ (s : Stage). IsReadOf g' (arrays_to c.args.sources.now.levels.now c.args.task.now.target) s) (sym (turned_is c.step_counting.new.counting next (stage.Counting c.step_counting.new.counting) c.enter_stage.new.stage refl c.enter_stage.ensures.ok))
+      (subst (λ (h : Image). IsReadOf h (arrays_to c.args.sources.now.levels.now c.args.task.now.target) (stage_after c.step_counting.new.counting next)) same
       (c.in_ok-next-in-Counting.ensures.found.1 f told (subst (λ (s : Stage). IsReadOf f (arrays_to c.args.sources.now.levels.now c.args.task.now.target) s) c.in-Counting.is read))),
 )
 
@@ -129,8 +129,8 @@ returns-in_err-step-in-Writing-clause-fits g c = λ unfit f job told task underw
 
 pub returns-in_err-step-in-Writing-clause-reads : goal.returns-in_err-step-in-Writing-clause-reads
 returns-in_err-step-in-Writing-clause-reads g c =
-    wrote_once (arrays_to c.args.sources.now.levels.now c.args.task.now.target) (g.D.Disk.reads c.args.disk.now) (g.D.Disk.reads c.write.new.disk) c.args.stage.now _ c.write.new.writing
-    c.in-Writing.field-1 _ c.in-Writing.is c.write.ensures.reads
+    wrote_once (arrays_to c.args.sources.now.levels.now c.args.task.now.target) (g.D.Disk.reads c.args.disk.now) (g.D.Disk.reads c.step_writing.new.disk) c.args.stage.now _ c.step_writing.new.writing
+    c.in-Writing.field-1 _ c.in-Writing.is c.step_writing.ensures.reads
 
 pub returns-in_ok-step-in-Writing-clause-damaged : goal.returns-in_ok-step-in-Writing-clause-damaged
 returns-in_ok-step-in-Writing-clause-damaged g c = (

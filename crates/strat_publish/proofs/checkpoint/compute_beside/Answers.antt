@@ -1,7 +1,7 @@
 use Rattle.std.proofs.Common.{refl, arith, []}
-use Rattle.strat_array.proofs.SearchLemmas.{err_of, if_ok_then}
+use Rattle.strat_base.proofs.ResultFacts.{err_of, if_ok_then}
 use Rattle.strat_manifest.specs.ManifestView.{manifest_of}
-use Rattle.strat_standing.specs.Occupied.{extents_of}
+use Rattle.def_publish.specs.Occupied.{extents_of}
 use Rattle.strat_memory.specs.RecoveredFields.{held_of, empty_cache}
 use Rattle.strat_publish.proofs.KeptLemmas.{stand_apart}
 use Rattle.strat_publish.proofs.ObstacleLemmas.{short_block, short_cause}

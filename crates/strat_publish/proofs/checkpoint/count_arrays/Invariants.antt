@@ -1,5 +1,5 @@
 use Rattle.std.proofs.Common.{◌≡◌, ◌-◌, ◌^◌, length, min, take}
-use Rattle.strat_standing.specs.Occupied.{arrays_in}
+use Rattle.def_publish.specs.Occupied.{arrays_in}
 use Rattle.strat_publish.proofs.checkpoint.count_arrays.Given as goal
 
 abbrev pub invariant-loop-level : goal.invariant-loop-level

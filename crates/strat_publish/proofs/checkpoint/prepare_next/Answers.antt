@@ -1,8 +1,8 @@
 use Rattle.std.proofs.Common.{ℕ, sym, ap, subst, ◌∙◌}
 use Rattle.std.proofs.lemmas.Result.{err_from_is_err_and}
-use Rattle.strat_array.proofs.SearchLemmas.{err_of}
-use Rattle.strat_format.specs.Arrays.{blocks_of}
-use Rattle.strat_format.specs.Chained.{Chained}
+use Rattle.strat_base.proofs.ResultFacts.{err_of}
+use Rattle.def_bytes.specs.Arrays.{blocks_of}
+use Rattle.def_bytes.specs.Chained.{Chained}
 use Rattle.strat_journal.proofs.ReadLemmas.{same_err}
 use Rattle.strat_manifest.specs.ManifestView.{manifest_of}
 use Rattle.strat_publish.specs.Publishing.{manifest_after}
@@ -31,8 +31,8 @@ returns-clause-found g c = record {
   sb_is = c.in_ok-next.ensures.ok.0;
 }
 
-pub returns-clause-end : goal.returns-clause-end
-returns-clause-end g c =
+pub returns-clause-disk : goal.returns-clause-disk
+returns-clause-disk g c =
     written_as (g.D.Disk.view c.args.disk.now) (g.D.Disk.view c.compute_beside.new.disk) _ _ _ _ c.in_ok-next.ensures.ok.0 c.in_ok-next.ensures.found c.in_ok-computed.ensures.end
 
 pub returns-in_err-computed-clause-damaged : goal.returns-in_err-computed-clause-damaged

@@ -1,12 +1,12 @@
 use Rattle.std.proofs.Common.{◌∙◌, ◌≡◌, ◌<◌, ℕ, List, length, Result, Err, IsErrAnd, refl, sym, ap, subst, arith}
 use Rattle.std.proofs.lemmas.Result.{err_from_is_err_and}
 use Rattle.std.specs.Prelude.{IsErrOf}
-use Rattle.strat_array.proofs.SearchLemmas.{err_of}
+use Rattle.strat_base.proofs.ResultFacts.{err_of}
 use Rattle.strat_base.specs.declared.descriptors.LevelDesc.{LevelDesc}
 use Rattle.strat_base.specs.declared.failures.Trouble.TheVariants as trouble
-use Rattle.strat_crash.proofs.MomentLemmas.{passes_trans, reads_refl}
-use Rattle.strat_crash.specs.Blocks.{TearsBlocks}
-use Rattle.strat_format.specs.SuperBlock.{Super}
+use Rattle.def_crash.proofs.MomentLemmas.{passes_trans, reads_refl}
+use Rattle.def_crash.specs.Blocks.{TearsBlocks}
+use Rattle.def_bytes.specs.SuperBlock.{Super}
 use Rattle.strat_gate.specs.SuperView.{super_of}
 use Rattle.strat_journal.proofs.ReadLemmas.{same_err}
 use Rattle.strat_manifest.specs.ManifestView.{manifest_of}
@@ -15,9 +15,9 @@ use Rattle.strat_promote.proofs.OpeningLemmas.{on_err}
 use Rattle.strat_promote.specs.Obstacles.{told_as}
 use Rattle.strat_promote.specs.declared.obstacle.Obstacle.{Obstacle}
 use Rattle.strat_promote.specs.declared.obstacle.Obstacle.TheVariants.{Device, Unfit}
-use Rattle.strat_standing.specs.Occupied.{arrays_in}
+use Rattle.def_publish.specs.Occupied.{arrays_in}
 use Rattle.strat_promote.specs.Job.{blocks_listed}
-use Rattle.strat_standing.specs.Standing.{ShowsTable}
+use Rattle.def_publish.specs.Standing.{ShowsTable}
 use Rattle.strat_publish.specs.Outcomes.{IsPublishedAs}
 use Rattle.strat_memory.specs.Held.{Held, IsConsistent, IsOnDisk, arrays_held}
 use Rattle.strat_publish.specs.Counting.{CountsWritten}
@@ -184,18 +184,18 @@ returns-clause-found g c =
     found_next (held_of c.args.held.now (empty_cache 0)) (held_of c.install.new.held (empty_cache 0)) m m.ready m.cursors.room next.target (super_of next.sb) (chained_of next.published) next.published.levels
     c.reserve_for_next.ensures.same (c.in_ok-install.ensures.ok (empty_cache 0)) c.in_ok-next.ensures.found
 
-pub returns-in_err-reserve_for_next-clause-end : goal.returns-in_err-reserve_for_next-clause-end
-returns-in_err-reserve_for_next-clause-end g c = λ other cached on.
+pub returns-in_err-reserve_for_next-clause-disk : goal.returns-in_err-reserve_for_next-clause-disk
+returns-in_err-reserve_for_next-clause-disk g c = λ other cached on.
     kept_on (g.D.Disk.view c.args.disk.now) (held_of c.args.held.now cached) (held_of (record c.args.held.now { memory = c.reserve_for_next.new.memory }) cached) (record { slot = refl; sb = refl; chained = refl; levels = refl }) on
 
-pub returns-in_err-next-clause-end : goal.returns-in_err-next-clause-end
-returns-in_err-next-clause-end g c = λ other cached on.
+pub returns-in_err-next-clause-disk : goal.returns-in_err-next-clause-disk
+returns-in_err-next-clause-disk g c = λ other cached on.
     let mid = record c.args.held.now { memory = c.reserve_for_next.new.memory } in
     beside_on (g.D.Disk.view c.args.disk.now) (g.D.Disk.view c.prepare_next.new.disk) (held_of mid cached) (c.prepare_next.ensures.images cached)
     (kept_on (g.D.Disk.view c.args.disk.now) (held_of c.args.held.now cached) (held_of mid cached) (record { slot = refl; sb = refl; chained = refl; levels = refl }) on)
 
-pub returns-clause-end : goal.returns-clause-end
-returns-clause-end g c = λ other cached on.
+pub returns-clause-disk : goal.returns-clause-disk
+returns-clause-disk g c = λ other cached on.
     let v = g.D.Disk.view c.args.disk.now in
     let mid = record c.args.held.now { memory = c.reserve_for_next.new.memory } in
     let whole = consistent_ready (held_of c.args.held.now cached) c.reserve_for_next.new.memory.ready c.reserve_for_next.new.memory.cursors.room c.reserve_for_next.new.memory c.reserve_for_next.ensures.same (c.requires.kept.0 cached) in
@@ -204,7 +204,7 @@ returns-clause-end g c = λ other cached on.
     let greater : c.args.held.now.sb.generation < next.sb.generation = omega (arith, ap (λ (sb : Super). sb.generation) found.sb_is) in
     subst (λ (h : Held). IsOnDisk (g.D.Disk.view c.install.new.disk) h) (sym (c.in_ok-install.ensures.ok cached))
     (published_on v (g.D.Disk.view c.prepare_next.new.disk) (g.D.Disk.view c.install.new.disk) (held_of mid cached) next.target (super_of next.sb) (chained_of next.published) next.published.levels
-    whole refl (c.prepare_next.ensures.images cached) c.in_ok-next.ensures.end (g.met.D.Disk.leaves_content c.prepare_next.new.disk) c.in_ok-install.ensures.end c.install.ensures.time
+    whole refl (c.prepare_next.ensures.images cached) c.in_ok-next.ensures.end (g.met.D.Disk.leaves_content c.prepare_next.new.disk) c.in_ok-install.ensures.disk c.install.ensures.time
     greater (c.in_ok-next.ensures.fits cached).mem c.in_ok-next.ensures.kept.0.belonging
     (kept_on v (held_of c.args.held.now cached) (held_of mid cached) (record { slot = refl; sb = refl; chained = refl; levels = refl }) on))
 

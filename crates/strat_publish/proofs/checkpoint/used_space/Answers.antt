@@ -1,6 +1,6 @@
 use Rattle.std.proofs.Common.{refl, sym, subst, List, []}
 use Rattle.strat_base.specs.declared.descriptors.ArrayDesc.{ArrayDesc}
-use Rattle.strat_standing.specs.Occupied.{UsesMore, extents_of}
+use Rattle.def_publish.specs.Occupied.{UsesMore, extents_of}
 use Rattle.strat_memory.specs.Held.{contents_held}
 use Rattle.strat_memory.specs.RecoveredFields.{held_of, empty_cache}
 use Rattle.strat_extent.specs.Change.{CanMark}

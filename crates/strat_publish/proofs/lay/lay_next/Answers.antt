@@ -1,8 +1,8 @@
 use Rattle.std.proofs.Common.{◌≤◌, ◌*◌}
-use Rattle.strat_crash.specs.Blocks.{TearsBlocks}
-use Rattle.strat_crash.specs.Moments.{OnlyReads, IsDurable}
-use Rattle.strat_crash.proofs.BlockLemmas.{reads_tear_none, blocks_trans}
-use Rattle.strat_format.specs.Layout.{region_at}
+use Rattle.def_crash.specs.Blocks.{TearsBlocks}
+use Rattle.def_crash.specs.Moments.{OnlyReads, IsDurable}
+use Rattle.def_crash.proofs.BlockLemmas.{reads_tear_none, blocks_trans}
+use Rattle.def_bytes.specs.Layout.{region_at}
 use Rattle.strat_publish.specs.Publishing.{is_in_front}
 use Rattle.strat_publish.proofs.LaidLemmas.{laid_superblock}
 use Rattle.strat_publish.proofs.PublishingLemmas.{synced_trail, synced_paid, next_of, lay_trail, lay_paid, turn_trail, turn_paid, turn_stands, torn_in_front, gate_in_front, slot_in_front}
@@ -82,7 +82,7 @@ returns-in_err-sync_written-clause-trail g c old new computed =
       λ was is. synced_paid _ (g.D.Disk.view c.sync_written.new.disk) _ _ _ old new computed reads was,
     )
 
-pub returns-clause-end : goal.returns-clause-end
-returns-clause-end g c few =
+pub returns-clause-disk : goal.returns-clause-disk
+returns-clause-disk g c few =
     laid_superblock _ (g.D.Disk.view c.sync_written.new.disk) (g.D.Disk.view c.lay.new.disk) _ c.args.slot _ c.args.journal.now.mem c.args.journal.now.active c.requires.fits.0
-    (synced g (goal.at.returns-clause-end g c).After-sync_written) c.in_ok-sync_written.ensures.ok c.lay.ensures.images c.lay.ensures.time c.in_ok-lay.ensures.found c.turn.ensures.images c.turn.ensures.time few
+    (synced g (goal.at.returns-clause-disk g c).After-sync_written) c.in_ok-sync_written.ensures.ok c.lay.ensures.images c.lay.ensures.time c.in_ok-lay.ensures.found c.turn.ensures.images c.turn.ensures.time few

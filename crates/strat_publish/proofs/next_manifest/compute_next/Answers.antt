@@ -1,5 +1,5 @@
 use Rattle.std.proofs.Common.{arith}
-use Rattle.strat_array.proofs.SearchLemmas.{err_of}
+use Rattle.strat_base.proofs.ResultFacts.{err_of}
 use Rattle.strat_manifest.specs.ManifestView.{manifest_of}
 use Rattle.strat_publish.proofs.LaidLemmas.{written_at}
 use Rattle.strat_publish.proofs.ComputedLemmas.{computed_by, made_blocks, may_be_written, none_reached, torn_on, uses_both}
@@ -23,8 +23,8 @@ returns-clause-images g c = torn_on c.args.space.now c.promote.new.space _ _ _ _
 pub returns-in_err-manifest-clause-images : goal.returns-in_err-manifest-clause-images
 returns-in_err-manifest-clause-images g c = torn_on c.args.space.now c.promote.new.space _ _ _ _ c.in_ok-made.ensures.room c.promote.ensures.images c.write_next_manifest.ensures.images
 
-pub returns-clause-end : goal.returns-clause-end
-returns-clause-end g c =
+pub returns-clause-disk : goal.returns-clause-disk
+returns-clause-disk g c =
     written_at (g.D.Disk.view c.args.disk.now) (g.D.Disk.view c.promote.new.disk) (g.D.Disk.view c.write_next_manifest.new.disk) c.in_ok-manifest.first c.in_ok-manifest.length c.in_ok-manifest.chain
     (manifest_of c.in_ok-manifest.manifest) c.promote.ensures.images.time c.in_ok-manifest.ensures.fits.3 c.in_ok-manifest.ensures.ok
 

@@ -1,7 +1,7 @@
 use Rattle.std.proofs.Common.{List, ℕ, ◌++◌, take, sym, ap, ◌∙◌, arith}
 use Rattle.std.specs.Option.{option_to_list}
 use Rattle.std.proofs.lemmas.List.{take_all}
-use Rattle.strat_recovery.specs.Head.{parent_numbers}
+use Rattle.def_recovery.specs.Head.{parent_numbers}
 use Rattle.strat_publish.proofs.ComputingLemmas.{parent_next}
 use Rattle.strat_publish.proofs.next_manifest.parents_of.Goals as goal
 

@@ -1,5 +1,5 @@
 use Rattle.std.proofs.Common.{◌≡◌, take}
-use Rattle.strat_recovery.specs.Head.{parent_numbers}
+use Rattle.def_recovery.specs.Head.{parent_numbers}
 use Rattle.strat_publish.proofs.next_manifest.parents_of.Given as goal
 
 abbrev pub invariant-loop-v : goal.invariant-loop-v

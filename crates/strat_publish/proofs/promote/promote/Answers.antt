@@ -1,12 +1,12 @@
 use Rattle.std.proofs.Common.{◌≡◌, ◌+◌, ℕ, length, Option, sym, subst, arith}
 use Rattle.strat_base.specs.declared.descriptors.LevelDesc.{LevelDesc}
 use Rattle.strat_extent.specs.Blocks.{used_count}
-use Rattle.strat_format.specs.Arrays.{blocks_of}
+use Rattle.def_bytes.specs.Arrays.{blocks_of}
 use Rattle.strat_promote.specs.Promotions.{target_of}
-use Rattle.strat_standing.specs.Next.{arrays_made}
-use Rattle.strat_standing.specs.Occupied.{UsesMore, extents_of}
+use Rattle.def_publish.specs.Next.{arrays_made}
+use Rattle.def_publish.specs.Occupied.{UsesMore, extents_of}
 use Rattle.strat_publish.specs.Promoting.{IsPromotedTo}
-use Rattle.strat_crash.specs.Moments.{Exposes}
+use Rattle.def_crash.specs.Moments.{Exposes}
 use Rattle.strat_publish.proofs.PromotingLemmas.{counts_its_blocks, fed, its_job, promoted_to, takes_its_blocks, reads_few, blamed, block_there, err_handed}
 use Rattle.strat_promote.proofs.ObstacleLemmas.{none_kept, short_fit}
 use Rattle.strat_promote.proofs.PushingLemmas.{still_told}

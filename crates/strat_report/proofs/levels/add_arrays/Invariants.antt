@@ -1,6 +1,6 @@
 use Rattle.std.proofs.Common.{◌≡◌, [], ◌∷◌, ◌++◌, string_bytes, take}
 use Rattle.std.specs.List.{flat_map}
-use Rattle.strat_recovery.specs.Texts.{text, array_line}
+use Rattle.def_texts.specs.Texts.{text, array_line}
 use Rattle.strat_report.proofs.levels.add_arrays.Given as goal
 
 abbrev pub invariant-loop-a : goal.invariant-loop-a

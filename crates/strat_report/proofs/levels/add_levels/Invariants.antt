@@ -1,6 +1,6 @@
 use Rattle.std.proofs.Common.{◌≡◌, ◌++◌, string_bytes, take}
 use Rattle.std.specs.List.{flat_map}
-use Rattle.strat_recovery.specs.Texts.{text, level_lines}
+use Rattle.def_texts.specs.Texts.{text, level_lines}
 use Rattle.strat_report.proofs.levels.add_levels.Given as goal
 
 abbrev pub invariant-loop-level : goal.invariant-loop-level

@@ -1,5 +1,5 @@
 use Rattle.std.proofs.Common.{ap, ◌∙◌}
-use Rattle.strat_format.specs.Manifest.{Manifest}
+use Rattle.def_bytes.specs.Manifest.{Manifest}
 use Rattle.strat_report.proofs.LineLemmas.{report_added}
 use Rattle.strat_report.proofs.levels.add_report.Goals as goal
 

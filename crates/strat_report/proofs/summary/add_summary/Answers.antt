@@ -1,9 +1,9 @@
 use Rattle.std.proofs.Common.{List, sym, ap, ◌∙◌}
 use Rattle.std.specs.List.{flat_map}
 use Rattle.strat_base.specs.declared.descriptors.LevelDesc.{LevelDesc}
-use Rattle.strat_format.specs.Manifest.{Manifest}
-use Rattle.strat_recovery.specs.Head.{descriptors}
-use Rattle.strat_recovery.specs.Texts.{sparsest}
+use Rattle.def_bytes.specs.Manifest.{Manifest}
+use Rattle.def_recovery.specs.Head.{descriptors}
+use Rattle.def_texts.specs.Texts.{sparsest}
 use Rattle.strat_report.specs.Densities.{least_density}
 use Rattle.strat_report.proofs.LineLemmas.{summary_added}
 use Rattle.strat_report.proofs.summary.add_summary.Goals as goal

@@ -1,5 +1,5 @@
 use Rattle.std.proofs.Common.{◌≡◌, ◌++◌, length, string_bytes}
-use Rattle.strat_recovery.specs.Texts.{versions_text}
+use Rattle.def_texts.specs.Texts.{versions_text}
 use Rattle.strat_report.specs.Runs.{later_runs}
 use Rattle.strat_report.proofs.versions.add_versions.Given as goal
 

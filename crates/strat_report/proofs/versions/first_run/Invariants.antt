@@ -1,5 +1,5 @@
 use Rattle.std.proofs.Common.{◌≡◌, ◌≤◌, ◌+◌, ◌-◌, length, drop, slice_index_or}
-use Rattle.strat_recovery.specs.Texts.{runs_of}
+use Rattle.def_texts.specs.Texts.{runs_of}
 use Rattle.strat_report.specs.Runs.{run_with}
 use Rattle.strat_report.proofs.versions.first_run.Given as goal
 

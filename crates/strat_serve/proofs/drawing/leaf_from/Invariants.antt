@@ -1,6 +1,6 @@
 -- The choice is that from here on.
 use Rattle.std.proofs.Common.{◌≡◌, ◌≤◌, ◌-◌}
-use Rattle.strat_recovery.specs.Workload.{leaf_from}
+use Rattle.def_texts.specs.Workload.{leaf_from}
 use Rattle.strat_serve.proofs.drawing.leaf_from.Given as goal
 
 abbrev pub invariant-loop-leaf : goal.invariant-loop-leaf

@@ -1,6 +1,6 @@
 use Rattle.std.proofs.Common.{List, ℕ, ◌++◌, ap, ◌∙◌, arith}
 use Rattle.strat_model.specs.Spelling.{counted}
-use Rattle.strat_recovery.specs.Workload.{drawn_key}
+use Rattle.def_texts.specs.Workload.{drawn_key}
 use Rattle.strat_serve.proofs.FramingLemmas.{framed, length-counted}
 use Rattle.strat_serve.proofs.framing.write_delete.Goals as goal
 

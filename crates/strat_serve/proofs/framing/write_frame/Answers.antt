@@ -1,7 +1,7 @@
 use Rattle.std.proofs.Common.{ap, ◌∙◌, sym}
 use Rattle.strat_model.specs.Spelling.{command_body}
 use Rattle.strat_model.specs.Stream.{frame}
-use Rattle.strat_recovery.specs.StateTable.{request_for}
+use Rattle.def_meaning.specs.StateTable.{request_for}
 use Rattle.strat_serve.specs.declared.drawing.Pick.{Pick}
 use Rattle.strat_serve.specs.Generated.{picked_change}
 use Rattle.strat_serve.proofs.FramingLemmas.{framed_short}

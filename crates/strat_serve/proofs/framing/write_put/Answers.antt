@@ -1,7 +1,7 @@
 use Rattle.std.proofs.Common.{◌≡◌, List, ℕ, ◌+◌, ◌++◌, length, ap, ◌∙◌, arith}
 use Rattle.std.specs.Fmt.{decimal}
 use Rattle.strat_model.specs.Spelling.{counted}
-use Rattle.strat_recovery.specs.Workload.{drawn_key}
+use Rattle.def_texts.specs.Workload.{drawn_key}
 use Rattle.strat_serve.proofs.FramingLemmas.{framed_put}
 use Rattle.strat_serve.proofs.framing.write_put.Goals as goal
 

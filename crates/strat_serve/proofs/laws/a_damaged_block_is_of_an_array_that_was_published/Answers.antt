@@ -1,6 +1,6 @@
 use Rattle.std.proofs.Common.{◌≡◌, refl, subst}
 use Rattle.std.specs.Prelude.{Option, Some}
-use Rattle.strat_crash.specs.Image.{Image}
+use Rattle.def_crash.specs.Image.{Image}
 use Rattle.strat_publish.specs.Outcomes.{IsDamagedIn}
 use Rattle.strat_serve.proofs.TableLemmas.{there}
 use Rattle.strat_serve.proofs.laws.a_damaged_block_is_of_an_array_that_was_published.Goals as goal

@@ -1,4 +1,4 @@
-use Rattle.strat_standing.proofs.FreeLemmas.{one_table}
+use Rattle.def_publish.proofs.FreeLemmas.{one_table}
 use Rattle.strat_serve.proofs.BeginLemmas.{begins_there}
 use Rattle.strat_serve.proofs.laws.a_run_begins_where_the_last_one_was_cut_off.Goals as goal
 

@@ -2,8 +2,8 @@ use Rattle.std.proofs.Common.{◌≡◌, ◌≤◌, ◌<◌, ℕ, List, [], ◌+
 use Rattle.std.specs.Prelude.{is_some}
 use Rattle.strat_base.specs.declared.failures.Fault.{Fault}
 use Rattle.strat_base.specs.declared.failures.Fault.TheVariants as fault
-use Rattle.strat_crash.specs.Faults.{Rose}
-use Rattle.strat_crash.proofs.MomentLemmas.{passes_trans, passes_refl}
+use Rattle.def_crash.specs.Faults.{Rose}
+use Rattle.def_crash.proofs.MomentLemmas.{passes_trans, passes_refl}
 use Rattle.strat_serve.specs.Session.{IsAnswered, Took}
 use Rattle.strat_serve.specs.World.{World, world}
 use Rattle.strat_serve.proofs.GiveUpLemmas.{caused_by_none, caused_by_fault}
@@ -39,7 +39,7 @@ answered g c = record {
   is = subst (λ (b : List ℕ). IsAnswered (g.D.Disk.view c.loop-store.disk) (g.D.Disk.view c.answer_frame-met.new.disk) c.loop-store.store b c.answer_frame-met.result c.answer_frame-met.new.store c.answer_frame-met.new.out) c.body.ensures c.answer_frame-met.ensures.ok;
   passes = c.answer_frame-met.ensures.time;
   cause = c.answer_frame-met.ensures.cause;
-  spent = c.answer_frame-met.ensures.end;
+  spent = c.answer_frame-met.ensures.state;
   kept = c.answer_frame-met.ensures.kept;
   same = c.answer_frame-met.ensures.same;
   leaves = g.met.D.Disk.leaves_content c.answer_frame-met.new.disk;
@@ -94,7 +94,7 @@ loop-store-preserved-in_default-met g c =
           (shown g c.args.source.now c.args.sink.now d) (shown g s.source s.sink s.disk) (shown g s.source c.send.new.sink c.answer_frame-met.new.disk)
           (s.invariant.progress d has) s.invariant.within (answered g sent) c.in-Frame.ensures.ok.0 c.in-Frame.ensures.ok.1 c.in-Frame.ensures.fits
           none c.in-Ok.ensures.ok;
-      going = c.answer_frame-met.ensures.end ∙ ap is_some none;
+      going = c.answer_frame-met.ensures.state ∙ ap is_some none;
       lawful = c.answer_frame-met.ensures.kept none;
       time = passes_trans s.invariant.time c.answer_frame-met.ensures.time;
       within = s.invariant.within;

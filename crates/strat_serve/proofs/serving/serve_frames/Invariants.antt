@@ -1,5 +1,5 @@
 use Rattle.std.proofs.Common.{◌≡◌, ◌≤◌, ◌-◌, ◌+◌, ◌*◌, false, length}
-use Rattle.strat_crash.specs.Moments.{Passes}
+use Rattle.def_crash.specs.Moments.{Passes}
 use Rattle.strat_memory.specs.Held.{IsConsistent}
 use Rattle.strat_serve.specs.Session.{HasOpened}
 use Rattle.strat_serve.specs.World.{world}

@@ -2,8 +2,8 @@ use Rattle.std.proofs.Common.{◌≡◌, ℕ, List, length, sym, ap, ◌∙◌, 
 use Rattle.std.proofs.lemmas.Result.{IfOk-weaker}
 use Rattle.strat_base.specs.Tree.{Parents, parent_of}
 use Rattle.strat_live.specs.Counting.{SameParents}
-use Rattle.strat_plan.specs.Plan.{IsSplit}
-use Rattle.strat_state.specs.Counted.{own_at, keys_at}
+use Rattle.def_split.specs.Plan.{IsSplit}
+use Rattle.def_state.specs.Counted.{own_at, keys_at}
 use Rattle.strat_split.specs.Placing.{IsDivided}
 use Rattle.strat_split.specs.PlanSeen.{plan_seen}
 use Rattle.strat_split.specs.Survey.{told, Told, AreCounted}

@@ -1,5 +1,5 @@
 use Rattle.std.proofs.Common.{refl, ap, ◌∙◌, subst, arith, ℕ}
-use Rattle.strat_crash.specs.Blocks.{KeepsTaken}
+use Rattle.def_crash.specs.Blocks.{KeepsTaken}
 use Rattle.strat_memory.specs.RecoveredFields.{held_of, empty_cache}
 use Rattle.strat_store.proofs.ChangingLemmas.{cursors_stay, log_of, kept_more, breaks, takes, step_trail, told_trail, carries, finds_none}
 use Rattle.strat_store.proofs.LeavingLemmas.{logged_leaves, taken_calm, taken_well}
@@ -74,12 +74,12 @@ returns-clause-images g c =
     let mem = (c.requires.kept (empty_cache 0)).log.mem in
     (c.log_change.ensures.time, λ other f h was now. subst (λ (n : ℕ). KeepsTaken (is_in_front n) f h) mem (c.in-Ok.ensures.same f h was now))
 
-pub returns-in_default-clause-end : goal.returns-in_default-clause-end
-returns-in_default-clause-end g c = λ cached.
+pub returns-in_default-clause-disk : goal.returns-in_default-clause-disk
+returns-in_default-clause-disk g c = λ cached.
     logged_leaves (g.D.Disk.view c.args.disk.now) (g.D.Disk.view c.log_change.new.disk) (held_of c.args.held.now cached) (held_of (record c.args.held.now { journal = c.log_change.new.journal }) cached)
     (c.requires.kept cached) (record { slot = refl; sb = refl; chained = refl; levels = refl }) c.log_change.ensures.images c.log_change.ensures.time
 
-pub returns-clause-end : goal.returns-clause-end
-returns-clause-end g c = λ cached.
+pub returns-clause-disk : goal.returns-clause-disk
+returns-clause-disk g c = λ cached.
     logged_leaves (g.D.Disk.view c.args.disk.now) (g.D.Disk.view c.log_change.new.disk) (held_of c.args.held.now cached) (held_of (record c.args.held.now { journal = c.log_change.new.journal; memory = c.take.new.self }) cached)
     (c.requires.kept cached) (record { slot = refl; sb = refl; chained = refl; levels = refl }) c.log_change.ensures.images c.log_change.ensures.time

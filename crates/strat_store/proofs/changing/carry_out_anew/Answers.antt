@@ -56,8 +56,8 @@ returns-clause-trail g c x cached stands =
     (c.in_default.ensures.kept tt cached) c.in_default.ensures.found.2 p (g.D.Disk.view c.carry_out.new.disk) c.carry_out.result c.carry_out.ensures.images.0 (c.publish.ensures.trail x cached stands).0
     (c.carry_out.ensures.trail p.after cached p.stands).0
 
-pub returns-in-Err-clause-end : goal.returns-in-Err-clause-end
-returns-in-Err-clause-end g c = λ cached.
+pub returns-in-Err-clause-disk : goal.returns-in-Err-clause-disk
+returns-in-Err-clause-disk g c = λ cached.
     let keeps = c.in-Err.ensures.same.3 cached in (
       gives_up (g.D.Disk.view c.args.disk.now) (g.D.Disk.view c.publish.new.disk) c.args.held.now c.publish.new.held cached (told_as c.in-Err.obstacle) c.refusal_of.result c.refusal_of.ensures.ok
           keeps.0 (λ other. c.in-Err.ensures.end (λ e. other (let x : ◌≡◌ {A = Result _ Obstacle} (Err c.in-Err.obstacle) (Err Device) = e in let same : c.in-Err.obstacle ≡ Device = cc in ap told_as same)) cached)
@@ -65,13 +65,13 @@ returns-in-Err-clause-end g c = λ cached.
       cursors_left (held_of c.args.held.now cached) (held_after c.publish.new.held cached (reply.Refused c.refusal_of.result)) _ _ keeps.1,
     )
 
-pub returns-clause-end : goal.returns-clause-end
-returns-clause-end g c = λ cached.
+pub returns-clause-disk : goal.returns-clause-disk
+returns-clause-disk g c = λ cached.
     let kept = c.requires.kept cached in
     let v = g.D.Disk.view c.args.disk.now in
     let u = g.D.Disk.view c.publish.new.disk in
     let w = g.D.Disk.view c.carry_out.new.disk in
-    let keeps = c.carry_out.ensures.end cached in
+    let keeps = c.carry_out.ensures.disk cached in
     let has =
     has_published c.args.held.now c.publish.new.held c.carry_out.new.held cached c.carry_out.result (omega (arith, c.requires.room, kept.log.mem))
     c.in_default.ensures.found.0 c.in_default.ensures.found.1 keeps.0 c.carry_out.ensures.found.0 in (

@@ -1,7 +1,7 @@
 use Rattle.std.proofs.Common.{◌≡◌, Some, None, refl, sym, ap, ◌∙◌, arith}
 use Rattle.strat_model.specs.Answer.{accepts}
 use Rattle.strat_model.specs.declared.replies.Refusal.TheVariants as why
-use Rattle.strat_crash.proofs.MomentLemmas.{reads_refl}
+use Rattle.def_crash.proofs.MomentLemmas.{reads_refl}
 use Rattle.strat_model.specs.declared.replies.Reply.TheVariants as reply
 use Rattle.strat_store.specs.Applying.{held_after}
 use Rattle.strat_memory.specs.RecoveredFields.{held_of, empty_cache}
@@ -27,17 +27,17 @@ carry_out-requires-clause-room g c =
     let kept = c.requires.kept (empty_cache 0) in
     omega (arith, c.if-room-eq0.false, c.room.ensures, kept.log.mem, kept.log.few)
 
-pub returns-in-Some-clause-end : goal.returns-in-Some-clause-end
-returns-in-Some-clause-end g c = λ cached.
+pub returns-in-Some-clause-disk : goal.returns-in-Some-clause-disk
+returns-in-Some-clause-disk g c = λ cached.
     let s = held_of c.args.held.now cached in (
       left_alone (g.D.Disk.view c.args.disk.now) (g.D.Disk.view c.args.disk.now) s _ _ _ refl (reads_refl (g.D.Disk.view c.args.disk.now)),
       cursors_left s (held_after c.args.held.now cached (reply.Refused c.in-Some.refusal)) _ _ (cursors_same s (held_after c.args.held.now cached (reply.Refused c.in-Some.refusal)) refl),
     )
 
-pub returns-clause-end : goal.returns-clause-end
-returns-clause-end g c = λ cached.
+pub returns-clause-disk : goal.returns-clause-disk
+returns-clause-disk g c = λ cached.
     let kept = c.requires.kept cached in
-    let both = c.carry_out.ensures.end cached in
+    let both = c.carry_out.ensures.disk cached in
     let s = held_of c.args.held.now cached in
     let t = held_after c.carry_out.new.held cached c.carry_out.result in (
       leaves_room (g.D.Disk.view c.args.disk.now) (g.D.Disk.view c.carry_out.new.disk) s (held_of c.carry_out.new.held cached) _ c.carry_out.result _

@@ -1,4 +1,4 @@
-use Rattle.strat_standing.specs.Appending.{AppendsBatch}
+use Rattle.def_publish.specs.Appending.{AppendsBatch}
 use Rattle.strat_store.proofs.LoggingLemmas.{logged_behind, logged_paid, logged_trail, logged_stands}
 use Rattle.strat_store.proofs.changing.log_change.Given.{Over}
 use Rattle.strat_store.proofs.changing.log_change.Goals as goal

@@ -20,7 +20,7 @@ returns-clause-ok g c = λ x rows at.
     (sym c.reply_of_next.ensures.ok)
     (page_applied (g.D.Disk.view c.args.disk.now) s x rows (c.requires.kept c.args.cache.now) at (g.D.Disk.view c.next_pairs-told.new.disk) c.next_pairs-told.new.cache c.next_pairs-told.ensures.same
     (g.met.D.Disk.leaves_content c.next_pairs-told.new.disk) c.args.number c.args.limit c.next_pairs-told.new.out c.next_pairs-told.result c.next_pairs-told.new.self
-    c.next_pairs-told.ensures.ok c.next_pairs-told.ensures.end c.next_pairs-told.ensures.found c.next_pairs-told.ensures.err c.next_pairs-told.ensures.damaged)
+    c.next_pairs-told.ensures.ok c.next_pairs-told.ensures.state c.next_pairs-told.ensures.found c.next_pairs-told.ensures.err c.next_pairs-told.ensures.damaged)
 
 pub returns-clause-damaged : goal.returns-clause-damaged
 returns-clause-damaged g c = λ b told.
@@ -33,9 +33,9 @@ returns-clause-found g c = λ f exposed calm.
     (cursor_told f (g.D.Disk.view c.args.disk.now) (held_of c.args.held.now c.args.cache.now) c.args.number c.args.limit c.next_pairs-told.new.out c.next_pairs-told.result exposed
     (sym (ap is_fault c.reply_of_next.ensures.ok) ∙ calm) c.next_pairs-told.ensures.ok c.next_pairs-told.ensures.found (nothing_told _ _ c.next_pairs-told.result c.next_pairs-told.ensures.err))
 
-pub returns-clause-end : goal.returns-clause-end
-returns-clause-end g c =
-    let is = page_leaves c.args.held.now.memory c.next_pairs-told.new.self c.args.held.now.published.levels c.args.number c.args.limit c.next_pairs-told.new.out c.next_pairs-told.result c.next_pairs-told.ensures.end c.next_pairs-told.ensures.err in
+pub returns-clause-state : goal.returns-clause-state
+returns-clause-state g c =
+    let is = page_leaves c.args.held.now.memory c.next_pairs-told.new.self c.args.held.now.published.levels c.args.number c.args.limit c.next_pairs-told.new.out c.next_pairs-told.result c.next_pairs-told.ensures.state c.next_pairs-told.ensures.err in
     ap (λ (m : Memory). record c.args.held.now { memory = m }) is
     ∙ ap (λ (r : Reply). record c.args.held.now { memory = record c.args.held.now.memory { cursors = cursors_after c.args.held.now.memory c.args.held.now.published.levels (NextPairs c.args.number c.args.limit) (as_told r c.next_pairs-told.new.out) } })
     (sym c.reply_of_next.ensures.ok)
@@ -43,7 +43,7 @@ returns-clause-end g c =
 pub returns-clause-kept : goal.returns-clause-kept
 returns-clause-kept g c =
     consistent_after c.args.held.now c.next_pairs-told.new.self (NextPairs c.args.number c.args.limit) (as_told (reply_of_next c.next_pairs-told.result) c.next_pairs-told.new.out) c.requires.kept
-    (page_leaves c.args.held.now.memory c.next_pairs-told.new.self c.args.held.now.published.levels c.args.number c.args.limit c.next_pairs-told.new.out c.next_pairs-told.result c.next_pairs-told.ensures.end c.next_pairs-told.ensures.err)
+    (page_leaves c.args.held.now.memory c.next_pairs-told.new.self c.args.held.now.published.levels c.args.number c.args.limit c.next_pairs-told.new.out c.next_pairs-told.result c.next_pairs-told.ensures.state c.next_pairs-told.ensures.err)
 
 pub returns-clause-cause : goal.returns-clause-cause
 returns-clause-cause g c = (

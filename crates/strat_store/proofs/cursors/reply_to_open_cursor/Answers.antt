@@ -29,8 +29,8 @@ returns-clause-found c = λ f cached.
     known_told c.args.held.now.memory c.args.version _ _ (sym c.has.ensures.ok ∙ c.if-not-has.false)
     (subst (λ (r : Reply). TellsOfOpening c.args.held.now.memory.cursors (plain r)) (sym c.reply_of_start.ensures.ok) told)
 
-pub returns-clause-end : goal.returns-clause-end
-returns-clause-end c =
+pub returns-clause-state : goal.returns-clause-state
+returns-clause-state c =
     let is =
     start_leaves c.args.held.now.memory c.open_cursor-started.new.self c.args.held.now.published.levels c.args.version c.args.lo.now c.args.hi.now c.open_cursor-started.result
     c.open_cursor-started.ensures.ok c.open_cursor-started.ensures.err in

@@ -1,9 +1,9 @@
 use Rattle.std.proofs.Common.{◌≡◌, Option, Some, sym, subst}
 use Rattle.std.specs.Option.{option_to_list}
-use Rattle.strat_array.proofs.SearchLemmas.{if_ok_then}
+use Rattle.strat_base.proofs.ResultFacts.{if_ok_then}
 use Rattle.strat_array.specs.Told.{TellsFound}
 use Rattle.strat_base.specs.declared.descriptors.ArrayDesc.{ArrayDesc}
-use Rattle.strat_crash.specs.Faults.{ReadsAtMost}
+use Rattle.def_crash.specs.Faults.{ReadsAtMost}
 use Rattle.strat_cursor.specs.Looking.{arrays_there, asked_of_level, array_says, HaveFewBlocks, reads_of_arrays}
 use Rattle.strat_store.proofs.LookLemmas.{one_read, tell_one}
 use Rattle.strat_store.proofs.level_lookup.ask_level.Goals as goal

@@ -1,7 +1,7 @@
 use Rattle.std.proofs.Common.{◌≡◌, ◌<◌, ◌+◌, false, [], length, sym, ◌∙◌, subst, arith}
 use Rattle.strat_array.specs.Told.{TheirPairs, TellsFound, AddsPair}
-use Rattle.strat_recovery.specs.Asked.{on_disk}
-use Rattle.strat_state.specs.LookUp.{looked_up}
+use Rattle.def_recovery.specs.Asked.{on_disk}
+use Rattle.def_state.specs.LookUp.{looked_up}
 use Rattle.strat_cursor.specs.Looking.{levels_there, decides}
 use Rattle.strat_store.proofs.LookLemmas.{passes_on, passing_answers, passed_all, reads_left, few_asked, adds_none}
 use Rattle.strat_store.proofs.level_lookup.get_from_levels.Goals as goal

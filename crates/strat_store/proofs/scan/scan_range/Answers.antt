@@ -5,7 +5,7 @@ use Rattle.strat_level.specs.Memtable.{ItemList, entries_held, ListStands}
 use Rattle.strat_model.specs.Answer.{as_told}
 use Rattle.strat_model.specs.Request.{Scan}
 use Rattle.strat_model.specs.declared.replies.Reply.{Reply}
-use Rattle.strat_recovery.specs.TableOver.{are_known}
+use Rattle.def_meaning.specs.TableOver.{are_known}
 use Rattle.strat_store.specs.Applying.{is_fault, IsLookedUp}
 use Rattle.strat_store.specs.Ranging.{HasPairs}
 use Rattle.strat_memory.specs.RecoveredFields.{held_of}

@@ -1,7 +1,7 @@
 use Rattle.std.proofs.Common.{◌≡◌, ◌∙◌, ◌&&◌, Bool, Option, Some, None, refl, sym, ap, subst}
 use Rattle.strat_base.specs.Change.{Change}
-use Rattle.strat_crash.specs.Moments.{OnlyReads}
-use Rattle.strat_crash.proofs.MomentLemmas.{reads_refl}
+use Rattle.def_crash.specs.Moments.{OnlyReads}
+use Rattle.def_crash.proofs.MomentLemmas.{reads_refl}
 use Rattle.strat_model.specs.Answer.{accepts, as_told, plain}
 use Rattle.strat_model.specs.Command.{request_of}
 use Rattle.strat_model.specs.Pairs.{Pairs}
@@ -21,7 +21,7 @@ returns-in-Some-clause-ok g c = λ x rows at.
     let now = g.D.Disk.view c.change.new.disk in
     let old = held_of c.args.held.now c.args.cache.now in
     let new = held_after c.change.new.held c.args.cache.now c.change.result in
-    let leaves = c.change.ensures.end c.args.cache.now in
+    let leaves = c.change.ensures.disk c.args.cache.now in
     subst (λ (pairs : Pairs). IsAppliedAt now old x rows (request_of c.args.command.now) (as_told c.change.result pairs) new) (sym c.requires.room)
     (subst (λ (r : Request). IsAppliedAt now old x rows r (plain c.change.result) new) (wanted_for (request_of c.args.command.now) _ c.in-Some.ensures)
     (change_applied (g.D.Disk.view c.args.disk.now) now old new x rows _ (plain c.change.result) (accepts c.change.result) (c.requires.kept c.args.cache.now) at leaves.0 leaves.1 c.change.ensures.same.2 refl refl
@@ -57,7 +57,7 @@ returns-in-Some-clause-same g c =
     let before = g.D.Disk.view c.args.disk.now in
     let old = held_of c.args.held.now c.args.cache.now in
     let new = held_after c.change.new.held c.args.cache.now c.change.result in
-    let leaves = c.change.ensures.end c.args.cache.now in (
+    let leaves = c.change.ensures.disk c.args.cache.now in (
       untouched_by before (g.D.Disk.view c.change.new.disk) (request_of c.args.command.now) _ c.args.held.now c.change.new.held c.args.cache.now c.change.result c.in-Some.ensures
           (λ q e. let one = c.change.ensures.err q e in (one.0, one.1, subst (λ (d : _). OnlyReads before (g.D.Disk.view d)) (sym one.2) (reads_refl before)))
           c.change.ensures.none.0 (λ short. (c.change.ensures.none.1 short).1 c.args.cache.now),
@@ -79,9 +79,9 @@ returns-in-None-clause-same g c =
         cached = λ d asks. absurd (let x : ◌≡◌ {A = Option Change} None (Some d) = sym c.in-None.ensures ∙ asks in cc);
         calm = λ calm. c.query.ensures.same.0.disk;
       },
-      left_queried (g.D.Disk.view c.args.disk.now) (g.D.Disk.view c.query.new.disk) c.args.held.now c.query.new.held m c.args.cache.now c.query.new.cache _ c.query.result (is_fault c.query.result) c.query.ensures.end
+      left_queried (g.D.Disk.view c.args.disk.now) (g.D.Disk.view c.query.new.disk) c.args.held.now c.query.new.held m c.args.cache.now c.query.new.cache _ c.query.result (is_fault c.query.result) c.query.ensures.state
           (ap (λ (b : Bool). b && accepts c.query.result) still) c.query.ensures.same.0.disk,
-      query_leaves c.args.held.now c.query.new.held c.args.cache.now c.query.new.cache (request_of c.args.command.now) (as_told c.query.result c.query.new.out) (is_fault c.query.result) c.in-None.ensures c.query.ensures.end,
+      query_leaves c.args.held.now c.query.new.held c.args.cache.now c.query.new.cache (request_of c.args.command.now) (as_told c.query.result c.query.new.out) (is_fault c.query.result) c.in-None.ensures c.query.ensures.state,
       λ none. c.query.ensures.same.1,
     )
 

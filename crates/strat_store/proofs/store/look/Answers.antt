@@ -7,8 +7,8 @@ use Rattle.strat_model.specs.Spelling.{has_lawful_sizes}
 use Rattle.strat_model.specs.declared.commands.Command.{Command}
 use Rattle.strat_model.specs.declared.replies.Refusal.TheVariants as why
 use Rattle.strat_model.specs.declared.replies.Reply.TheVariants as reply
-use Rattle.strat_recovery.specs.StateTable.{table_of}
-use Rattle.strat_standing.specs.Contents.{contents_state}
+use Rattle.def_meaning.specs.StateTable.{table_of}
+use Rattle.def_publish.specs.Contents.{contents_state}
 use Rattle.strat_store.specs.Applying.{is_fault}
 use Rattle.strat_memory.specs.RecoveredFields.{held_of}
 use Rattle.strat_store.proofs.ApplyLemmas.{get_same, info_calm, info_finds, info_here, info_says, info_short, key_short, no_pairs, pairs_beside, range_short, stat_finds, stat_short, tells_look, version_refused, look_applied, memory_applied, none_left, reads_known, reads_still, scan_fits, scan_same, stat_here, tells_calm, other_than, unknown_answer}

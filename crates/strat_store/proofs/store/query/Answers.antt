@@ -15,13 +15,13 @@ use Rattle.strat_store.proofs.store.query.Goals as goal
 
 pub returns-in-OpenCursor-clause-ok : goal.returns-in-OpenCursor-clause-ok
 returns-in-OpenCursor-clause-ok g c = λ x rows at.
-    rw (c.in-OpenCursor.is, c.requires.room, c.reply_to_open_cursor.ensures.end)
+    rw (c.in-OpenCursor.is, c.requires.room, c.reply_to_open_cursor.ensures.state)
     (opened_applied (g.D.Disk.view c.args.disk.now) (held_of c.args.held.now c.args.cache.now) x rows (c.requires.kept c.args.cache.now) at c.in-OpenCursor.version c.in-OpenCursor.lo.now c.in-OpenCursor.hi.now _
     c.reply_to_open_cursor.result (c.reply_to_open_cursor.ensures.found at.stands.stands.content c.args.cache.now) refl)
 
 pub returns-in-CloseCursor-clause-ok : goal.returns-in-CloseCursor-clause-ok
 returns-in-CloseCursor-clause-ok g c = λ x rows at.
-    rw (c.in-CloseCursor.is, c.requires.room, c.reply_to_close_cursor.ensures.end)
+    rw (c.in-CloseCursor.is, c.requires.room, c.reply_to_close_cursor.ensures.state)
     (closing_applied (g.D.Disk.view c.args.disk.now) (held_of c.args.held.now c.args.cache.now) x rows (c.requires.kept c.args.cache.now) at c.in-CloseCursor.cursor _ c.reply_to_close_cursor.result
     (c.reply_to_close_cursor.ensures.found at.stands.stands.content c.args.cache.now) refl)
 

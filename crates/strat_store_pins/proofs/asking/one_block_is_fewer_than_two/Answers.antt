@@ -1,7 +1,7 @@
 use Rattle.std.proofs.Common.{◌<◌, ◌^◌, length, refl, subst, sym, arith}
 use Rattle.strat_base.specs.declared.descriptors.ArrayDesc.{ArrayDesc}
 use Rattle.strat_cursor.proofs.PickLemmas.{only}
-use Rattle.strat_format.specs.Arrays.{blocks_of}
+use Rattle.def_bytes.specs.Arrays.{blocks_of}
 use Rattle.strat_store_pins.specs.Examples.{array_in}
 use Rattle.strat_store_pins.proofs.asking.one_block_is_fewer_than_two.Goals as goal
 

@@ -1,8 +1,8 @@
 use Rattle.std.proofs.Common.{◌≡◌, ◌≢◌, ◌<◌, ℕ, inl, inr, refl, ap, subst, arith}
 use Rattle.strat_base.specs.declared.descriptors.ArrayDesc.{ArrayDesc}
-use Rattle.strat_format.specs.Manifest.{Manifest}
-use Rattle.strat_recovery.specs.Head.{descriptors}
-use Rattle.strat_standing.proofs.ListLemmas.{contained_among}
+use Rattle.def_bytes.specs.Manifest.{Manifest}
+use Rattle.def_recovery.specs.Head.{descriptors}
+use Rattle.def_publish.proofs.ListLemmas.{contained_among}
 use Rattle.strat_publish.specs.Counting.{KeepsCount, manifest_with_array}
 use Rattle.strat_store_pins.proofs.keeping.a_count_is_kept_or_counts.Goals as goal
 

@@ -1,7 +1,7 @@
 use Rattle.std.proofs.Common.{◌≡◌, ◌<◌, inl, inr, refl, subst, arith}
 use Rattle.strat_base.specs.declared.descriptors.ArrayDesc.{ArrayDesc}
-use Rattle.strat_recovery.specs.Head.{descriptors}
-use Rattle.strat_standing.proofs.ListLemmas.{contained_among}
+use Rattle.def_recovery.specs.Head.{descriptors}
+use Rattle.def_publish.proofs.ListLemmas.{contained_among}
 use Rattle.strat_publish.specs.Counting.{manifest_with_array}
 use Rattle.strat_store_pins.proofs.keeping.entries_are_counted_once.Goals as goal
 

@@ -1,5 +1,5 @@
 use Rattle.std.proofs.Common.{◌≡◌, ◌<◌, ℕ, refl, sym, ap, ◌∙◌, arith}
-use Rattle.strat_crash.specs.Image.{Image}
+use Rattle.def_crash.specs.Image.{Image}
 use Rattle.strat_store_pins.proofs.making.a_disk_with_both_slots_shut_is_blank.Goals as goal
 
 -- a byte that is another one in an image is so in each image that is equal

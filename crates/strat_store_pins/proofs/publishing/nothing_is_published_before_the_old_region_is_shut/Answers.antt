@@ -1,5 +1,5 @@
 use Rattle.std.proofs.Common.{refl, arith}
-use Rattle.strat_standing.specs.Worked.{published_disk}
+use Rattle.def_publish.specs.Worked.{published_disk}
 use Rattle.strat_store_pins.proofs.PublicationLemmas.{published_open, twice_damaged}
 use Rattle.strat_store_pins.proofs.publishing.nothing_is_published_before_the_old_region_is_shut.Goals as goal
 

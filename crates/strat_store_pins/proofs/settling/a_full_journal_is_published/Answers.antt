@@ -1,6 +1,6 @@
 use Rattle.std.proofs.Common.{refl, ap}
-use Rattle.strat_format.specs.Manifest.{Manifest}
-use Rattle.strat_format.specs.SuperBlock.{Super}
+use Rattle.def_bytes.specs.Manifest.{Manifest}
+use Rattle.def_bytes.specs.SuperBlock.{Super}
 use Rattle.strat_store_pins.proofs.settling.a_full_journal_is_published.Goals as goal
 
 pub returns-clause-ok : goal.returns-clause-ok

@@ -3,7 +3,7 @@ use Rattle.std.proofs.Math.ListN.{set}
 use Rattle.std.proofs.lemmas.Bool.{le-leb, lt-leb}
 use Rattle.strat_base.specs.Entries.{Entry, is_ascending}
 use Rattle.strat_base.specs.EntryView.{entry_of}
-use Rattle.strat_format.specs.Block.{block_front}
+use Rattle.def_bytes.specs.Block.{block_front}
 use Rattle.strat_block.specs.Collected.{Collected, collected}
 use Rattle.strat_block.proofs.WriterLemmas.{collected_is, collected_self, written_more, more_front, fewer}
 use Rattle.strat_block.proofs.writer.BlockWriter.push.Goals as goal

@@ -1,8 +1,8 @@
 use Rattle.std.proofs.Common.{◌≡◌, ◌<◌, ◌+◌, ◌*◌, ℕ, List, length, take, replicate, subst, sym, ap, ◌∙◌}
 use Rattle.strat_base.specs.Entries.{Entry}
 use Rattle.strat_base.specs.Numbers.{be, placed}
-use Rattle.strat_format.specs.Block.{IsBlock}
-use Rattle.strat_format.proofs.BlockLemmas.{block_in-bytes}
+use Rattle.def_bytes.specs.Block.{IsBlock}
+use Rattle.def_bytes.proofs.BlockLemmas.{block_in-bytes}
 use Rattle.strat_block.specs.Collected.{shifted, collected}
 use Rattle.strat_block.proofs.WriterLemmas.{starts_fit, block_written}
 use Rattle.strat_block.proofs.writer.BlockWriter.spell.Goals as goal

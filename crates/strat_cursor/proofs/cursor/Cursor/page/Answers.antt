@@ -1,5 +1,5 @@
 use Rattle.std.proofs.Common.{rules, refl, ◌≡◌, Some}
-use Rattle.strat_crash.specs.Moments.{Exposes}
+use Rattle.def_crash.specs.Moments.{Exposes}
 use Rattle.strat_cursor.specs.CursorFields.{cursor_seen}
 use Rattle.strat_cursor.proofs.PageReads.{page_told}
 use Rattle.strat_cursor.proofs.cursor.Cursor.page.Goals as goal

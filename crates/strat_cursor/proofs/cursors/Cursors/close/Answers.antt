@@ -15,8 +15,8 @@ returns-in_default-clause-ok c =
     (sym (place_none (λ (x : OpenCursor). eqb x.number c.args.number) c.self.inside.opened.items
     (ap (λ (xs : List OpenCursor). position (λ (x : OpenCursor). eqb x.number c.args.number) xs) (sym c.deref.ensures.value) ∙ sym c.in_default.ensures.ok)))
 
-pub returns-in_default-clause-end : goal.returns-in_default-clause-end
-returns-in_default-clause-end c =
+pub returns-in_default-clause-state : goal.returns-in_default-clause-state
+returns-in_default-clause-state c =
     rw (← c.self.view_is)
     (sym (closed_none c.args.number (cursors_seen c.self.inside)
     (place_none (λ (x : OpenCursor). eqb x.number c.args.number) c.self.inside.opened.items
@@ -61,9 +61,9 @@ invariant_of-self c =
 pub returns-clause-ok : goal.returns-clause-ok
 returns-clause-ok c = rw (← c.self.view_is) (sym (found (goal.at.returns-clause-ok c).After-remove-cursor).opened)
 
-pub returns-clause-end : goal.returns-clause-end
-returns-clause-end c =
-    rw (← c.self.view_is) (λ i. record (cursors_seen c.self.inside) { opened = left (goal.at.returns-clause-end c).After-remove-cursor i; retired = kept_arrays c i; room = c.keep_named.ensures.room i })
+pub returns-clause-state : goal.returns-clause-state
+returns-clause-state c =
+    rw (← c.self.view_is) (λ i. record (cursors_seen c.self.inside) { opened = left (goal.at.returns-clause-state c).After-remove-cursor i; retired = kept_arrays c i; room = c.keep_named.ensures.room i })
 
 pub returns-clause-kept : goal.returns-clause-kept
 returns-clause-kept c =

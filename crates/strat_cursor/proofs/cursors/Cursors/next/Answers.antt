@@ -75,8 +75,8 @@ invariant_of-self-2 g c =
       named = ap (λ (xs : List OpenCursor). are_named xs c.self.inside.retired.items) same ∙ kept.named;
     }
 
-pub returns-clause-end : goal.returns-clause-end
-returns-clause-end g c = rw (← c.self.view_is) (λ i. record (cursors_seen c.self.inside) { opened = moved g (goal.at.returns-clause-end g c).In_ok-more i })
+pub returns-clause-state : goal.returns-clause-state
+returns-clause-state g c = rw (← c.self.view_is) (λ i. record (cursors_seen c.self.inside) { opened = moved g (goal.at.returns-clause-state g c).In_ok-more i })
 
 pub returns-clause-found : goal.returns-clause-found
 returns-clause-found g c =

@@ -1,7 +1,7 @@
 use Rattle.std.proofs.Common.{◌≡◌, length, ap, subst, sym}
-use Rattle.strat_crash.specs.Image.{Image, Outside}
-use Rattle.strat_crash.proofs.ImageLemmas.{outside_refl}
-use Rattle.strat_crash.proofs.MomentLemmas.{leaves_tears}
+use Rattle.def_crash.specs.Image.{Image, Outside}
+use Rattle.def_crash.proofs.ImageLemmas.{outside_refl}
+use Rattle.def_crash.proofs.MomentLemmas.{leaves_tears}
 use Rattle.strat_disk.specs.Medium.{Medium}
 use Rattle.strat_disk.specs.PlaneView.{plane_of}
 use Rattle.strat_disk.proofs.MemoryLemmas.{tears, may_tear, leaves_same}

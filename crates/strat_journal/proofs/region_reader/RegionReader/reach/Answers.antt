@@ -1,7 +1,7 @@
 use Rattle.std.proofs.Common.{◌∙◌, arith}
-use Rattle.strat_crash.specs.Image.{Image}
-use Rattle.strat_crash.specs.Moments.{Images}
-use Rattle.strat_crash.proofs.MomentLemmas.{at_told}
+use Rattle.def_crash.specs.Image.{Image}
+use Rattle.def_crash.specs.Moments.{Images}
+use Rattle.def_crash.proofs.MomentLemmas.{at_told}
 use Rattle.strat_journal.proofs.RegionReaderLemmas.{reads_on_trans, reads_on_err, clear_uncut, clear_long}
 use Rattle.strat_journal.proofs.region_reader.RegionReader.reach.Goals as goal
 

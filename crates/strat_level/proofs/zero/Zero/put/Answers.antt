@@ -3,7 +3,7 @@ use Rattle.strat_base.specs.Entries.{Entry}
 use Rattle.strat_base.specs.EntryView.{val_of}
 use Rattle.strat_arena.specs.ArenaView.{KeyValue}
 use Rattle.strat_arena.specs.declared.items.Item.{Item}
-use Rattle.strat_state.specs.Setting.{set_entry}
+use Rattle.def_state.specs.Setting.{set_entry}
 use Rattle.strat_level.specs.Memtable.{ItemList, Memtable, entries_held, ListStands}
 use Rattle.strat_level.proofs.PutLemmas.{others_stand, own_put, own_pushed, own_makes, put_stands, room_left, size_fits}
 use Rattle.strat_level.proofs.zero.Zero.put.Goals as goal

@@ -1,5 +1,5 @@
 use Rattle.std.proofs.Common.{sym, subst}
-use Rattle.strat_format.specs.Arrays.{blocks_of}
+use Rattle.def_bytes.specs.Arrays.{blocks_of}
 use Rattle.strat_manifest.specs.Chains.{AreSeen}
 use Rattle.strat_manifest.proofs.chain.Followed.add.Goals as goal
 

@@ -1,6 +1,6 @@
 use Rattle.std.proofs.Common.{◌-◌, ℕ, List, Err, arith, ap, sym, ◌∙◌, subst}
-use Rattle.strat_crash.proofs.MomentLemmas.{reads_trans}
-use Rattle.strat_format.specs.Arrays.{blocks_of}
+use Rattle.def_crash.proofs.MomentLemmas.{reads_trans}
+use Rattle.def_bytes.specs.Arrays.{blocks_of}
 use Rattle.strat_manifest.specs.Chains.{IsFollowed}
 use Rattle.strat_manifest.proofs.ChainReadLemmas.{ReadsLink, followed_more, followed_wrong, follows_low, err_told}
 use Rattle.strat_manifest.proofs.chain.Followed.follow_all.Given.{Over}

@@ -1,6 +1,6 @@
 use Rattle.std.proofs.Common.{◌≡◌, ◌≤◌, ◌<◌, ◌+◌, length}
-use Rattle.strat_crash.specs.Moments.{OnlyReads}
-use Rattle.strat_format.specs.Arrays.{blocks_of}
+use Rattle.def_crash.specs.Moments.{OnlyReads}
+use Rattle.def_bytes.specs.Arrays.{blocks_of}
 use Rattle.strat_manifest.specs.Chains.{AreSeen, IsFollowed}
 use Rattle.strat_manifest.proofs.chain.Followed.follow_all.Given as goal
 

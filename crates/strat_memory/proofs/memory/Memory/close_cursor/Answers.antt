@@ -32,13 +32,13 @@ invariant_of-self c = record {
 pub returns-clause-ok : goal.returns-clause-ok
 returns-clause-ok c = rw (← c.self.view_is) (c.close.ensures.ok ∙ sym (held_opened c.self.inside.pool c.args.number c.self.inside.cursors.opened))
 
-pub returns-clause-end : goal.returns-clause-end
-returns-clause-end c =
-    let left = ap (λ (x : CursorsView). x.opened) c.close.ensures.end in
+pub returns-clause-state : goal.returns-clause-state
+returns-clause-state c =
+    let left = ap (λ (x : CursorsView). x.opened) c.close.ensures.state in
     let gone = held_gone c.self.inside.tree.parents c.self.inside.pool c.close.new.pool c.self.inside.cursors c.args.number c.self.invariant.stand.pinned
     (subst (λ (x : List OpenCursor). ArePinned c.close.new.pool c.self.inside.tree.parents x) left (pinned c))
     (subst (λ (x : List OpenCursor). SharesFollow c.self.inside.pool c.close.new.pool c.self.inside.cursors.opened x) left c.close.ensures.same) in
     rw (← c.self.view_is) (λ i. record (memory_held c.self.inside) {
       entries = entries c i;
-      cursors = (ap (λ (x : CursorsView). cursors_held c.close.new.pool x) c.close.ensures.end ∙ gone) i;
+      cursors = (ap (λ (x : CursorsView). cursors_held c.close.new.pool x) c.close.ensures.state ∙ gone) i;
     })

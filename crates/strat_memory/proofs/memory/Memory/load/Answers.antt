@@ -1,6 +1,6 @@
 use Rattle.std.proofs.Common.{List, ap, ◌∙◌, arith}
 use Rattle.strat_base.specs.Entries.{Entry}
-use Rattle.strat_recovery.specs.TableOver.{are_known}
+use Rattle.def_meaning.specs.TableOver.{are_known}
 use Rattle.strat_memory.specs.Memory.{Memory}
 use Rattle.strat_memory.proofs.MemoryLemmas.{clear_from}
 use Rattle.strat_memory.proofs.PoolLemmas.{unread_stands}

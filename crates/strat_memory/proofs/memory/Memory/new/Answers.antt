@@ -4,7 +4,7 @@ use Rattle.strat_arena.specs.declared.pool.PoolEntry.{PoolEntry}
 use Rattle.strat_base.specs.Entries.{Entry}
 use Rattle.strat_base.specs.Marks.{none_dropped}
 use Rattle.strat_cursor.specs.Cursors.{CursorsView, OpenCursor}
-use Rattle.strat_recovery.specs.TableOver.{are_known}
+use Rattle.def_meaning.specs.TableOver.{are_known}
 use Rattle.strat_tree.specs.TreeView.{TreeView}
 use Rattle.strat_memory.specs.MemoryFields.{StandInPool}
 use Rattle.strat_memory.proofs.PoolLemmas.{first_stands, no_entries}

@@ -41,8 +41,8 @@ returns-clause-ok g c =
     (held_tells c.self.inside.pool c.self.inside.cursors.opened c.args.number c.self.inside.tree.parents c.args.limit c.next.new.out c.in_ok-more.more (g.D.Disk.view c.args.disk.now) c.args.cache.now
     c.in_ok-more.ensures.ok.1)
 
-pub returns-clause-end : goal.returns-clause-end
-returns-clause-end g c =
+pub returns-clause-state : goal.returns-clause-state
+returns-clause-state g c =
     rw (← c.self.view_is) (λ i. record (memory_held c.self.inside) {
       cursors = held_paged c.self.inside.pool c.self.inside.cursors c.next.new.self c.args.number c.in_ok-more.more c.next.new.out c.in_ok-more.ensures.end i;
     })

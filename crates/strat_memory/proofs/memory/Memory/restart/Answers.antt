@@ -2,7 +2,7 @@ use Rattle.std.proofs.Common.{◌≡◌, [], List, Option, Some, None, sym, ap, 
 use Rattle.std.specs.Option.{option_map}
 use Rattle.strat_base.specs.Entries.{Entry}
 use Rattle.strat_level.specs.Memtable.{Memtable, entries_held}
-use Rattle.strat_recovery.specs.TableOver.{are_known}
+use Rattle.def_meaning.specs.TableOver.{are_known}
 use Rattle.strat_memory.specs.MemoryFields.{memory_held, StandInPool}
 use Rattle.strat_memory.proofs.PoolLemmas.{left_held, left_stands, no_entries, room_ready, without_zero_shares}
 use Rattle.strat_memory.proofs.memory.Memory.restart.Goals as goal

@@ -1,6 +1,6 @@
 use Rattle.std.proofs.Common.{◌≡◌, ◌∷◌, List, ℕ, None, Err, refl, sym, ap, ◌∙◌, subst, arith}
 use Rattle.std.specs.List.{Contains}
-use Rattle.strat_array.proofs.SearchLemmas.{err_of}
+use Rattle.strat_base.proofs.ResultFacts.{err_of}
 use Rattle.strat_base.specs.declared.failures.Fault.TheVariants.{Damaged}
 use Rattle.strat_promote.specs.LeadRuns.{BlockReading, key_alone}
 use Rattle.strat_promote.specs.Leads.{last_of, misfit_after}

@@ -6,7 +6,7 @@ use Rattle.strat_promote.proofs.LeadRunLemmas.{opened, seen_misfit, damage_told,
 use Rattle.strat_promote.proofs.lead_run.LeadRun.open.Goals as goal
 
 pub invariant_of-result-clause-law : goal.invariant_of-result-clause-law
-invariant_of-result-clause-law g c = lead_run_is _ _ _ _ c.reach_lead.ensures.end
+invariant_of-result-clause-law g c = lead_run_is _ _ _ _ c.reach_lead.ensures.state
 
 pub invariant_of-result-clause-below : goal.invariant_of-result-clause-below
 invariant_of-result-clause-below g c = λ v tagged.
@@ -23,9 +23,9 @@ returns-in_err-reach_lead-clause-damaged g c = λ b torn.
 pub returns-clause-ok : goal.returns-clause-ok
 returns-clause-ok g c = λ f exposed.
     opened (g.D.Disk.view c.args.disk.now) c.in_ok-tag.tag c.args.desc.now.versions c.args.horizon c.args.desc.now.extents c.in_ok-blocks.blocks c.reach_lead.new.blocks c.reach_lead.new.at
-    c.in_ok-blocks.ensures.ok (c.in_ok-tag.ensures.ok ∙ c.as_slice.ensures.ok) c.reach_lead.ensures.end c.in_ok-reach_lead.ensures.ok f exposed
+    c.in_ok-blocks.ensures.ok (c.in_ok-tag.ensures.ok ∙ c.as_slice.ensures.ok) c.reach_lead.ensures.state c.in_ok-reach_lead.ensures.ok f exposed
 
 pub returns-clause-kept : goal.returns-clause-kept
 returns-clause-kept g c = λ f b exposed bad.
     sym (ap (misfit_from f) c.in_ok-blocks.ensures.ok) ∙ sym (c.in_ok-reach_lead.ensures.ok.misfit f exposed)
-    ∙ sym (seen_misfit c.in_ok-tag.tag c.reach_lead.new.blocks c.reach_lead.new.at c.reach_lead.ensures.end f) ∙ bad
+    ∙ sym (seen_misfit c.in_ok-tag.tag c.reach_lead.new.blocks c.reach_lead.new.at c.reach_lead.ensures.state f) ∙ bad

@@ -1,5 +1,5 @@
 use Rattle.std.proofs.Common.{◌+◌, refl, sym, subst}
-use Rattle.strat_array.proofs.SearchLemmas.{err_of}
+use Rattle.strat_base.proofs.ResultFacts.{err_of}
 use Rattle.strat_level.specs.Memtable.{ItemList}
 use Rattle.strat_promote.specs.Promotions.{inputs_given}
 use Rattle.strat_promote.specs.Stages.{stage_consumed}

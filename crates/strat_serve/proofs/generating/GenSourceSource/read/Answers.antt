@@ -1,5 +1,5 @@
 use Rattle.std.proofs.Common.{◌≡◌, ◌-◌, List, ℕ, suc, length, drop, take, min, ap, ◌∙◌}
-use Rattle.strat_recovery.specs.Workload.{changes_from}
+use Rattle.def_texts.specs.Workload.{changes_from}
 use Rattle.strat_serve.specs.Generated.{frame_bytes_from}
 use Rattle.strat_serve.proofs.GeneratedLemmas.{gives_front, none_follows, all_behind}
 use Rattle.strat_serve.proofs.generating.GenSourceSource.read.Goals as goal

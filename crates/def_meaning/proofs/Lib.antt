@@ -1,0 +1,3 @@
+pub mod RowLemmas
+pub mod StateTableLemmas
+pub mod TableOverLemmas

@@ -1,0 +1,3 @@
+pub mod Settings
+pub mod StateTable
+pub mod TableOver

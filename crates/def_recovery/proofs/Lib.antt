@@ -1,0 +1,5 @@
+pub mod AskedLemmas
+pub mod BadLemmas
+pub mod HeadLemmas
+pub mod OpeningLemmas
+pub mod PassedLemmas

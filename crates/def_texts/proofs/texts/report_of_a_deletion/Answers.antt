@@ -1,0 +1,7 @@
+use Rattle.std.proofs.Common.{refl}
+use Rattle.std.specs.Fmt.{digits}
+use Rattle.def_texts.proofs.texts.report_of_a_deletion.Goals as goal
+
+pub returns : goal.returns
+unfolding digits
+returns c = refl

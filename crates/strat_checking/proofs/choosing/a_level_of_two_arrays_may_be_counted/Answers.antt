@@ -1,5 +1,0 @@
-use Rattle.std.proofs.Common.{refl}
-use Rattle.strat_checking.proofs.choosing.a_level_of_two_arrays_may_be_counted.Goals as goal
-
-pub returns : goal.returns
-returns c = record { ok = record { ascending = refl; disjoint = refl } }

@@ -1,5 +1,0 @@
-use Rattle.strat_format.proofs.ChainLemmas.{chain_read}
-use Rattle.strat_format.proofs.reading.chains_are_read_as_written.Goals as goal
-
-pub returns : goal.returns
-returns c = chain_read

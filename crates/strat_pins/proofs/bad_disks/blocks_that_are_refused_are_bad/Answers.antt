@@ -1,5 +1,0 @@
-use Rattle.strat_pins.proofs.BadDiskLemmas.{refused_recovers, one_is_bad}
-use Rattle.strat_pins.proofs.bad_disks.blocks_that_are_refused_are_bad.Goals as goal
-
-pub returns : goal.returns
-returns c = record { found = refused_recovers; ok = one_is_bad }

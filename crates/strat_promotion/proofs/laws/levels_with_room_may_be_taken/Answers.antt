@@ -1,8 +1,0 @@
-use Rattle.strat_promotion.proofs.CutLemmas.{takeable, shallow_taken}
-use Rattle.strat_promotion.proofs.laws.levels_with_room_may_be_taken.Goals as goal
-
-pub returns : goal.returns
-returns c = record {
-  takes = λ s j is least most room. takeable s is j least most room;
-  shallow = λ j levels. shallow_taken j levels;
-}

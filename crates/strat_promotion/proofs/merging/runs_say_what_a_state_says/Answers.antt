@@ -1,5 +1,0 @@
-use Rattle.strat_promotion.proofs.MergingLemmas.{runs_said}
-use Rattle.strat_promotion.proofs.merging.runs_say_what_a_state_says.Goals as goal
-
-pub returns : goal.returns
-returns c = λ s taken key u. runs_said s taken key u

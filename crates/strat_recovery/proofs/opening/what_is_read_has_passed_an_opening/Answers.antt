@@ -1,5 +1,0 @@
-use Rattle.strat_recovery.proofs.PassedLemmas.{read_passes}
-use Rattle.strat_recovery.proofs.opening.what_is_read_has_passed_an_opening.Goals as goal
-
-pub returns : goal.returns
-returns c = read_passes

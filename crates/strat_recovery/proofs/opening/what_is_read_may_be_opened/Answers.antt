@@ -1,5 +1,0 @@
-use Rattle.strat_recovery.proofs.OpeningLemmas.{read_openable}
-use Rattle.strat_recovery.proofs.opening.what_is_read_may_be_opened.Goals as goal
-
-pub returns : goal.returns
-returns c = read_openable

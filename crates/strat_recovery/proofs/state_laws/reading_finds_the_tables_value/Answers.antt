@@ -1,5 +1,0 @@
-use Rattle.strat_recovery.proofs.StateTableLemmas.{read_same}
-use Rattle.strat_recovery.proofs.state_laws.reading_finds_the_tables_value.Goals as goal
-
-pub returns : goal.returns
-returns c = record { ok = read_same }

@@ -1,5 +1,0 @@
-use Rattle.strat_recovery.proofs.TableOverLemmas.{fresh_over}
-use Rattle.strat_recovery.proofs.table_laws.new_tables_are_over_no_entry.Goals as goal
-
-pub returns : goal.returns
-returns c = fresh_over

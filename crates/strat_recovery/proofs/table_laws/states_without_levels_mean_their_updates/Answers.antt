@@ -1,5 +1,0 @@
-use Rattle.strat_recovery.proofs.TableOverLemmas.{living_rows, state_over}
-use Rattle.strat_recovery.proofs.table_laws.states_without_levels_mean_their_updates.Goals as goal
-
-pub returns : goal.returns
-returns c = record { rows = λ s sound. living_rows s sound.formed; ok = state_over }

@@ -1,7 +1,0 @@
-use Rattle.std.proofs.Common.{refl}
-use Rattle.std.specs.Fmt.{digits}
-use Rattle.strat_recovery.proofs.texts.report_of_staged_settings.Goals as goal
-
-pub returns : goal.returns
-unfolding digits
-returns c = refl

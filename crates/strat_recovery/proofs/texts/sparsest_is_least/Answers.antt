@@ -1,6 +1,0 @@
-use Rattle.std.proofs.Common.{refl}
-use Rattle.strat_recovery.proofs.TextLemmas.{sparsest_is_first}
-use Rattle.strat_recovery.proofs.texts.sparsest_is_least.Goals as goal
-
-pub returns : goal.returns
-returns c = record { none = refl; ok = sparsest_is_first }

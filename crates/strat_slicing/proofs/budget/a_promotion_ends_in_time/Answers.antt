@@ -1,8 +1,0 @@
-use Rattle.strat_slicing.proofs.BudgetLemmas.{in_time, last_takes_all}
-use Rattle.strat_slicing.proofs.budget.a_promotion_ends_in_time.Goals as goal
-
-pub returns : goal.returns
-returns c = record {
-  room = λ mem fill sum b counts is few high all. in_time mem fill sum b counts high is few all;
-  last = last_takes_all;
-}

@@ -1,5 +1,0 @@
-use Rattle.strat_slicing.proofs.BudgetLemmas.{begun, goes_on}
-use Rattle.strat_slicing.proofs.budget.a_slice_leaves_a_promotion_on_time.Goals as goal
-
-pub returns : goal.returns
-returns c = record { begun = begun; more = goes_on }

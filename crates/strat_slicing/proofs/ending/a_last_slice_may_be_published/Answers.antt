@@ -1,5 +1,0 @@
-use Rattle.strat_slicing.proofs.LastLemmas.{done_leaves, done_paid}
-use Rattle.strat_slicing.proofs.ending.a_last_slice_may_be_published.Goals as goal
-
-pub returns : goal.returns
-returns c = record { says = done_leaves; paid = done_paid }

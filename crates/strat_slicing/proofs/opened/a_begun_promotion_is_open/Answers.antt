@@ -1,5 +1,0 @@
-use Rattle.strat_slicing.proofs.BegunLemmas.{is_begun_of, begun_is_open, begun_whole, begun_numbers}
-use Rattle.strat_slicing.proofs.opened.a_begun_promotion_is_open.Goals as goal
-
-pub returns : goal.returns
-returns c = record { begun = is_begun_of; ok = begun_is_open; whole = begun_whole; numbers = begun_numbers }

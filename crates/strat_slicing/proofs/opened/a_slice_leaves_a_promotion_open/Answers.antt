@@ -1,8 +1,0 @@
-use Rattle.strat_slicing.proofs.OpenedLemmas.{sliced_open}
-use Rattle.strat_slicing.proofs.opened.a_slice_leaves_a_promotion_open.Goals as goal
-
-pub returns : goal.returns
-returns g c = record {
-  ok = λ old new. sliced_open _ _;
-  budget = λ old new job o q space most slice. slice.most;
-}

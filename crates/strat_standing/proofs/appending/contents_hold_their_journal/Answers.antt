@@ -1,8 +1,0 @@
-use Rattle.std.proofs.Common.{refl}
-use Rattle.strat_recovery.proofs.StateTableLemmas.{stays_sound}
-use Rattle.strat_standing.specs.Contents.{contents_state}
-use Rattle.strat_standing.proofs.AppendLemmas.{stands_journal}
-use Rattle.strat_standing.proofs.appending.contents_hold_their_journal.Goals as goal
-
-pub returns : goal.returns
-returns g c = record { stands = λ d. stands_journal _; state = λ x change. refl; sound = λ x change. stays_sound (contents_state x) change }

@@ -1,5 +1,0 @@
-use Rattle.strat_standing.proofs.FreeLemmas.{blocks_kept}
-use Rattle.strat_standing.proofs.free_blocks.blocks_in_use_keep_their_entries.Goals as goal
-
-pub returns : goal.returns
-returns c = blocks_kept

@@ -1,5 +1,0 @@
-use Rattle.strat_standing.proofs.FreeLemmas.{read_trail, read_stands}
-use Rattle.strat_standing.proofs.free_blocks.reads_keep_contents.Goals as goal
-
-pub returns : goal.returns
-returns g c = record { trail = λ old new x. read_trail x _ _; stands = λ old new x. read_stands x _ _ }

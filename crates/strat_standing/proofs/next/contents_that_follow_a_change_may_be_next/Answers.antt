@@ -1,8 +1,0 @@
-use Rattle.strat_standing.proofs.ComputedLemmas.{follows_next, follows_again}
-use Rattle.strat_standing.proofs.next.contents_that_follow_a_change_may_be_next.Goals as goal
-
-pub returns : goal.returns
-returns g = record {
-  ok = follows_next;
-  twice = λ f g c d old mid new made more taken kept from rest m n some. follows_again f g old mid made taken kept m c d new more from rest n some;
-}

@@ -1,5 +1,0 @@
-use Rattle.strat_standing.proofs.OccupiedLemmas.{next_space, blocks_published}
-use Rattle.strat_standing.proofs.occupied.a_publication_gives_the_old_blocks_back.Goals as goal
-
-pub returns : goal.returns
-returns c = record { same = next_space; ok = blocks_published }

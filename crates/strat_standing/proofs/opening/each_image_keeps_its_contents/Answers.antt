@@ -1,5 +1,0 @@
-use Rattle.strat_standing.proofs.GateLemmas.{each_keeps}
-use Rattle.strat_standing.proofs.opening.each_image_keeps_its_contents.Goals as goal
-
-pub returns : goal.returns
-returns g c = λ old new. each_keeps _ _

@@ -1,6 +1,0 @@
-use Rattle.std.proofs.Common.{refl}
-use Rattle.strat_standing.proofs.WorkedLemmas.{new_stands}
-use Rattle.strat_standing.proofs.worked.new_contents_stand.Goals as goal
-
-pub returns : goal.returns
-returns c = record { stands = new_stands; log = record { mem = refl; active = refl; list = refl } }

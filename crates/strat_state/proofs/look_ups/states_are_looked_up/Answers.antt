@@ -1,5 +1,0 @@
-use Rattle.strat_state.proofs.LookUpLemmas.{looked_up_read, looked_up_value}
-use Rattle.strat_state.proofs.look_ups.states_are_looked_up.Goals as goal
-
-pub returns : goal.returns
-returns c = record { same = looked_up_read; found = looked_up_value }
