@@ -22,5 +22,7 @@ pub const PAIRS_MAX: usize = 256;
 pub const BODY_MAX: usize = 2048;
 /// Levels below level 0: with the smallest level 0 the deepest holds `4 * 2^22 = 2^24` leads.
 pub const LEVELS: usize = 22;
+/// Most entries of one array.
+pub const ENTRIES_MAX: u32 = 33_554_432;
 /// Blocks of arrays that are kept in memory.
 pub const CACHED_BLOCKS: usize = 256;

@@ -18,6 +18,7 @@ ghost use Rattle.strat_memory.specs.Belonging.{UsesJust, are_new};
 use def_bytes::first_free;
 use std::alloc::Global;
 use std::collections::BTreeSet;
+use strat_base::limits::{ENTRIES_MAX, VERSIONS_MAX};
 use strat_base::{ArrayDesc, Extent, Extents, LevelDesc, NoMemory, Version};
 use strat_extent::Space;
 
@@ -111,7 +112,9 @@ pub(crate) fn has_few_publications(
         && nat_le next_array (16384 * changes + 1) && nat_le written (33554432 * changes)) }
 {
     let changes = changes as u64;
-    generation <= changes + 1 && next_array <= 16384 * changes + 1 && written <= 33554432 * changes
+    generation <= changes + 1
+        && next_array <= VERSIONS_MAX as u64 * changes + 1
+        && written <= ENTRIES_MAX as u64 * changes
 }
 
 /// Whether each version of a tag is below a horizon.

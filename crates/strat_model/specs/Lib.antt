@@ -1,4 +1,5 @@
 pub mod Ended
+pub mod Faults
 pub mod Pairs
 pub mod Request
 pub mod Table

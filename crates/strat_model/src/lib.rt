@@ -3,6 +3,7 @@
 
 mod commands;
 mod ended;
+mod faults;
 pub mod laws;
 mod plain_pairs;
 mod plain_rows;

@@ -22,11 +22,9 @@ use crate::obstacle::{Obstacle, Unfit};
 use strat_arena::{Arena, Item};
 use strat_array::ArrayWriter;
 use strat_base::Entry;
+use strat_base::limits::ENTRIES_MAX;
 use strat_disk::Disk;
 use strat_extent::Space;
-
-/// The most entries of an array.
-const ENTRIES_MAX: u32 = 33_554_432;
 
 /// Whether an array of so many entries may have one more, where so many blocks are free: no store comes so far that it may
 /// not.

@@ -101,12 +101,6 @@ AreAnsweredBy (body ∷ bodies) (response ∷ responses) =
     RespondsTo body response × AreAnsweredBy bodies responses
 AreAnsweredBy _ _ = ⊥
 
--- the fault that a reply tells of, if it tells of one: the device failed, or a block is damaged
-abbrev pub fault_told : Reply → Option Fault
-fault_told (reply.Refused why.DeviceFault) = Some fault.Device
-fault_told (reply.Refused (why.Damaged block)) = Some (fault.Damaged block)
-fault_told _ = None
-
 -- over a command a count of faults rises where it met a fault of the device, and stays elsewhere
 pub record FailsAsMet (before now : ℕ) (met : Option Fault) : Type 0 where
   pub rose : met ≡ Some fault.Device → Rose before now
@@ -372,11 +366,6 @@ pub record Served (budget : ℕ) (how : Ended) (before now : World) : Type 0 whe
   -- where the disk exposes a content that shows a table, the session is a run of that table
   pub follows : (f : Image) (t : Table) → Exposes before.disk f → ShowsTable f t
       → FollowsRun before.disk now.disk f t session
-
--- how a run ends whose store met a fault
-abbrev pub broken_by : Fault → Ended
-broken_by fault.Device = ended.Device
-broken_by (fault.Damaged block) = ended.Damaged block
 
 -- a store was opened, on a disk that did not fail
 pub record HasOpened (before : DiskView) (before_faults : ℕ) (now : DiskView) (now_faults : ℕ)

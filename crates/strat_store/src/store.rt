@@ -39,6 +39,7 @@ use crate::scan::scan_range;
 use std::alloc::Global;
 use std::marker::Model;
 use strat_array::{Cache, Scratch};
+use strat_base::limits::CACHED_BLOCKS;
 use strat_base::{Change, NoMemory, PairBuf, Version};
 use strat_cursor::Desks;
 use strat_disk::Disk;
@@ -46,9 +47,6 @@ use strat_memory::memory::Memory;
 use strat_memory::open_store::OpenStore;
 use strat_model::{Command, Refusal, Reply};
 use strat_open::{AttachFault, open};
-
-/// Most blocks of arrays that are cached: 1 MiB.
-const CACHED_MAX: usize = 256;
 
 /// An open store. It is seen as what it holds of a disk: the newest superblock and its slot, the manifest and the blocks of its
 /// chain, the journal, the versions and level 0, the levels, the blocks that are cached, and whether it is spent: after a fault
@@ -274,7 +272,7 @@ fn answer<D: Disk>(
 fn take_read_buffers(alloc: Global) -> Result<(Cache, Scratch, Desks), NoMemory>
     ensures ok { IfOk result (λ room. room.0 ≡ empty_cache 256) }
 {
-    let cache = Cache::new(alloc, CACHED_MAX)?;
+    let cache = Cache::new(alloc, CACHED_BLOCKS)?;
     let scratch = Scratch::new(alloc)?;
     let desks = Desks::new(alloc)?;
     Ok((cache, scratch, desks))
