@@ -11,6 +11,7 @@ ghost use Rattle.castle.specs.Working.{EndsWorkload, LeavesWorkload, SendsSummar
 
 use crate::program::BUDGET;
 use std::alloc::Global;
+use strat_base::limits::{CHANGES_MAX, VERSIONS_MAX};
 use strat_disk::Disk;
 use strat_io::Sink;
 use strat_model::Ended;
@@ -20,12 +21,6 @@ use strat_store::{FormatFault, format};
 
 /// Changes per journal region of a workload's store.
 const MEM: u32 = 64;
-
-/// Most changes of a workload's store.
-const CHANGES: u32 = 16_777_216;
-
-/// Most versions of a workload's store.
-const VERSIONS: u32 = 16_384;
 
 /// Makes a new store, and serves a workload of so many changes to it, drawn from a seed.
 fn serve_workload<D: Disk>(alloc: Global, disk: &mut D, seed: u64, count: u32) -> Ended
@@ -37,7 +32,7 @@ fn serve_workload<D: Disk>(alloc: Global, disk: &mut D, seed: u64, count: u32) -
     ensures cause { result ≡ Ended.Device → Rose (D.faults disk.old) (D.faults disk.new) }
     ensures faults { result ≢ Ended.Device → D.faults disk.new ≡ D.faults disk.old }
 {
-    match format(alloc, disk, MEM, CHANGES, VERSIONS) {
+    match format(alloc, disk, MEM, CHANGES_MAX, VERSIONS_MAX) {
         Ok(()) => {}
         Err(FormatFault::NoMemory) => return Ended::NoMemory,
         Err(FormatFault::Device) => return Ended::Device,

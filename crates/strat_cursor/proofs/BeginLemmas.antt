@@ -12,15 +12,15 @@ use Rattle.def_crash.specs.Moments.{DiskView}
 use Rattle.strat_cursor.specs.Looking.{LooksThrough, HaveFewBlocks}
 use Rattle.strat_cursor.specs.Picking.{IsOfView, AreSourcesOf}
 use Rattle.strat_cursor.specs.Sources.{MayBeRead, MayBeBegun, IsSettledAt, IsUpTo, StandsIn, content_of}
-use Rattle.strat_cursor.specs.Turning.{AreSettled, AreUpTo, sum_over}
+use Rattle.strat_cursor.specs.Emitting.{AreSettled, AreUpTo, sum_over}
 use Rattle.strat_cursor.specs.Views.{IsReadable, arrays_read}
-use Rattle.strat_cursor.specs.declared.desks.Desk.{Desk}
+use Rattle.strat_cursor.specs.declared.scan_buffers.SourcePosition.{SourcePosition}
 use Rattle.strat_cursor.specs.declared.sources.Source.{Source}
 use Rattle.strat_cursor.specs.declared.sources.Source.TheVariants as source
 use Rattle.strat_cursor.specs.declared.view.View.{View}
 use Rattle.strat_cursor.proofs.PickLemmas.{each_more, got_low}
 use Rattle.strat_cursor.proofs.ThroughLemmas.{still_same, through_refl, through_trans}
-use Rattle.strat_cursor.proofs.TurnLemmas.{stands_still}
+use Rattle.strat_cursor.proofs.EmitLemmas.{stands_still}
 
 -- a source of a view may begin, after others did
 pub may_begin : (old now : DiskView) (view : View) (v : ℕ) (f : Image) (next : ℕ) (c d : Blocks) (s : Source) → IsOfView view v s → LooksThrough old now (arrays_read view v) c d → old.content ≡ Some f → IsReadable f next view v c → MayBeBegun f d s
@@ -45,33 +45,33 @@ in_order view v f next c (source.Array a) of may =
     ap (λ (o : Option (List Entry)). is_ascending (unwrap_or o [])) entries.1 ∙ entries.2
 
 -- the sources below a number have begun
-pub record Beginning (old now : DiskView) (view : View) (v : ℕ) (lo : List ℕ) (sources : List Source) (c d : Blocks) (i : ℕ) (desks : List Desk) : Type 0 where
+pub record Beginning (old now : DiskView) (view : View) (v : ℕ) (lo : List ℕ) (sources : List Source) (c d : Blocks) (i : ℕ) (positions : List SourcePosition) : Type 0 where
   pub looks : LooksThrough old now (arrays_read view v) c d
-  pub settled : (j : ℕ) (e : Desk) → j < i → slice_get desks j ≡ Some e → (s : Source) → slice_get sources j ≡ Some s → MayBeRead view.pool.now s × IsSettledAt view.tree.now.parents v view.pool.now s e
-  pub up : (f : Image) (next : ℕ) → old.content ≡ Some f → IsReadable f next view v c → (j : ℕ) (e : Desk) → j < i → slice_get desks j ≡ Some e → (s : Source) → slice_get sources j ≡ Some s
+  pub settled : (j : ℕ) (e : SourcePosition) → j < i → slice_get positions j ≡ Some e → (s : Source) → slice_get sources j ≡ Some s → MayBeRead view.pool.now s × IsSettledAt view.tree.now.parents v view.pool.now s e
+  pub up : (f : Image) (next : ℕ) → old.content ≡ Some f → IsReadable f next view v c → (j : ℕ) (e : SourcePosition) → j < i → slice_get positions j ≡ Some e → (s : Source) → slice_get sources j ≡ Some s
       → IsUpTo f view.pool.now view.tree.now.parents v lo [] s e × StandsIn f d s e.scratch
 
-pub begins : (v0 : DiskView) (view : View) (v : ℕ) (lo : List ℕ) (sources : List Source) (c : Blocks) (desks : List Desk) → Beginning v0 v0 view v lo sources c c 0 desks
-begins v0 view v lo sources c desks = record {
+pub begins : (v0 : DiskView) (view : View) (v : ℕ) (lo : List ℕ) (sources : List Source) (c : Blocks) (positions : List SourcePosition) → Beginning v0 v0 view v lo sources c c 0 positions
+begins v0 view v lo sources c positions = record {
   looks = through_refl v0 (arrays_read view v) c;
   settled = λ j e low at s there. absurd (omega (arith, low));
   up = λ f next exposed may j e low at s there. absurd (omega (arith, low));
 }
 
-module _ (old now new : DiskView) (view : View) (v : ℕ) (lo : List ℕ) (sources : List Source) (c d g : Blocks) (i : ℕ) (desks : List Desk) (s : Source) (e : Desk) (are : AreSourcesOf view v sources) (here : slice_get sources i ≡ Some s) (begun : Beginning old now view v lo sources c d i desks) where
+module _ (old now new : DiskView) (view : View) (v : ℕ) (lo : List ℕ) (sources : List Source) (c d g : Blocks) (i : ℕ) (positions : List SourcePosition) (s : Source) (e : SourcePosition) (are : AreSourcesOf view v sources) (here : slice_get sources i ≡ Some s) (begun : Beginning old now view v lo sources c d i positions) where
   same_source : (t : Source) → slice_get sources i ≡ Some t → t ≡ s
   same_source t at = let both : Some t ≡ Some s = sym at ∙ here in cc
 
   pub begins_more : LooksThrough now new (arrays_read view v) d g → IsSettledAt view.tree.now.parents v view.pool.now s e
       → ((f : Image) → now.content ≡ Some f → MayBeBegun f d s → IsUpTo f view.pool.now view.tree.now.parents v lo [] s e × StandsIn f g s e.scratch)
-      → Beginning old new view v lo sources c g (i + 1) (set desks i e)
+      → Beginning old new view v lo sources c g (i + 1) (set positions i e)
   begins_more looks next_settled next_up = record {
     looks = through_trans old now new (arrays_read view v) c d g begun.looks looks;
     settled =
-        each_more (λ (j : ℕ) (x : Desk). (t : Source) → slice_get sources j ≡ Some t → MayBeRead view.pool.now t × IsSettledAt view.tree.now.parents v view.pool.now t x) desks i e begun.settled
+        each_more (λ (j : ℕ) (x : SourcePosition). (t : Source) → slice_get sources j ≡ Some t → MayBeRead view.pool.now t × IsSettledAt view.tree.now.parents v view.pool.now t x) positions i e begun.settled
         (λ t at. subst (λ (x : Source). MayBeRead view.pool.now x × IsSettledAt view.tree.now.parents v view.pool.now x e) (sym (same_source t at)) ((are.each i s here).read, next_settled));
     up = λ f next exposed may.
-        each_more (λ (j : ℕ) (x : Desk). (t : Source) → slice_get sources j ≡ Some t → IsUpTo f view.pool.now view.tree.now.parents v lo [] t x × StandsIn f g t x.scratch) desks i e
+        each_more (λ (j : ℕ) (x : SourcePosition). (t : Source) → slice_get sources j ≡ Some t → IsUpTo f view.pool.now view.tree.now.parents v lo [] t x × StandsIn f g t x.scratch) positions i e
         (λ j x low at t there.
         let both = begun.up f next exposed may j x low at t there in
         (both.0, stands_still now new (arrays_read view v) f d g t x.scratch looks (begun.looks.disk.same ∙ exposed) may.ids (are.each j t there).there both.1))
@@ -80,44 +80,44 @@ module _ (old now new : DiskView) (view : View) (v : ℕ) (lo : List ℕ) (sourc
         (next_up f (begun.looks.disk.same ∙ exposed) (may_begin old now view v f next c d s (are.each i s here) begun.looks exposed may)));
   }
 
-module _ (old now : DiskView) (view : View) (v : ℕ) (lo : List ℕ) (sources : List Source) (c d : Blocks) (i : ℕ) (desks : List Desk) (are : AreSourcesOf view v sources) (begun : Beginning old now view v lo sources c d i desks) (all : length sources ≤ i) where
-  pub all_settled : length desks ≡ length sources → AreSettled view.tree.now.parents v view.pool.now sources desks
+module _ (old now : DiskView) (view : View) (v : ℕ) (lo : List ℕ) (sources : List Source) (c d : Blocks) (i : ℕ) (positions : List SourcePosition) (are : AreSourcesOf view v sources) (begun : Beginning old now view v lo sources c d i positions) (all : length sources ≤ i) where
+  pub all_settled : length positions ≡ length sources → AreSettled view.tree.now.parents v view.pool.now sources positions
   all_settled same = record { same = same; each = λ j s e at there. begun.settled j e (omega (arith, all, got_low sources j s at)) there s at }
 
-  pub all_up : (f : Image) (next : ℕ) → old.content ≡ Some f → IsReadable f next view v c → AreUpTo f d view.pool.now view.tree.now.parents v lo [] sources desks
+  pub all_up : (f : Image) (next : ℕ) → old.content ≡ Some f → IsReadable f next view v c → AreUpTo f d view.pool.now view.tree.now.parents v lo [] sources positions
   all_up f next exposed may = record {
     ordered = λ j s at. in_order view v f next c s (are.each j s at) may;
     each = λ j s e at there. begun.up f next exposed may j e (omega (arith, all, got_low sources j s at)) there s at;
   }
 
 -- a sum over the sources below a number
-pub sum_first : ℕ → (Source → Desk → ℕ) → List Source → List Desk → ℕ
-sum_first zero h sources desks = 0
-sum_first (suc i) h [] desks = 0
+pub sum_first : ℕ → (Source → SourcePosition → ℕ) → List Source → List SourcePosition → ℕ
+sum_first zero h sources positions = 0
+sum_first (suc i) h [] positions = 0
 sum_first (suc i) h (s ∷ sources) [] = 0
-sum_first (suc i) h (s ∷ sources) (d ∷ desks) = h s d + sum_first i h sources desks
+sum_first (suc i) h (s ∷ sources) (d ∷ positions) = h s d + sum_first i h sources positions
 
-pub sum_begins : (h : Source → Desk → ℕ) (sources : List Source) (desks : List Desk) → sum_first 0 h sources desks ≡ 0
+pub sum_begins : (h : Source → SourcePosition → ℕ) (sources : List Source) (positions : List SourcePosition) → sum_first 0 h sources positions ≡ 0
 unfolding sum_first
-sum_begins h sources desks = refl
+sum_begins h sources positions = refl
 
-pub sum_more : (i : ℕ) (h : Source → Desk → ℕ) (sources : List Source) (desks : List Desk) (s : Source) (e : Desk) → slice_get sources i ≡ Some s → i < length desks → sum_first (i + 1) h sources (set desks i e) ≡ sum_first i h sources desks + h s e
+pub sum_more : (i : ℕ) (h : Source → SourcePosition → ℕ) (sources : List Source) (positions : List SourcePosition) (s : Source) (e : SourcePosition) → slice_get sources i ≡ Some s → i < length positions → sum_first (i + 1) h sources (set positions i e) ≡ sum_first i h sources positions + h s e
 unfolding sum_first
-sum_more i h [] desks s e here low = absurd (cc)
+sum_more i h [] positions s e here low = absurd (cc)
 sum_more i h (x ∷ sources) [] s e here low = absurd (omega (arith, low))
-sum_more zero h (x ∷ sources) (d ∷ desks) s e here low = let same : x ≡ s = cc in ap (λ (y : Source). h y e + 0) same ∙ omega arith
-sum_more (suc i) h (x ∷ sources) (d ∷ desks) s e here low =
-    let rest = sum_more i h sources desks s e here (omega (arith, low)) in
+sum_more zero h (x ∷ sources) (d ∷ positions) s e here low = let same : x ≡ s = cc in ap (λ (y : Source). h y e + 0) same ∙ omega arith
+sum_more (suc i) h (x ∷ sources) (d ∷ positions) s e here low =
+    let rest = sum_more i h sources positions s e here (omega (arith, low)) in
     let next : suc i + 1 ≡ suc (i + 1) = omega arith in
-    ap (λ (n : ℕ). sum_first n h (x ∷ sources) (d ∷ set desks i e)) next ∙ omega (arith, rest)
+    ap (λ (n : ℕ). sum_first n h (x ∷ sources) (d ∷ set positions i e)) next ∙ omega (arith, rest)
 
-pub sum_ends : (i : ℕ) (h : Source → Desk → ℕ) (sources : List Source) (desks : List Desk) → length sources ≤ i → sum_first i h sources desks ≡ sum_over h sources desks
+pub sum_ends : (i : ℕ) (h : Source → SourcePosition → ℕ) (sources : List Source) (positions : List SourcePosition) → length sources ≤ i → sum_first i h sources positions ≡ sum_over h sources positions
 unfolding sum_first
-sum_ends zero h [] desks all = refl
-sum_ends zero h (x ∷ sources) desks all = absurd (omega (arith, all))
-sum_ends (suc i) h [] desks all = refl
+sum_ends zero h [] positions all = refl
+sum_ends zero h (x ∷ sources) positions all = absurd (omega (arith, all))
+sum_ends (suc i) h [] positions all = refl
 sum_ends (suc i) h (x ∷ sources) [] all = refl
-sum_ends (suc i) h (x ∷ sources) (d ∷ desks) all = ap (λ (n : ℕ). h x d + n) (sum_ends i h sources desks (omega (arith, all)))
+sum_ends (suc i) h (x ∷ sources) (d ∷ positions) all = ap (λ (n : ℕ). h x d + n) (sum_ends i h sources positions (omega (arith, all)))
 
 -- the sources from a number on
 pub sum_rest : (h : Source → ℕ) (sources : List Source) (i : ℕ) (s : Source) → slice_get sources i ≡ Some s → sum_by h (drop i sources) ≡ h s + sum_by h (drop (i + 1) sources)

@@ -2,9 +2,9 @@ pub mod RangeLemmas
 pub mod StandLemmas
 pub mod ThroughLemmas
 pub mod SourceLemmas
-pub mod ContestLemmas
+pub mod TournamentLemmas
 pub mod PickLemmas
-pub mod TurnLemmas
+pub mod EmitLemmas
 pub mod SeenLemmas
 pub mod TellLemmas
 pub mod BeginLemmas

@@ -15,7 +15,7 @@ use Rattle.strat_model.specs.Kept.{IsMap}
 use Rattle.strat_model.proofs.MapLemmas.{same_key}
 use Rattle.strat_merge.proofs.OrderLemmas.{lt_then_le, lt_is_gt, lt_le}
 use Rattle.strat_cursor.specs.Ahead.{is_after, is_to_come, range_after}
-use Rattle.strat_cursor.specs.Turning.{is_under}
+use Rattle.strat_cursor.specs.Emitting.{is_under}
 
 -- filters that agree on a list pick the same
 pub filter_same : {X : Type 0} (p q : X → Bool) (xs : List X) → ((x : X) → Among x xs → p x ≡ q x) → filter p xs ≡ filter q xs

@@ -29,14 +29,14 @@ use Rattle.strat_merge.proofs.OrderLemmas.{behind_le, behind_lt, key_le, first_l
 use Rattle.def_state.specs.LookUp.{first_live}
 use Rattle.def_state.specs.Reading.{live_of}
 use Rattle.strat_cursor.specs.Ahead.{is_to_come}
-use Rattle.strat_cursor.specs.Contest.{keyed, head_in, LeadsAll}
+use Rattle.strat_cursor.specs.Contenders.{keyed, head_in, LeadsAll}
 use Rattle.strat_cursor.specs.Sources.{HasHead, StandsIn, content_of, left_at_source, first_at_source, lists_of, entry_held}
-use Rattle.strat_cursor.specs.Turning.{AreSettled, AreUpTo}
-use Rattle.strat_cursor.specs.declared.desks.Desk.{Desk}
+use Rattle.strat_cursor.specs.Emitting.{AreSettled, AreUpTo}
+use Rattle.strat_cursor.specs.declared.scan_buffers.SourcePosition.{SourcePosition}
 use Rattle.strat_cursor.specs.declared.sources.Source.{Source}
 use Rattle.strat_cursor.specs.declared.sources.Source.TheVariants as source
 use Rattle.strat_cursor.proofs.PickLemmas.{got_low, get_within}
-use Rattle.strat_cursor.proofs.TurnLemmas.{head_here}
+use Rattle.strat_cursor.proofs.EmitLemmas.{head_here}
 
 -- in several lists: none finds it, or the first that does
 pub first_none : (parents : Parents) (v : ℕ) (key : List ℕ) (cs : List (List Entry)) → ((i : ℕ) (es : List Entry) → slice_get cs i ≡ Some es → live_of parents es v key ≡ None) → first_live parents cs v key ≡ None
@@ -95,7 +95,7 @@ entry_is None array block index entries held = absurd (cc)
 entry_is (Some kept) array block index entries held = held_has (Some kept) array block entries (λ es. slice_get kept.1 index ≡ slice_get es index) held refl
 
 -- what a source has at hand is the first that it has left
-head_first : (f : Image) (c : Blocks) (pool : List PoolEntry) (s : Source) (d : Desk) → HasHead s d → StandsIn f c s d.scratch → first_at_source pool s d ≡ slice_get (left_at_source f pool s d) 0
+head_first : (f : Image) (c : Blocks) (pool : List PoolEntry) (s : Source) (d : SourcePosition) → HasHead s d → StandsIn f c s d.scratch → first_at_source pool s d ≡ slice_get (left_at_source f pool s d) 0
 head_first f c pool source.None d has stands = refl
 head_first f c pool (source.Zero list) d has stands = sym (drop_first (entries_held pool list.now) d.item)
 head_first f c pool (source.Array a) d has stands =
@@ -110,14 +110,14 @@ head_first f c pool (source.Array a) d has stands =
     ] refl
 
 -- the leader's key is least, and before it in number all keys are greater
-module _ (pool : List PoolEntry) (sources : List Source) (desks : List Desk) (w : ℕ) (e : Entry) (leads : LeadsAll pool sources desks w) (here : head_in pool sources desks w ≡ Some e) where
-  lead_at : (i : ℕ) (h : Entry) → head_in pool sources desks i ≡ Some h → is_ahead (Some (keyed h)) i (Some (keyed e)) w ≡ false
+module _ (pool : List PoolEntry) (sources : List Source) (positions : List SourcePosition) (w : ℕ) (e : Entry) (leads : LeadsAll pool sources positions w) (here : head_in pool sources positions w ≡ Some e) where
+  lead_at : (i : ℕ) (h : Entry) → head_in pool sources positions i ≡ Some h → is_ahead (Some (keyed h)) i (Some (keyed e)) w ≡ false
   lead_at i h at = (λ j. is_ahead (option_map keyed (sym at j)) i (option_map keyed (sym here j)) w) ∙ leads i
 
-  pub lead_le : (i : ℕ) (h : Entry) → head_in pool sources desks i ≡ Some h → is_gt (key_cmp e.key h.key) ≡ false
+  pub lead_le : (i : ℕ) (h : Entry) → head_in pool sources positions i ≡ Some h → is_gt (key_cmp e.key h.key) ≡ false
   lead_le i h at = key_le (keyed e) (keyed h) (behind_le (keyed h) i (keyed e) w (lead_at i h at))
 
-  pub lead_lt : (i : ℕ) (h : Entry) → i < w → head_in pool sources desks i ≡ Some h → is_lt (key_cmp e.key h.key) ≡ true
+  pub lead_lt : (i : ℕ) (h : Entry) → i < w → head_in pool sources positions i ≡ Some h → is_lt (key_cmp e.key h.key) ≡ true
   lead_lt i h low at = go (key_cmp e.key h.key) (behind_lt (keyed h) i (keyed e) w low (lead_at i h at))
     where
       go : (o : Ordering) → is_lt (ordering_then o (nat_cmp 0 0)) ≡ true → is_lt o ≡ true
@@ -125,27 +125,27 @@ module _ (pool : List PoolEntry) (sources : List Source) (desks : List Desk) (w 
       go Equal lt = absurd (true≢false (sym lt))
       go Greater lt = absurd (true≢false (sym lt))
 
-module _ (f : Image) (c : Blocks) (pool : List PoolEntry) (parents : Parents) (tree : IsTree parents) (v : ℕ) (lo last : List ℕ) (sources : List Source) (desks : List Desk) (settled : AreSettled parents v pool sources desks) (up : AreUpTo f c pool parents v lo last sources desks) where
-  -- a source and its desk
-  desk_for : (i : ℕ) (s : Source) → slice_get sources i ≡ Some s → (d : Desk) × (slice_get desks i ≡ Some d)
-  desk_for i s at = get_within desks i (omega (arith, settled.same, got_low sources i s at))
+module _ (f : Image) (c : Blocks) (pool : List PoolEntry) (parents : Parents) (tree : IsTree parents) (v : ℕ) (lo last : List ℕ) (sources : List Source) (positions : List SourcePosition) (settled : AreSettled parents v pool sources positions) (up : AreUpTo f c pool parents v lo last sources positions) where
+  -- a source and its position
+  desk_for : (i : ℕ) (s : Source) → slice_get sources i ≡ Some s → (d : SourcePosition) × (slice_get positions i ≡ Some d)
+  desk_for i s at = get_within positions i (omega (arith, settled.same, got_low sources i s at))
 
   -- what a source says of a key to come is what it has left
-  says : (i : ℕ) (s : Source) (d : Desk) (key : List ℕ) → slice_get sources i ≡ Some s → slice_get desks i ≡ Some d → is_to_come lo last key ≡ true → live_of parents (content_of f pool s) v key ≡ find (is_seen_at parents key v) (left_at_source f pool s d)
+  says : (i : ℕ) (s : Source) (d : SourcePosition) (key : List ℕ) → slice_get sources i ≡ Some s → slice_get positions i ≡ Some d → is_to_come lo last key ≡ true → live_of parents (content_of f pool s) v key ≡ find (is_seen_at parents key v) (left_at_source f pool s d)
   says i s d key at there come = sym (first_is_live parents tree (content_of f pool s) (up.ordered i s at) key v) ∙ sym ((up.each i s d at there).0.same key come)
 
-  first_of : (i : ℕ) (s : Source) (d : Desk) → slice_get sources i ≡ Some s → slice_get desks i ≡ Some d → head_in pool sources desks i ≡ slice_get (left_at_source f pool s d) 0
-  first_of i s d at there = head_here pool sources desks i s d at there ∙ head_first f c pool s d (settled.each i s d at there).1.held (up.each i s d at there).1
+  first_of : (i : ℕ) (s : Source) (d : SourcePosition) → slice_get sources i ≡ Some s → slice_get positions i ≡ Some d → head_in pool sources positions i ≡ slice_get (left_at_source f pool s d) 0
+  first_of i s d at there = head_here pool sources positions i s d at there ∙ head_first f c pool s d (settled.each i s d at there).1.held (up.each i s d at there).1
 
   -- a source whose first key is above a key says nothing of it
-  silent : (i : ℕ) (s : Source) (key : List ℕ) → slice_get sources i ≡ Some s → is_to_come lo last key ≡ true → ((h : Entry) → head_in pool sources desks i ≡ Some h → is_lt (key_cmp key h.key) ≡ true) → live_of parents (content_of f pool s) v key ≡ None
+  silent : (i : ℕ) (s : Source) (key : List ℕ) → slice_get sources i ≡ Some s → is_to_come lo last key ≡ true → ((h : Entry) → head_in pool sources positions i ≡ Some h → is_lt (key_cmp key h.key) ≡ true) → live_of parents (content_of f pool s) v key ≡ None
   silent i s key at come above =
-      let desk = desk_for i s at in
-      let first = first_of i s desk.0 at desk.1 in
-      says i s desk.0 key at desk.1 come
-      ∙ elim (option_cases (head_in pool sources desks i)) [
-        | inl none ↦ none_empty parents v key (left_at_source f pool s desk.0) (sym first ∙ none)
-        | inr some ↦ none_above parents v key (left_at_source f pool s desk.0) some.0 (up.each i s desk.0 at desk.1).0.ordered (sym first ∙ some.1) (above some.0 some.1)
+      let position = desk_for i s at in
+      let first = first_of i s position.0 at position.1 in
+      says i s position.0 key at position.1 come
+      ∙ elim (option_cases (head_in pool sources positions i)) [
+        | inl none ↦ none_empty parents v key (left_at_source f pool s position.0) (sym first ∙ none)
+        | inr some ↦ none_above parents v key (left_at_source f pool s position.0) some.0 (up.each i s position.0 at position.1).0.ordered (sym first ∙ some.1) (above some.0 some.1)
       ]
 
   got_mapped : (i : ℕ) (es : List Entry) → slice_get (map (content_of f pool) sources) i ≡ Some es → (s : Source) × (slice_get sources i ≡ Some s) × (es ≡ content_of f pool s)
@@ -165,35 +165,35 @@ module _ (f : Image) (c : Blocks) (pool : List PoolEntry) (parents : Parents) (t
       go (t ∷ ss) (suc n) there = go ss n there
 
   -- nothing is found of a key that all first keys are above
-  pub none_seen : (key : List ℕ) → is_to_come lo last key ≡ true → ((i : ℕ) (h : Entry) → head_in pool sources desks i ≡ Some h → is_lt (key_cmp key h.key) ≡ true) → first_live parents (map (content_of f pool) sources) v key ≡ None
+  pub none_seen : (key : List ℕ) → is_to_come lo last key ≡ true → ((i : ℕ) (h : Entry) → head_in pool sources positions i ≡ Some h → is_lt (key_cmp key h.key) ≡ true) → first_live parents (map (content_of f pool) sources) v key ≡ None
   none_seen key come above = first_none parents v key (map (content_of f pool) sources) (λ i es at.
       let s = got_mapped i es at in
       ap (λ (l : List Entry). live_of parents l v key) s.2 ∙ silent i s.0 key s.1 come (above i))
 
-  module _ (w : ℕ) (e : Entry) (leads : LeadsAll pool sources desks w) (here : head_in pool sources desks w ≡ Some e) where
+  module _ (w : ℕ) (e : Entry) (leads : LeadsAll pool sources positions w) (here : head_in pool sources positions w ≡ Some e) where
     path_of : (o : Option Entry) → o ≡ Some e → IfSome o (λ d. IsTrue (is_ancestor parents d.version v)) → is_ancestor parents e.version v ≡ true
     path_of None is path = absurd (cc)
     path_of (Some d) is path = let same : d ≡ e = cc in subst (λ (x : Entry). is_ancestor parents x.version v ≡ true) same path
 
     -- nothing of a key below the leader's
     pub below_seen : (key : List ℕ) → is_to_come lo last key ≡ true → is_lt (key_cmp key e.key) ≡ true → first_live parents (map (content_of f pool) sources) v key ≡ None
-    below_seen key come below = none_seen key come (λ i h at. lt_then_le nat_list_cmp_total key e.key h.key below (lead_le pool sources desks w e leads here i h at))
+    below_seen key come below = none_seen key come (λ i h at. lt_then_le nat_list_cmp_total key e.key h.key below (lead_le pool sources positions w e leads here i h at))
 
     -- and of its key the leader's entry
     pub lead_seen : (s : Source) → slice_get sources w ≡ Some s → is_to_come lo last e.key ≡ true → first_live parents (map (content_of f pool) sources) v e.key ≡ Some e
     lead_seen s at come =
-        let desk = desk_for w s at in
-        let first = sym (first_of w s desk.0 at desk.1) ∙ here in
-        let path : is_ancestor parents e.version v ≡ true = path_of (first_at_source pool s desk.0) (sym (head_here pool sources desks w s desk.0 at desk.1) ∙ here) (settled.each w s desk.0 at desk.1).1.on_path in
+        let position = desk_for w s at in
+        let first = sym (first_of w s position.0 at position.1) ∙ here in
+        let path : is_ancestor parents e.version v ≡ true = path_of (first_at_source pool s position.0) (sym (head_here pool sources positions w s position.0 at position.1) ∙ here) (settled.each w s position.0 at position.1).1.on_path in
         first_at parents v e.key (map (content_of f pool) sources) w (content_of f pool s) e (map_got w s at)
-        (says w s desk.0 e.key at desk.1 come ∙ found_first parents v (left_at_source f pool s desk.0) e first path)
+        (says w s position.0 e.key at position.1 come ∙ found_first parents v (left_at_source f pool s position.0) e first path)
         (λ i es low there.
         let t = got_mapped i es there in
-        ap (λ (l : List Entry). live_of parents l v e.key) t.2 ∙ silent i t.0 e.key t.1 come (λ h hat. lead_lt pool sources desks w e leads here i h low hat))
+        ap (λ (l : List Entry). live_of parents l v e.key) t.2 ∙ silent i t.0 e.key t.1 come (λ h hat. lead_lt pool sources positions w e leads here i h low hat))
 
     -- its key is from lo on
     pub lead_from : (s : Source) → slice_get sources w ≡ Some s → is_from lo e ≡ true
     lead_from s at =
-        let desk = desk_for w s at in
-        let first = sym (first_of w s desk.0 at desk.1) ∙ here in
-        all_at (is_from lo) e (left_at_source f pool s desk.0) (up.each w s desk.0 at desk.1).0.from (get_among (left_at_source f pool s desk.0) 0 e first)
+        let position = desk_for w s at in
+        let first = sym (first_of w s position.0 at position.1) ∙ here in
+        all_at (is_from lo) e (left_at_source f pool s position.0) (up.each w s position.0 at position.1).0.from (get_among (left_at_source f pool s position.0) 0 e first)

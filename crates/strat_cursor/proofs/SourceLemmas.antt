@@ -35,7 +35,7 @@ use Rattle.strat_level.specs.Places.{IsStart}
 use Rattle.strat_cursor.specs.Ahead.{is_after, is_to_come}
 use Rattle.strat_cursor.specs.Looking.{MayBeAsked, LooksThrough, NamesNoBlock}
 use Rattle.strat_cursor.specs.Sources.{PassesUndue, is_due, left_behind, entry_held, lists_of, left_at_source, content_of, first_at_source, StandsIn, IsUpTo, IsSpent, HasHead, arrays_at, steps_left}
-use Rattle.strat_cursor.specs.declared.desks.Desk.{Desk}
+use Rattle.strat_cursor.specs.declared.scan_buffers.SourcePosition.{SourcePosition}
 use Rattle.strat_cursor.specs.declared.sources.Source.{Source}
 use Rattle.strat_cursor.specs.declared.sources.Source.TheVariants as source
 use Rattle.strat_array.specs.Within.{IsNoBlock}
@@ -126,21 +126,21 @@ starts_from entries lo i lawful start =
     ]
 
 module _ (f : Image) (pool : List PoolEntry) (parents : Parents) (v : ℕ) (lo : List ℕ) where
-  up_to : (s : Source) (desk : Desk) → IsBegun parents v lo (content_of f pool s) (left_at_source f pool s desk) → IsUpTo f pool parents v lo [] s desk
-  up_to s desk is = record { same = is.same; ordered = is.ordered; from = is.from }
+  up_to : (s : Source) (position : SourcePosition) → IsBegun parents v lo (content_of f pool s) (left_at_source f pool s position) → IsUpTo f pool parents v lo [] s position
+  up_to s position is = record { same = is.same; ordered = is.ordered; from = is.from }
 
   -- level 0 begins
-  pub zero_begins : (s : Source) (list : _) (desk : Desk) → s ≡ source.Zero list → ListStands pool list.now → PassesUndue parents v [] (filter (is_from lo) (entries_held pool list.now)) (drop desk.item (entries_held pool list.now))
-      → IsUpTo f pool parents v lo [] s desk
-  zero_begins s list desk is stands passes =
-      subst (λ (x : Source). IsUpTo f pool parents v lo [] x desk) (sym is)
-      (up_to (source.Zero list) desk (begun parents v lo (entries_held pool list.now) (drop desk.item (entries_held pool list.now)) stands.ascending passes))
+  pub zero_begins : (s : Source) (list : _) (position : SourcePosition) → s ≡ source.Zero list → ListStands pool list.now → PassesUndue parents v [] (filter (is_from lo) (entries_held pool list.now)) (drop position.item (entries_held pool list.now))
+      → IsUpTo f pool parents v lo [] s position
+  zero_begins s list position is stands passes =
+      subst (λ (x : Source). IsUpTo f pool parents v lo [] x position) (sym is)
+      (up_to (source.Zero list) position (begun parents v lo (entries_held pool list.now) (drop position.item (entries_held pool list.now)) stands.ascending passes))
 
-  pub none_begins : (s : Source) (desk : Desk) → s ≡ source.None → IsUpTo f pool parents v lo [] s desk
-  none_begins s desk is =
-      subst (λ (x : Source). IsUpTo f pool parents v lo [] x desk) (sym is) (record { same = λ key come. refl; ordered = refl; from = refl })
+  pub none_begins : (s : Source) (position : SourcePosition) → s ≡ source.None → IsUpTo f pool parents v lo [] s position
+  none_begins s position is =
+      subst (λ (x : Source). IsUpTo f pool parents v lo [] x position) (sym is) (record { same = λ key come. refl; ordered = refl; from = refl })
 
-  -- the entries from a place on, as a desk has it
+  -- the entries from a place on, as a position has it
   abbrev left_at_desk : ArrayDesc → Bool → Place → List Entry
   left_at_desk a there place = cond there (left_from (lists_of f a) place) []
 
@@ -148,15 +148,15 @@ module _ (f : Image) (pool : List PoolEntry) (parents : Parents) (v : ℕ) (lo :
   left_desk a None p = refl
   left_desk a (Some at) p = refl
 
-  left_stood : (a : ArrayDesc) (r : Option Place) (p : Place) (desk : Desk) → desk.there ≡ is_some r → desk.place ≡ unwrap_or r p → left_at_desk a desk.there desk.place ≡ left_behind (lists_of f a) r
-  left_stood a r p desk there place = (λ j. left_at_desk a (there j) (place j)) ∙ left_desk a r p
+  left_stood : (a : ArrayDesc) (r : Option Place) (p : Place) (position : SourcePosition) → position.there ≡ is_some r → position.place ≡ unwrap_or r p → left_at_desk a position.there position.place ≡ left_behind (lists_of f a) r
+  left_stood a r p position there place = (λ j. left_at_desk a (there j) (place j)) ∙ left_desk a r p
 
   -- an array begins
-  pub array_begins : (old new : DiskView) (s : Source) (a : _) (c d : Blocks) (desk : Desk) (r : Option Place) (p : Place) → s ≡ source.Array a → old.content ≡ Some f → MayBeAsked f c a.now
+  pub array_begins : (old new : DiskView) (s : Source) (a : _) (c d : Blocks) (position : SourcePosition) (r : Option Place) (p : Place) → s ≡ source.Array a → old.content ≡ Some f → MayBeAsked f c a.now
       → ((lists : List (List Entry)) → ArrayStands old.content a.now.id (blocks_of a.now.extents) c None lists → IsTrue (is_ascending (all_in lists)) → PassesUndue parents v [] (filter (is_from lo) (all_in lists)) (left_behind lists r))
-      → Looks old new a.now.id (blocks_of a.now.extents) c d None desk.scratch → desk.there ≡ is_some r → desk.place ≡ unwrap_or r p
-      → IsUpTo f pool parents v lo [] s desk × StandsIn f d s desk.scratch
-  array_begins old new s a c d desk r p is exposed may passes looks there place =
+      → Looks old new a.now.id (blocks_of a.now.extents) c d None position.scratch → position.there ≡ is_some r → position.place ≡ unwrap_or r p
+      → IsUpTo f pool parents v lo [] s position × StandsIn f d s position.scratch
+  array_begins old new s a c d position r p is exposed may passes looks there place =
       let made = array_stands old.content f a.now.id (blocks_of a.now.extents) c may.entries exposed may.read may.cached in
       let lists = made.0 in
       let image : Some made.1.image ≡ Some f = sym made.1.exposed ∙ exposed in
@@ -165,14 +165,14 @@ module _ (f : Image) (pool : List PoolEntry) (parents : Parents) (v : ℕ) (lo :
       let lists_are : lists_of f a.now ≡ lists = ap (λ (o : Option (List (List Entry))). unwrap_or o []) listed in
       let whole : all_in lists ≡ unwrap_or (entries_on f (blocks_of a.now.extents)) [] = made.2 ∙ sym (ap (λ (o : Option (List Entry)). unwrap_or o []) may.read) in
       let up : is_ascending (all_in lists) ≡ true = ap is_ascending made.2 ∙ may.ordered in
-      let left : left_at_desk a.now desk.there desk.place ≡ left_behind lists r = left_stood a.now r p desk there place ∙ ap (λ (l : List (List Entry)). left_behind l r) lists_are in
+      let left : left_at_desk a.now position.there position.place ≡ left_behind lists r = left_stood a.now r p position there place ∙ ap (λ (l : List (List Entry)). left_behind l r) lists_are in
       let is_begun = begun parents v lo (all_in lists) (left_behind lists r) up (passes lists made.1 up) in
-      let here : IsBegun parents v lo (content_of f pool (source.Array a)) (left_at_desk a.now desk.there desk.place) = subst (λ (l : List Entry). IsBegun parents v lo (unwrap_or (entries_on f (blocks_of a.now.extents)) []) l) (sym left) (subst (λ (l : List Entry). IsBegun parents v lo l (left_behind lists r)) whole is_begun) in
-      let after : ArrayStands (Some f) a.now.id (blocks_of a.now.extents) d desk.scratch (lists_of f a.now) =
-      subst (λ (o : Option Image). ArrayStands o a.now.id (blocks_of a.now.extents) d desk.scratch (lists_of f a.now)) (looks.disk.same ∙ exposed)
-      (subst (λ (l : List (List Entry)). ArrayStands new.content a.now.id (blocks_of a.now.extents) d desk.scratch l) (sym lists_are) (stands_after old new a.now.id (blocks_of a.now.extents) c d None desk.scratch lists looks made.1)) in (
-        subst (λ (x : Source). IsUpTo f pool parents v lo [] x desk) (sym is) (up_to (source.Array a) desk here),
-        subst (λ (x : Source). StandsIn f d x desk.scratch) (sym is) after,
+      let here : IsBegun parents v lo (content_of f pool (source.Array a)) (left_at_desk a.now position.there position.place) = subst (λ (l : List Entry). IsBegun parents v lo (unwrap_or (entries_on f (blocks_of a.now.extents)) []) l) (sym left) (subst (λ (l : List Entry). IsBegun parents v lo l (left_behind lists r)) whole is_begun) in
+      let after : ArrayStands (Some f) a.now.id (blocks_of a.now.extents) d position.scratch (lists_of f a.now) =
+      subst (λ (o : Option Image). ArrayStands o a.now.id (blocks_of a.now.extents) d position.scratch (lists_of f a.now)) (looks.disk.same ∙ exposed)
+      (subst (λ (l : List (List Entry)). ArrayStands new.content a.now.id (blocks_of a.now.extents) d position.scratch l) (sym lists_are) (stands_after old new a.now.id (blocks_of a.now.extents) c d None position.scratch lists looks made.1)) in (
+        subst (λ (x : Source). IsUpTo f pool parents v lo [] x position) (sym is) (up_to (source.Array a) position here),
+        subst (λ (x : Source). StandsIn f d x position.scratch) (sym is) after,
       )
 
 -- an entry that is spent is passed over
@@ -220,36 +220,36 @@ there_true last true o spent = (refl, spent)
 there_true last false o spent = absurd spent
 
 module _ (f : Image) (pool : List PoolEntry) (parents : Parents) (v : ℕ) (last : List ℕ) where
-  pub array_there : (s : Source) (a : _) (desk : Desk) → s ≡ source.Array a → HasHead s desk → IsSpent last (first_at_source pool s desk) → (desk.there ≡ true) × HoldsPlace desk.scratch a.now.id desk.place × (desk.place.index < 454) × IsSpent last (entry_held desk.scratch desk.place.index)
-  array_there s a desk is has spent =
-      let has' = subst (λ (x : Source). HasHead x desk) is has in
-      let parts = there_true last desk.there (entry_held desk.scratch desk.place.index) (subst (λ (x : Source). IsSpent last (first_at_source pool x desk)) is spent) in
+  pub array_there : (s : Source) (a : _) (position : SourcePosition) → s ≡ source.Array a → HasHead s position → IsSpent last (first_at_source pool s position) → (position.there ≡ true) × HoldsPlace position.scratch a.now.id position.place × (position.place.index < 454) × IsSpent last (entry_held position.scratch position.place.index)
+  array_there s a position is has spent =
+      let has' = subst (λ (x : Source). HasHead x position) is has in
+      let parts = there_true last position.there (entry_held position.scratch position.place.index) (subst (λ (x : Source). IsSpent last (first_at_source pool x position)) is spent) in
       let both = has' parts.0 in
       (parts.0, both.0, both.1, parts.1)
 
-  pub array_goes : (old new : DiskView) (s : Source) (a : _) (c d : Blocks) (desk after : Desk) (next : Place) (r : Option Place) → s ≡ source.Array a → old.content ≡ Some f → StandsIn f c s desk.scratch → HasHead s desk → IsSpent last (first_at_source pool s desk)
-      → next.block ≡ desk.place.block → next.index ≡ desk.place.index + 1
-      → ((lists : List (List Entry)) → ArrayStands old.content a.now.id (blocks_of a.now.extents) c desk.scratch lists → PassesUndue parents v last (left_from lists next) (left_behind lists r))
-      → Looks old new a.now.id (blocks_of a.now.extents) c d desk.scratch after.scratch → after.there ≡ is_some r → after.place ≡ unwrap_or r desk.place
-      → PassesUndue parents v last (left_at_source f pool s desk) (left_at_source f pool s after) × StandsIn f d s after.scratch
-  array_goes old new s a c d desk after next r is exposed stands has spent block index passes looks there place =
-      let head = array_there s a desk is has spent in
-      let e = spent_there last (entry_held desk.scratch desk.place.index) head.3 in
+  pub array_goes : (old new : DiskView) (s : Source) (a : _) (c d : Blocks) (position after : SourcePosition) (next : Place) (r : Option Place) → s ≡ source.Array a → old.content ≡ Some f → StandsIn f c s position.scratch → HasHead s position → IsSpent last (first_at_source pool s position)
+      → next.block ≡ position.place.block → next.index ≡ position.place.index + 1
+      → ((lists : List (List Entry)) → ArrayStands old.content a.now.id (blocks_of a.now.extents) c position.scratch lists → PassesUndue parents v last (left_from lists next) (left_behind lists r))
+      → Looks old new a.now.id (blocks_of a.now.extents) c d position.scratch after.scratch → after.there ≡ is_some r → after.place ≡ unwrap_or r position.place
+      → PassesUndue parents v last (left_at_source f pool s position) (left_at_source f pool s after) × StandsIn f d s after.scratch
+  array_goes old new s a c d position after next r is exposed stands has spent block index passes looks there place =
+      let head = array_there s a position is has spent in
+      let e = spent_there last (entry_held position.scratch position.place.index) head.3 in
       let lists = lists_of f a.now in
-      let now : ArrayStands old.content a.now.id (blocks_of a.now.extents) c desk.scratch lists =
-      subst (λ (o : Option Image). ArrayStands o a.now.id (blocks_of a.now.extents) c desk.scratch lists) (sym exposed) (subst (λ (x : Source). StandsIn f c x desk.scratch) is stands) in
-      let split : left_from lists desk.place ≡ e.0 ∷ left_from lists next =
-      left_held old.content a.now.id (blocks_of a.now.extents) c desk.scratch lists now desk.place e.0 head.1 (held_is_entry desk.scratch desk.place.index e.0 e.1) next block index in
-      let first : PassesUndue parents v last (left_from lists desk.place) (left_from lists next) =
-      passes_one parents v last (left_from lists desk.place) (left_from lists next) e.0 (subst (λ (l : List Entry). PassesUndue parents v last (left_from lists desk.place) l) split (passes_none parents v last (left_from lists desk.place))) (spent_off parents v last e.0 e.2) in
-      let both = passes_trans parents v last (left_from lists desk.place) (left_from lists next) (left_behind lists r) first (passes lists now) in
-      let before : left_at_source f pool (source.Array a) desk ≡ left_from lists desk.place = ap (λ (b : Bool). cond b (left_from lists desk.place) []) head.0 in
-      let behind : left_at_source f pool (source.Array a) after ≡ left_behind lists r = left_stood f pool parents v last a.now r desk.place after there place in
-      let here : PassesUndue parents v last (left_at_source f pool (source.Array a) desk) (left_at_source f pool (source.Array a) after) =
-      subst (λ (l : List Entry). PassesUndue parents v last (left_at_source f pool (source.Array a) desk) l) (sym behind) (subst (λ (l : List Entry). PassesUndue parents v last l (left_behind lists r)) (sym before) both) in
+      let now : ArrayStands old.content a.now.id (blocks_of a.now.extents) c position.scratch lists =
+      subst (λ (o : Option Image). ArrayStands o a.now.id (blocks_of a.now.extents) c position.scratch lists) (sym exposed) (subst (λ (x : Source). StandsIn f c x position.scratch) is stands) in
+      let split : left_from lists position.place ≡ e.0 ∷ left_from lists next =
+      left_held old.content a.now.id (blocks_of a.now.extents) c position.scratch lists now position.place e.0 head.1 (held_is_entry position.scratch position.place.index e.0 e.1) next block index in
+      let first : PassesUndue parents v last (left_from lists position.place) (left_from lists next) =
+      passes_one parents v last (left_from lists position.place) (left_from lists next) e.0 (subst (λ (l : List Entry). PassesUndue parents v last (left_from lists position.place) l) split (passes_none parents v last (left_from lists position.place))) (spent_off parents v last e.0 e.2) in
+      let both = passes_trans parents v last (left_from lists position.place) (left_from lists next) (left_behind lists r) first (passes lists now) in
+      let before : left_at_source f pool (source.Array a) position ≡ left_from lists position.place = ap (λ (b : Bool). cond b (left_from lists position.place) []) head.0 in
+      let behind : left_at_source f pool (source.Array a) after ≡ left_behind lists r = left_stood f pool parents v last a.now r position.place after there place in
+      let here : PassesUndue parents v last (left_at_source f pool (source.Array a) position) (left_at_source f pool (source.Array a) after) =
+      subst (λ (l : List Entry). PassesUndue parents v last (left_at_source f pool (source.Array a) position) l) (sym behind) (subst (λ (l : List Entry). PassesUndue parents v last l (left_behind lists r)) (sym before) both) in
       let stays : ArrayStands (Some f) a.now.id (blocks_of a.now.extents) d after.scratch lists =
-      subst (λ (o : Option Image). ArrayStands o a.now.id (blocks_of a.now.extents) d after.scratch lists) (looks.disk.same ∙ exposed) (stands_after old new a.now.id (blocks_of a.now.extents) c d desk.scratch after.scratch lists looks now) in (
-        subst (λ (x : Source). PassesUndue parents v last (left_at_source f pool x desk) (left_at_source f pool x after)) (sym is) here,
+      subst (λ (o : Option Image). ArrayStands o a.now.id (blocks_of a.now.extents) d after.scratch lists) (looks.disk.same ∙ exposed) (stands_after old new a.now.id (blocks_of a.now.extents) c d position.scratch after.scratch lists looks now) in (
+        subst (λ (x : Source). PassesUndue parents v last (left_at_source f pool x position) (left_at_source f pool x after)) (sym is) here,
         subst (λ (x : Source). StandsIn f d x after.scratch) (sym is) stays,
       )
 
@@ -263,18 +263,18 @@ names_source content s a b is none =
     subst (λ (x : Source). NamesNoBlock content (arrays_at x) b) (sym is) (names_one content (a.now ∷ []) a.now b (only_one a.now) none)
 
 -- level 0 goes on
-pub zero_goes : (f : Image) (pool : List PoolEntry) (parents : Parents) (v : ℕ) (last : List ℕ) (s : Source) (list : _) (desk after : Desk) → s ≡ source.Zero list → IsSpent last (first_at_source pool s desk)
-    → PassesUndue parents v last (drop (desk.item + 1) (entries_held pool list.now)) (drop after.item (entries_held pool list.now)) → PassesUndue parents v last (left_at_source f pool s desk) (left_at_source f pool s after)
-zero_goes f pool parents v last s list desk after is spent passes =
-    subst (λ (x : Source). PassesUndue parents v last (left_at_source f pool x desk) (left_at_source f pool x after)) (sym is)
-    (items_go parents v last (entries_held pool list.now) desk.item after.item (subst (λ (x : Source). IsSpent last (first_at_source pool x desk)) is spent) passes)
+pub zero_goes : (f : Image) (pool : List PoolEntry) (parents : Parents) (v : ℕ) (last : List ℕ) (s : Source) (list : _) (position after : SourcePosition) → s ≡ source.Zero list → IsSpent last (first_at_source pool s position)
+    → PassesUndue parents v last (drop (position.item + 1) (entries_held pool list.now)) (drop after.item (entries_held pool list.now)) → PassesUndue parents v last (left_at_source f pool s position) (left_at_source f pool s after)
+zero_goes f pool parents v last s list position after is spent passes =
+    subst (λ (x : Source). PassesUndue parents v last (left_at_source f pool x position) (left_at_source f pool x after)) (sym is)
+    (items_go parents v last (entries_held pool list.now) position.item after.item (subst (λ (x : Source). IsSpent last (first_at_source pool x position)) is spent) passes)
 
-pub zero_steps : (pool : List PoolEntry) (parents : Parents) (v : ℕ) (last : List ℕ) (s : Source) (list : _) (desk after : Desk) → s ≡ source.Zero list → IsSpent last (first_at_source pool s desk) → desk.item + 1 ≤ after.item → steps_left pool s after < steps_left pool s desk
-zero_steps pool parents v last s list desk after is spent further =
-    subst (λ (x : Source). steps_left pool x after < steps_left pool x desk) (sym is)
-    (let low : desk.item < length (entries_held pool list.now) = item_low parents v last (entries_held pool list.now) desk.item after.item (subst (λ (x : Source). IsSpent last (first_at_source pool x desk)) is spent) in
+pub zero_steps : (pool : List PoolEntry) (parents : Parents) (v : ℕ) (last : List ℕ) (s : Source) (list : _) (position after : SourcePosition) → s ≡ source.Zero list → IsSpent last (first_at_source pool s position) → position.item + 1 ≤ after.item → steps_left pool s after < steps_left pool s position
+zero_steps pool parents v last s list position after is spent further =
+    subst (λ (x : Source). steps_left pool x after < steps_left pool x position) (sym is)
+    (let low : position.item < length (entries_held pool list.now) = item_low parents v last (entries_held pool list.now) position.item after.item (subst (λ (x : Source). IsSpent last (first_at_source pool x position)) is spent) in
     omega (arith, low, further))
 
--- the scratch of a desk is the one that was looked with
+-- the scratch of a position is the one that was looked with
 pub looks_desk : (old new : DiskView) (array : ℕ) (blocks : List ℕ) (c d : Blocks) (s t u : Option Kept) → u ≡ t → Looks old new array blocks c d s t → Looks old new array blocks c d s u
 looks_desk old new array blocks c d s t u same looks = subst (λ (x : Option Kept). Looks old new array blocks c d s x) (sym same) looks

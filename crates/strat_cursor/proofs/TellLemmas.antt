@@ -16,16 +16,16 @@ use Rattle.def_crash.specs.Image.{Image}
 use Rattle.def_crash.specs.Moments.{DiskView}
 use Rattle.strat_model.specs.Pairs.{Pair, Pairs, value_of, is_between, range}
 use Rattle.strat_cursor.specs.Ahead.{is_after, range_after}
-use Rattle.strat_cursor.specs.Contest.{head_in, LeadsAll, NoneAhead}
+use Rattle.strat_cursor.specs.Contenders.{head_in, LeadsAll, NoneAhead}
 use Rattle.strat_cursor.specs.Looking.{LooksThrough, HaveOwnIds}
 use Rattle.strat_cursor.specs.Picking.{AreSourcesOf}
 use Rattle.strat_cursor.specs.Ranges.{FillsPage, IsMapSeen, IsPageOf}
 use Rattle.def_state.specs.LookUp.{first_live}
 use Rattle.strat_cursor.specs.Sources.{content_of}
 use Rattle.strat_cursor.proofs.ThroughLemmas.{through_trans}
-use Rattle.strat_cursor.specs.Turning.{is_under, AddsValue, HandlesKey, AreSettled, AreUpTo, IsLater}
+use Rattle.strat_cursor.specs.Emitting.{is_under, AddsValue, HandlesKey, AreSettled, AreUpTo, IsLater}
 use Rattle.strat_cursor.specs.Views.{zeros_in, arrays_read}
-use Rattle.strat_cursor.specs.declared.desks.Desk.{Desk}
+use Rattle.strat_cursor.specs.declared.scan_buffers.SourcePosition.{SourcePosition}
 use Rattle.strat_cursor.specs.declared.sources.Source.{Source}
 use Rattle.strat_cursor.specs.declared.view.View.{View}
 use Rattle.strat_cursor.proofs.PickLemmas.{get_within}
@@ -69,11 +69,11 @@ handled_len e hi limit last next out new few handles = elim handles [
     adds (Some x) is = omega (arith, is.0, ap (λ (ps : Pairs). length ps) is.1, length-append {A = Pair} out ((e.key, x) ∷ []))
 
 -- what a scan has told since it began, in each image that it may be read in
-pub record Telling (old now : DiskView) (view : View) (v : ℕ) (hi : List ℕ) (sources : List Source) (c d : Blocks) (first last : List ℕ) (from desks : List Desk) (before out : Pairs) : Type 0 where
+pub record Telling (old now : DiskView) (view : View) (v : ℕ) (hi : List ℕ) (sources : List Source) (c d : Blocks) (first last : List ℕ) (from positions : List SourcePosition) (before out : Pairs) : Type 0 where
   pub looks : LooksThrough old now (arrays_read view v) c d
   pub up : (f : Image) (lo : List ℕ) (m : Pairs) → old.content ≡ Some f → HaveOwnIds (arrays_read view v) → AreUpTo f c view.pool.now view.tree.now.parents v lo first sources from
       → IsMapSeen f view.tree.now.parents (zeros_in view) (arrays_read view v) v m
-      → AreUpTo f d view.pool.now view.tree.now.parents v lo last sources desks × (before ++ range_after m lo hi first ≡ out ++ range_after m lo hi last)
+      → AreUpTo f d view.pool.now view.tree.now.parents v lo last sources positions × (before ++ range_after m lo hi first ≡ out ++ range_after m lo hi last)
 
 page_done : (pairs out rest : Pairs) (limit : ℕ) → pairs ≡ out ++ rest → rest ≡ [] → length out ≤ limit → IsPageOf pairs limit out false
 page_done pairs out rest limit is none few =
@@ -89,44 +89,44 @@ page_more pairs out rest p limit is few full =
       more_is = sym (lt-ltb limit (length (out ++ p ∷ rest)) (omega (arith, exact, length-append {A = Pair} out (p ∷ rest))));
     })
 
-module _ (old now : DiskView) (view : View) (tree : IsTree view.tree.now.parents) (v : ℕ) (hi : List ℕ) (sources : List Source) (c d : Blocks) (first last : List ℕ) (from desks : List Desk) (before out : Pairs) (are : AreSourcesOf view v sources)
-    (telling : Telling old now view v hi sources c d first last from desks before out) (settled : AreSettled view.tree.now.parents v view.pool.now sources desks) where
+module _ (old now : DiskView) (view : View) (tree : IsTree view.tree.now.parents) (v : ℕ) (hi : List ℕ) (sources : List Source) (c d : Blocks) (first last : List ℕ) (from positions : List SourcePosition) (before out : Pairs) (are : AreSourcesOf view v sources)
+    (telling : Telling old now view v hi sources c d first last from positions before out) (settled : AreSettled view.tree.now.parents v view.pool.now sources positions) where
   value_is : (f : Image) (m : Pairs) → IsMapSeen f view.tree.now.parents (zeros_in view) (arrays_read view v) v m → (key : List ℕ) (o : Option Entry) → first_live view.tree.now.parents (map (content_of f view.pool.now) sources) v key ≡ o
       → value_of m key ≡ option_and_then (λ e. e.value) o
   value_is f m seen key o is = seen.each key ∙ ap (λ (x : Option Entry). option_and_then (λ e. e.value) x) (sym (are.seen f key) ∙ is)
 
   -- no source has an entry left: all was told
-  pub none_left : (limit : ℕ) → NoneAhead view.pool.now sources desks → length out ≤ limit → (f : Image) (lo : List ℕ) (m : Pairs) → old.content ≡ Some f → HaveOwnIds (arrays_read view v)
+  pub none_left : (limit : ℕ) → NoneAhead view.pool.now sources positions → length out ≤ limit → (f : Image) (lo : List ℕ) (m : Pairs) → old.content ≡ Some f → HaveOwnIds (arrays_read view v)
       → AreUpTo f c view.pool.now view.tree.now.parents v lo first sources from → IsMapSeen f view.tree.now.parents (zeros_in view) (arrays_read view v) v m → IsPageOf (before ++ range_after m lo hi first) limit out false
   none_left limit none few f lo m exposed own up seen =
       let both = telling.up f lo m exposed own up seen in
       page_done (before ++ range_after m lo hi first) out (range_after m lo hi last) limit both.1
-      (range_done lo hi last m (λ key is. value_is f m seen key None (none_seen f d view.pool.now view.tree.now.parents tree v lo last sources desks settled both.0 key (range_come lo hi last key is) (λ i h at. let two : Some h ≡ None = sym at ∙ none i in absurd (cc)))))
+      (range_done lo hi last m (λ key is. value_is f m seen key None (none_seen f d view.pool.now view.tree.now.parents tree v lo last sources positions settled both.0 key (range_come lo hi last key is) (λ i h at. let two : Some h ≡ None = sym at ∙ none i in absurd (cc)))))
       few
 
-  module _ (w : ℕ) (low : w < length sources) (e : Entry) (fits : fits_fields e ≡ true) (leads : LeadsAll view.pool.now sources desks w) (here : head_in view.pool.now sources desks w ≡ Some e) where
+  module _ (w : ℕ) (low : w < length sources) (e : Entry) (fits : fits_fields e ≡ true) (leads : LeadsAll view.pool.now sources positions w) (here : head_in view.pool.now sources positions w ≡ Some e) where
     -- the least key is not below hi: all was told
     pub past_left : (limit : ℕ) → is_under hi e.key ≡ false → length out ≤ limit → (f : Image) (lo : List ℕ) (m : Pairs) → old.content ≡ Some f → HaveOwnIds (arrays_read view v)
         → AreUpTo f c view.pool.now view.tree.now.parents v lo first sources from → IsMapSeen f view.tree.now.parents (zeros_in view) (arrays_read view v) v m → IsPageOf (before ++ range_after m lo hi first) limit out false
     past_left limit past few f lo m exposed own up seen =
         let both = telling.up f lo m exposed own up seen in
         page_done (before ++ range_after m lo hi first) out (range_after m lo hi last) limit both.1
-        (range_done lo hi last m (λ key is. value_is f m seen key None (below_seen f d view.pool.now view.tree.now.parents tree v lo last sources desks settled both.0 w e leads here key (range_come lo hi last key is) (past_hi lo hi last e.key key past is))))
+        (range_done lo hi last m (λ key is. value_is f m seen key None (below_seen f d view.pool.now view.tree.now.parents tree v lo last sources positions settled both.0 w e leads here key (range_come lo hi last key is) (past_hi lo hi last e.key key past is))))
         few
 
-    module _ (f : Image) (lo : List ℕ) (m : Pairs) (up : AreUpTo f d view.pool.now view.tree.now.parents v lo last sources desks) (seen : IsMapSeen f view.tree.now.parents (zeros_in view) (arrays_read view v) v m) (after : is_after last e.key ≡ true) (under : is_under hi e.key ≡ true) where
+    module _ (f : Image) (lo : List ℕ) (m : Pairs) (up : AreUpTo f d view.pool.now view.tree.now.parents v lo last sources positions) (seen : IsMapSeen f view.tree.now.parents (zeros_in view) (arrays_read view v) v m) (after : is_after last e.key ≡ true) (under : is_under hi e.key ≡ true) where
       lead_source : (s : Source) × (slice_get sources w ≡ Some s)
       lead_source = get_within sources w low
 
       from_lo : not (is_lt (key_cmp e.key lo)) ≡ true
-      from_lo = lead_from f d view.pool.now view.tree.now.parents tree v lo last sources desks settled up w e leads here lead_source.0 lead_source.1
+      from_lo = lead_from f d view.pool.now view.tree.now.parents tree v lo last sources positions settled up w e leads here lead_source.0 lead_source.1
 
       below_none : (key : List ℕ) → (is_between lo hi key && is_after last key) ≡ true → is_lt (key_cmp key e.key) ≡ true → value_of m key ≡ None
-      below_none key is below = value_is f m seen key None (below_seen f d view.pool.now view.tree.now.parents tree v lo last sources desks settled up w e leads here key (range_come lo hi last key is) below)
+      below_none key is below = value_is f m seen key None (below_seen f d view.pool.now view.tree.now.parents tree v lo last sources positions settled up w e leads here key (range_come lo hi last key is) below)
 
       value_here : value_of m e.key ≡ e.value
       value_here =
-          value_is f m seen e.key (Some e) (lead_seen f d view.pool.now view.tree.now.parents tree v lo last sources desks settled up w e leads here lead_source.0 lead_source.1
+          value_is f m seen e.key (Some e) (lead_seen f d view.pool.now view.tree.now.parents tree v lo last sources positions settled up w e leads here lead_source.0 lead_source.1
           (and_from (not (is_lt (key_cmp e.key lo))) (is_after last e.key) from_lo after))
 
       -- a value is the first that is to come
@@ -152,8 +152,8 @@ module _ (old now : DiskView) (view : View) (tree : IsTree view.tree.now.parents
         page_more (before ++ range_after m lo hi first) out (range_after m lo hi e.key) (e.key, x.0) limit (both.1 ∙ ap (λ (r : Pairs). out ++ r) (told_first f lo m both.0 seen after under x.0 x.1)) few full
 
     -- the least key was handled, and its source went on
-    pub tells_on : (new : DiskView) (limit : ℕ) (g : Blocks) (next : List ℕ) (after : List Desk) (told : Pairs) → HandlesKey e hi limit last next out told None → LooksThrough now new (arrays_read view v) d g
-        → ((f : Image) (lo prev : List ℕ) → now.content ≡ Some f → HaveOwnIds (arrays_read view v) → IsLater prev next → AreUpTo f d view.pool.now view.tree.now.parents v lo prev sources desks → AreUpTo f g view.pool.now view.tree.now.parents v lo next sources after)
+    pub tells_on : (new : DiskView) (limit : ℕ) (g : Blocks) (next : List ℕ) (after : List SourcePosition) (told : Pairs) → HandlesKey e hi limit last next out told None → LooksThrough now new (arrays_read view v) d g
+        → ((f : Image) (lo prev : List ℕ) → now.content ≡ Some f → HaveOwnIds (arrays_read view v) → IsLater prev next → AreUpTo f d view.pool.now view.tree.now.parents v lo prev sources positions → AreUpTo f g view.pool.now view.tree.now.parents v lo next sources after)
         → Telling old new view v hi sources c g first next from after before told
     tells_on new limit g next after told handles looks goes = record {
       looks = through_trans old now new (arrays_read view v) c d g telling.looks looks;
@@ -172,17 +172,17 @@ entry_some None some = absurd (true≢false (sym some))
 entry_some (Some e) some = (e, refl)
 
 -- a scan that ended
-pub ended : (old now : DiskView) (view : View) (tree : IsTree view.tree.now.parents) (v : ℕ) (hi : List ℕ) (sources : List Source) (c d : Blocks) (first last : List ℕ) (from desks : List Desk) (before out : Pairs) (are : AreSourcesOf view v sources)
-    (telling : Telling old now view v hi sources c d first last from desks before out) (settled : AreSettled view.tree.now.parents v view.pool.now sources desks)
-    (w : ℕ) (low : w < length sources) (e : Entry) (fits : fits_fields e ≡ true) (leads : LeadsAll view.pool.now sources desks w) (here : head_in view.pool.now sources desks w ≡ Some e) (limit : ℕ) (next : List ℕ) (told : Pairs) (more : Bool)
+pub ended : (old now : DiskView) (view : View) (tree : IsTree view.tree.now.parents) (v : ℕ) (hi : List ℕ) (sources : List Source) (c d : Blocks) (first last : List ℕ) (from positions : List SourcePosition) (before out : Pairs) (are : AreSourcesOf view v sources)
+    (telling : Telling old now view v hi sources c d first last from positions before out) (settled : AreSettled view.tree.now.parents v view.pool.now sources positions)
+    (w : ℕ) (low : w < length sources) (e : Entry) (fits : fits_fields e ≡ true) (leads : LeadsAll view.pool.now sources positions w) (here : head_in view.pool.now sources positions w ≡ Some e) (limit : ℕ) (next : List ℕ) (told : Pairs) (more : Bool)
     → length out ≤ limit → HandlesKey e hi limit last next out told (Some more) → (f : Image) (lo : List ℕ) (m : Pairs) → old.content ≡ Some f → HaveOwnIds (arrays_read view v)
     → AreUpTo f c view.pool.now view.tree.now.parents v lo first sources from → IsMapSeen f view.tree.now.parents (zeros_in view) (arrays_read view v) v m → IsPageOf (before ++ range_after m lo hi first) limit told more
-ended old now view tree v hi sources c d first last from desks before out are telling settled w low e fits leads here limit next told true few handles f lo m exposed own up seen =
+ended old now view tree v hi sources c d first last from positions before out are telling settled w low e fits leads here limit next told true few handles f lo m exposed own up seen =
     subst (λ (ps : Pairs). IsPageOf (before ++ range_after m lo hi first) limit ps true) (sym handles.4)
-    (more_left old now view tree v hi sources c d first last from desks before out are telling settled w low e fits leads here limit handles.0 handles.1 handles.2 few handles.3 f lo m exposed own up seen)
-ended old now view tree v hi sources c d first last from desks before out are telling settled w low e fits leads here limit next told false few handles f lo m exposed own up seen =
+    (more_left old now view tree v hi sources c d first last from positions before out are telling settled w low e fits leads here limit handles.0 handles.1 handles.2 few handles.3 f lo m exposed own up seen)
+ended old now view tree v hi sources c d first last from positions before out are telling settled w low e fits leads here limit next told false few handles f lo m exposed own up seen =
     subst (λ (ps : Pairs). IsPageOf (before ++ range_after m lo hi first) limit ps false) (sym handles.2)
-    (past_left old now view tree v hi sources c d first last from desks before out are telling settled w low e fits leads here limit handles.1 few f lo m exposed own up seen)
+    (past_left old now view tree v hi sources c d first last from positions before out are telling settled w low e fits leads here limit handles.1 few f lo m exposed own up seen)
 
 -- a scan from the start
 pub page_range : (m : Pairs) (lo hi last : List ℕ) (before : Pairs) (limit : ℕ) (told : Pairs) (more : Bool) → last ≡ [] → before ≡ [] → IsPageOf (before ++ range_after m lo hi last) limit told more → IsPageOf (range m lo hi) limit told more

@@ -1,6 +1,6 @@
 pub mod Ahead
-pub mod Contest
-pub mod DeskFields
+pub mod Contenders
+pub mod ScanRoom
 pub mod Looking
 pub mod Picking
 pub mod CursorFaults
@@ -11,5 +11,5 @@ pub mod Held
 pub mod Pins
 pub mod Ranges
 pub mod Sources
-pub mod Turning
+pub mod Emitting
 pub mod Views

@@ -18,7 +18,7 @@ use Rattle.strat_level.specs.Memtable.{entries_held, ListStands}
 use Rattle.strat_cursor.specs.Ahead.{is_after, is_to_come}
 use Rattle.strat_cursor.specs.Looking.{MayBeAsked}
 use Rattle.strat_cursor.specs.Ranges.{content_on}
-use Rattle.strat_cursor.specs.declared.desks.Desk.{Desk}
+use Rattle.strat_cursor.specs.declared.scan_buffers.SourcePosition.{SourcePosition}
 use Rattle.strat_cursor.specs.declared.sources.Source.{Source}
 use Rattle.strat_cursor.specs.declared.sources.Source.TheVariants as source
 
@@ -51,11 +51,11 @@ content_of f pool (source.Zero list) = entries_held pool list.now
 content_of f pool (source.Array a) = content_on f a.now
 
 -- the entries that a source has left
-abbrev pub left_at_source : Image → List PoolEntry → Source → Desk → List Entry
-left_at_source f pool source.None desk = []
-left_at_source f pool (source.Zero list) desk = drop desk.item (entries_held pool list.now)
-left_at_source f pool (source.Array a) desk =
-    if desk.there then left_from (lists_of f a.now) desk.place else []
+abbrev pub left_at_source : Image → List PoolEntry → Source → SourcePosition → List Entry
+left_at_source f pool source.None position = []
+left_at_source f pool (source.Zero list) position = drop position.item (entries_held pool list.now)
+left_at_source f pool (source.Array a) position =
+    if position.there then left_from (lists_of f a.now) position.place else []
 
 -- the entries from a place on, where there is one
 abbrev pub left_behind : List (List Entry) → Option Place → List Entry
@@ -76,11 +76,11 @@ abbrev pub entry_held : Option Kept → ℕ → Option Entry
 entry_held s i = option_and_then (λ kept. slice_get kept.1 i) s
 
 -- the first entry that a source has left, as it is at hand
-abbrev pub first_at_source : List PoolEntry → Source → Desk → Option Entry
-first_at_source pool source.None desk = None
-first_at_source pool (source.Zero list) desk = slice_get (entries_held pool list.now) desk.item
-first_at_source pool (source.Array a) desk =
-    if desk.there then entry_held desk.scratch desk.place.index else None
+abbrev pub first_at_source : List PoolEntry → Source → SourcePosition → Option Entry
+first_at_source pool source.None position = None
+first_at_source pool (source.Zero list) position = slice_get (entries_held pool list.now) position.item
+first_at_source pool (source.Array a) position =
+    if position.there then entry_held position.scratch position.place.index else None
 
 -- a source can be read
 abbrev pub MayBeRead : List PoolEntry → Source → Type 0
@@ -89,17 +89,17 @@ MayBeRead pool (source.Zero list) = ListStands pool list.now
 MayBeRead pool (source.Array a) = AreWithin a.now.extents
 
 -- the first entry that a source has left is at hand
-abbrev pub HasHead : Source → Desk → Type 0
-HasHead source.None desk = ⊤
-HasHead (source.Zero list) desk = ⊤
-HasHead (source.Array a) desk =
-    IsTrue desk.there → HoldsPlace desk.scratch a.now.id desk.place × (desk.place.index < 454)
+abbrev pub HasHead : Source → SourcePosition → Type 0
+HasHead source.None position = ⊤
+HasHead (source.Zero list) position = ⊤
+HasHead (source.Array a) position =
+    IsTrue position.there → HoldsPlace position.scratch a.now.id position.place × (position.place.index < 454)
 
 -- the first entry that a source has left is at hand, and is at a version or an ancestor of it
 pub record IsSettledAt (parents : Parents) (v : ℕ) (pool : List PoolEntry) (s : Source)
-    (desk : Desk) : Type 0 where
-  pub held : HasHead s desk
-  pub on_path : IfSome (first_at_source pool s desk) (λ e. IsTrue (is_ancestor parents e.version v))
+    (position : SourcePosition) : Type 0 where
+  pub held : HasHead s position
+  pub on_path : IfSome (first_at_source pool s position) (λ e. IsTrue (is_ancestor parents e.version v))
 
 -- in an image the blocks of a source's array are kept as they stand there
 abbrev pub StandsIn : Image → Blocks → Source → Option Kept → Type 0
@@ -116,12 +116,12 @@ MayBeBegun f c (source.Array a) = MayBeAsked f c a.now
 
 -- what a source has left says of each key to come what all its entries say, in order and from lo on
 pub record IsUpTo (f : Image) (pool : List PoolEntry) (parents : Parents) (v : ℕ)
-    (lo last : List ℕ) (s : Source) (desk : Desk) : Type 0 where
+    (lo last : List ℕ) (s : Source) (position : SourcePosition) : Type 0 where
   pub same : (key : List ℕ) → IsTrue (is_to_come lo last key)
-      → find (is_seen_at parents key v) (left_at_source f pool s desk)
+      → find (is_seen_at parents key v) (left_at_source f pool s position)
       ≡ find (is_seen_at parents key v) (content_of f pool s)
-  pub ordered : IsTrue (is_ascending (left_at_source f pool s desk))
-  pub from : IsTrue (list_all (is_from lo) (left_at_source f pool s desk))
+  pub ordered : IsTrue (is_ascending (left_at_source f pool s position))
+  pub from : IsTrue (list_all (is_from lo) (left_at_source f pool s position))
 
 -- the first entry that a source has left is of no key to come
 abbrev pub IsSpent : List ℕ → Option Entry → Type 0
@@ -129,18 +129,18 @@ IsSpent last None = ⊥
 IsSpent last (Some e) = is_after last e.key ≡ false
 
 -- how many steps a source may have to go
-abbrev pub steps_left : List PoolEntry → Source → Desk → ℕ
-steps_left pool source.None desk = 0
-steps_left pool (source.Zero list) desk = length (entries_held pool list.now) - desk.item
-steps_left pool (source.Array a) desk = if desk.there then 1 + places_ahead desk.place else 0
+abbrev pub steps_left : List PoolEntry → Source → SourcePosition → ℕ
+steps_left pool source.None position = 0
+steps_left pool (source.Zero list) position = length (entries_held pool list.now) - position.item
+steps_left pool (source.Array a) position = if position.there then 1 + places_ahead position.place else 0
 
 -- how many blocks a source has still to read at most
-abbrev pub reads_left : Source → Desk → ℕ
-reads_left source.None desk = 0
-reads_left (source.Zero list) desk = 0
-reads_left (source.Array a) desk =
-    if desk.there
-    then blocks_ahead desk.scratch a.now.id (length (blocks_of a.now.extents)) desk.place
+abbrev pub reads_left : Source → SourcePosition → ℕ
+reads_left source.None position = 0
+reads_left (source.Zero list) position = 0
+reads_left (source.Array a) position =
+    if position.there
+    then blocks_ahead position.scratch a.now.id (length (blocks_of a.now.extents)) position.place
     else 0
 
 -- how many blocks a source reads at most until it has none left, where an array has fewer than 2^n

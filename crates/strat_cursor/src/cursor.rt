@@ -14,7 +14,7 @@ ghost use Rattle.strat_cursor.specs.Looking.{LooksThrough, NamesNoBlock, ReadsAr
 ghost use Rattle.strat_cursor.specs.Pins.{IsPinned, ListsStand, GivesShares, arenas_of, arena_pinned};
 ghost use Rattle.strat_cursor.specs.Ranges.{FillsPage, IsPageOf};
 
-use crate::desks::Desks;
+use crate::scan_buffers::ScanBuffers;
 use crate::scanning::scan;
 use crate::view::{Picked, View};
 use std::alloc::Global;
@@ -121,7 +121,7 @@ impl Cursor {
         pool: &ArenaPool,
         tree: &Tree,
         limit: u16,
-        desks: &mut Desks,
+        buffers: &mut ScanBuffers,
         out: &mut PairBuf,
     ) -> Result<bool, Fault>
         requires found { ListsStand pool.now self.now }
@@ -159,7 +159,7 @@ impl Cursor {
             from,
             &self.hi,
             limit,
-            desks,
+            buffers,
             out,
         )
     }
@@ -183,7 +183,7 @@ impl Cursor {
         pool: &ArenaPool,
         tree: &Tree,
         limit: u16,
-        desks: &mut Desks,
+        buffers: &mut ScanBuffers,
         out: &mut PairBuf,
     ) -> Result<bool, Fault>
         requires found { ListsStand pool.now self.old }
@@ -204,7 +204,7 @@ impl Cursor {
         ensures cause { HasCause Device (D.faults disk.old) (D.faults disk.new) result }
         ensures reads { ReadsArrays self.old.arrays (D.reads disk.old) (D.reads disk.new) }
     {
-        let more = self.page(disk, cache, pool, tree, limit, desks, out)?;
+        let more = self.page(disk, cache, pool, tree, limit, buffers, out)?;
         self.advance(more, out);
         Ok(more)
     }

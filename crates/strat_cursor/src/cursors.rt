@@ -19,7 +19,7 @@ ghost use Rattle.strat_cursor.specs.declared.cursors.CursorFault.TheVariants as 
 ghost use Rattle.strat_cursor.specs.declared.cursors.NextFault.TheVariants as next_fault;
 
 use crate::cursor::Cursor;
-use crate::desks::Desks;
+use crate::scan_buffers::ScanBuffers;
 use crate::starting::open_cursor;
 use std::alloc::Global;
 use std::marker::Model;
@@ -224,7 +224,7 @@ impl Cursors {
         tree: &Tree,
         number: u64,
         limit: u16,
-        desks: &mut Desks,
+        buffers: &mut ScanBuffers,
         out: &mut PairBuf,
     ) -> Result<bool, NextFault>
         requires kept { ArePinned pool.now tree.now.parents self.old.opened }
@@ -253,7 +253,7 @@ impl Cursors {
         let Some(place) = place_of(&self.opened, number) else {
             return Err(NextFault::UnknownCursor);
         };
-        let more = self.opened[place].next(disk, cache, pool, tree, limit, desks, out)?;
+        let more = self.opened[place].next(disk, cache, pool, tree, limit, buffers, out)?;
         Ok(more)
     }
 

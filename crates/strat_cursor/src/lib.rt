@@ -1,20 +1,20 @@
 //! Ranges of a version's pairs, through level 0 and the levels of a store.
 #![tactic(auto)]
 
-mod contest;
 mod cursor;
 pub mod cursor_laws;
 mod cursors;
-mod desks;
+mod emit;
 pub mod held_laws;
 mod picking;
+mod scan_buffers;
 mod scanning;
 mod sources;
 mod starting;
-mod turn;
+mod tournament;
 mod view;
 
 pub use cursors::{CursorFault, Cursors, NextFault};
-pub use desks::Desks;
+pub use scan_buffers::ScanBuffers;
 pub use scanning::scan;
 pub use view::{Picked, View};

@@ -8,20 +8,20 @@ ghost use Rattle.def_crash.specs.Moments.{Exposes};
 ghost use Rattle.strat_merge.specs.Bracket.{IsBracket, IsTournament};
 ghost use Rattle.strat_model.specs.Pairs.{Pairs};
 ghost use Rattle.strat_cursor.specs.Ahead.{range_after};
-ghost use Rattle.strat_cursor.specs.Contest.{contenders};
+ghost use Rattle.strat_cursor.specs.Contenders.{contenders};
 ghost use Rattle.strat_cursor.specs.Picking.{AreSourcesOf};
 ghost use Rattle.strat_cursor.specs.Sources.{reads_left, reads_of_source};
-ghost use Rattle.strat_cursor.specs.Turning.{AreSettled, AreUpTo, sum_over};
-ghost use Rattle.strat_cursor.specs.DeskFields.{HasScanRoom};
+ghost use Rattle.strat_cursor.specs.Emitting.{AreSettled, AreUpTo, sum_over};
+ghost use Rattle.strat_cursor.specs.ScanRoom.{HasScanRoom};
 ghost use Rattle.strat_cursor.specs.Looking.{LooksThrough, NamesNoBlock, HaveOwnIds, HaveFewBlocks, ReadsArrays};
 ghost use Rattle.strat_cursor.specs.Ranges.{FillsPage, IsMapSeen, IsPageOf};
 ghost use Rattle.strat_cursor.specs.Views.{ViewStands, IsReadable, TellsPage, arrays_read, zeros_in};
 
-use crate::contest::{leader, play_all};
-use crate::desks::{Desk, Desks};
+use crate::emit::{advance_leader, emit_head};
 use crate::picking::pick;
+use crate::scan_buffers::{ScanBuffers, SourcePosition};
 use crate::sources::{Source, begin};
-use crate::turn::{go_on, handle_head};
+use crate::tournament::{leader, play_all};
 use crate::view::View;
 use strat_array::Cache;
 use strat_base::{Fault, PairBuf, Version};
@@ -35,18 +35,18 @@ fn begin_all<D: Disk>(
     sources: &[Source<'_>],
     v: Version,
     lo: &[u8],
-    desks: &mut [Desk],
+    positions: &mut [SourcePosition],
 ) -> Result<(), Fault>
     requires fits { v < length view.now.tree.now.parents }
     requires same { AreSourcesOf view.now v sources.now }
-    requires room { length desks.old ≡ length sources.now }
+    requires room { length positions.old ≡ length sources.now }
     ensures kept { OnOk result (AreSettled view.now.tree.now.parents v view.now.pool.now
-        sources.now desks.new) }
-    ensures len { length desks.new ≡ length desks.old }
+        sources.now positions.new) }
+    ensures len { length positions.new ≡ length positions.old }
     ensures ok { OnOk result ((f : Image) (next : ℕ) → Exposes (D.view disk.old) f
         → IsReadable f next view.now v cache.old
         → AreUpTo f cache.new view.now.pool.now view.now.tree.now.parents v lo.now []
-        sources.now desks.new) }
+        sources.now positions.new) }
     ensures same { LooksThrough (D.view disk.old) (D.view disk.new)
         (arrays_read view.now v) cache.old cache.new }
     ensures damaged { (b : ℕ) → IsErrOf result (Damaged b)
@@ -56,7 +56,7 @@ fn begin_all<D: Disk>(
         → ReadsAtMost (sum_by (reads_of_source n) sources.now)
         (D.reads disk.old) (D.reads disk.new) }
     ensures room { OnOk result ((n : ℕ) → HaveFewBlocks n (arrays_read view.now v)
-        → D.reads disk.new + sum_over reads_left sources.now desks.new
+        → D.reads disk.new + sum_over reads_left sources.now positions.new
         ≤ D.reads disk.old + sum_by (reads_of_source n) sources.now) }
 {
     for i in 0..sources.len() {
@@ -68,7 +68,7 @@ fn begin_all<D: Disk>(
             view.tree,
             v,
             lo,
-            &mut desks[i],
+            &mut positions[i],
         )?;
     }
     Ok(())
@@ -85,42 +85,42 @@ fn tell_all<D: Disk>(
     hi: &[u8],
     limit: usize,
     last: &mut Vec<u8>,
-    desks: &mut [Desk],
+    positions: &mut [SourcePosition],
     winners: &mut [usize],
     out: &mut PairBuf,
 ) -> Result<bool, Fault>
     requires fits { v < length view.now.tree.now.parents }
     requires same { AreSourcesOf view.now v sources.now }
     requires kept { AreSettled view.now.tree.now.parents v view.now.pool.now
-        sources.now desks.old }
-    requires found { IsTournament (contenders view.now.pool.now sources.now desks.old)
+        sources.now positions.old }
+    requires found { IsTournament (contenders view.now.pool.now sources.now positions.old)
         winners.old }
     requires room { (limit ≤ 256) × (255 ≤ vec_capacity last.old) × (length out.old ≤ limit) }
     ensures ok { IfOk result (λ more. (f : Image) (lo : List ℕ) (m : Pairs)
         → Exposes (D.view disk.old) f → HaveOwnIds (arrays_read view.now v)
         → AreUpTo f cache.old view.now.pool.now view.now.tree.now.parents v lo last.old.items
-        sources.now desks.old
+        sources.now positions.old
         → IsMapSeen f view.now.tree.now.parents (zeros_in view.now)
         (arrays_read view.now v) v m
         → IsPageOf (out.old ++ range_after m lo hi.now last.old.items) limit out.new more) }
     ensures len { IfOk result (λ more. FillsPage limit (length out.new) more) }
-    ensures room { (255 ≤ vec_capacity last.new) × (length desks.new ≡ length desks.old)
+    ensures room { (255 ≤ vec_capacity last.new) × (length positions.new ≡ length positions.old)
         × IsBracket (length sources.now) winners.new }
     ensures same { LooksThrough (D.view disk.old) (D.view disk.new)
         (arrays_read view.now v) cache.old cache.new }
     ensures damaged { (b : ℕ) → IsErrOf result (Damaged b)
         → NamesNoBlock (D.view disk.old).content (arrays_read view.now v) b }
     ensures cause { HasCause Device (D.faults disk.old) (D.faults disk.new) result }
-    ensures reads { ReadsAtMost (sum_over reads_left sources.now desks.old)
+    ensures reads { ReadsAtMost (sum_over reads_left sources.now positions.old)
         (D.reads disk.old) (D.reads disk.new) }
 {
     // What it says beside its answer: the versions are a tree.
     let _versions = view.tree.count();
-    while let Some(w) = leader(sources, view.pool, desks, winners) {
-        if let Some(more) = handle_head(sources, view.pool, desks, w, hi, limit, last, out) {
+    while let Some(w) = leader(sources, view.pool, positions, winners) {
+        if let Some(more) = emit_head(sources, view.pool, positions, w, hi, limit, last, out) {
             return Ok(more);
         }
-        go_on(disk, cache, view, sources, v, w, last, desks, winners)?;
+        advance_leader(disk, cache, view, sources, v, w, last, positions, winners)?;
     }
     Ok(false)
 }
@@ -136,19 +136,19 @@ fn scan_sources<D: Disk>(
     hi: &[u8],
     limit: usize,
     last: &mut Vec<u8>,
-    desks: &mut [Desk],
+    positions: &mut [SourcePosition],
     winners: &mut [usize],
     out: &mut PairBuf,
 ) -> Result<bool, Fault>
     requires fits { v < length view.now.tree.now.parents }
     requires same { AreSourcesOf view.now v sources.now }
-    requires kept { HasScanRoom desks.old winners.old (vec_capacity last.old) }
+    requires kept { HasScanRoom positions.old winners.old (vec_capacity last.old) }
     requires room { (limit ≤ 256) × (out.old ≡ []) }
     ensures ok { IfOk result (λ more. (f : Image) (next : ℕ) → Exposes (D.view disk.old) f
         → IsReadable f next view.now v cache.old
         → TellsPage f view.now v lo.now hi.now limit out.new more) }
     ensures len { IfOk result (λ more. FillsPage limit (length out.new) more) }
-    ensures kept { HasScanRoom desks.new winners.new (vec_capacity last.new) }
+    ensures kept { HasScanRoom positions.new winners.new (vec_capacity last.new) }
     ensures same { LooksThrough (D.view disk.old) (D.view disk.new)
         (arrays_read view.now v) cache.old cache.new }
     ensures damaged { (b : ℕ) → IsErrOf result (Damaged b)
@@ -159,10 +159,10 @@ fn scan_sources<D: Disk>(
         (D.reads disk.old) (D.reads disk.new) }
 {
     last.clear();
-    begin_all(disk, cache, view, sources, v, lo, desks)?;
-    play_all(sources, view.pool, desks, winners);
+    begin_all(disk, cache, view, sources, v, lo, positions)?;
+    play_all(sources, view.pool, positions, winners);
     tell_all(
-        disk, cache, view, sources, v, hi, limit, last, desks, winners, out,
+        disk, cache, view, sources, v, hi, limit, last, positions, winners, out,
     )
 }
 
@@ -176,7 +176,7 @@ fn scan_with<D: Disk>(
     lo: &[u8],
     hi: &[u8],
     limit: usize,
-    desks: &mut Desks,
+    buffers: &mut ScanBuffers,
     out: &mut PairBuf,
 ) -> Result<bool, Fault>
     requires fits { v < length view.now.tree.now.parents }
@@ -204,9 +204,9 @@ fn scan_with<D: Disk>(
         lo,
         hi,
         limit,
-        &mut desks.last,
-        &mut desks.desks,
-        &mut desks.winners,
+        &mut buffers.last,
+        &mut buffers.positions,
+        &mut buffers.winners,
         out,
     )
 }
@@ -222,7 +222,7 @@ pub fn scan<D: Disk>(
     lo: &[u8],
     hi: &[u8],
     limit: u16,
-    desks: &mut Desks,
+    buffers: &mut ScanBuffers,
     out: &mut PairBuf,
 ) -> Result<bool, Fault>
     requires kept { ViewStands view.now }
@@ -252,7 +252,7 @@ pub fn scan<D: Disk>(
         lo,
         hi,
         limit as usize,
-        desks,
+        buffers,
         out,
     );
     if told.is_err() {

@@ -20,7 +20,7 @@ ghost use Rattle.strat_array.specs.Steps.{blocks_ahead, left_from, HoldsPlace};
 ghost use Rattle.strat_cursor.specs.Ahead.{is_after};
 ghost use Rattle.strat_cursor.specs.Sources.{MayBeRead, HasHead, first_at_source, entry_held, is_due, arrays_at, left_at_source, steps_left, reads_left, reads_of_source, IsSettledAt, IsUpTo, IsSpent, MayBeBegun, StandsIn, left_behind, places_ahead, blocks_behind, PassesUndue};
 
-use crate::desks::Desk;
+use crate::scan_buffers::SourcePosition;
 use strat_arena::ArenaPool;
 use strat_array::{Cache, Place, Scratch, first_place_from, seek};
 use strat_base::{ArrayDesc, Entry, Fault, Version, key_order};
@@ -53,15 +53,15 @@ fn item_at<'a>(pool: &'a ArenaPool, list: &ZeroView, item: usize) -> Option<Entr
 }
 
 /// The entry at a place, if there is one. O(1).
-fn entry_of_desk(desk: &Desk) -> Option<Entry<'_>>
-    requires kept { (a : ℕ) × (IsTrue desk.now.there
-        → HoldsPlace desk.now.scratch a desk.now.place × (desk.now.place.index < 454)) }
+fn entry_at_position(position: &SourcePosition) -> Option<Entry<'_>>
+    requires kept { (a : ℕ) × (IsTrue position.now.there
+        → HoldsPlace position.now.scratch a position.now.place × (position.now.place.index < 454)) }
     ensures ok { option_map entry_of result
-        ≡ (if desk.now.there then entry_held desk.now.scratch desk.now.place.index else None) }
+        ≡ (if position.now.there then entry_held position.now.scratch position.now.place.index else None) }
     ensures fits { IfSome result (λ e. IsTrue (fits_fields (entry_of e))) }
 {
-    if desk.there {
-        Some(desk.scratch.entry(desk.place.index))
+    if position.there {
+        Some(position.scratch.entry(position.place.index))
     } else {
         None
     }
@@ -71,17 +71,17 @@ fn entry_of_desk(desk: &Desk) -> Option<Entry<'_>>
 pub(crate) fn head<'a>(
     source: &Source<'_>,
     pool: &'a ArenaPool,
-    desk: &'a Desk,
+    position: &'a SourcePosition,
 ) -> Option<Entry<'a>>
     requires kept { MayBeRead pool.now source.now }
-    requires found { HasHead source.now desk.now }
-    ensures ok { option_map entry_of result ≡ first_at_source pool.now source.now desk.now }
+    requires found { HasHead source.now position.now }
+    ensures ok { option_map entry_of result ≡ first_at_source pool.now source.now position.now }
     ensures fits { IfSome result (λ e. IsTrue (fits_fields (entry_of e))) }
 {
     match source {
         Source::None => None,
-        Source::Zero(list) => item_at(pool, list, desk.item),
-        Source::Array(_) => entry_of_desk(desk),
+        Source::Zero(list) => item_at(pool, list, position.item),
+        Source::Array(_) => entry_at_position(position),
     }
 }
 
@@ -244,15 +244,15 @@ pub(crate) fn begin<D: Disk>(
     tree: &Tree,
     v: Version,
     lo: &[u8],
-    desk: &mut Desk,
+    position: &mut SourcePosition,
 ) -> Result<(), Fault>
     requires kept { MayBeRead pool.now source.now }
     requires fits { v < length tree.now.parents }
-    ensures found { OnOk result (IsSettledAt tree.now.parents v pool.now source.now desk.new) }
+    ensures found { OnOk result (IsSettledAt tree.now.parents v pool.now source.now position.new) }
     ensures ok { OnOk result ((f : Image) → Exposes (D.view disk.old) f
         → MayBeBegun f cache.old source.now
-        → IsUpTo f pool.now tree.now.parents v lo.now [] source.now desk.new
-        × StandsIn f cache.new source.now desk.new.scratch) }
+        → IsUpTo f pool.now tree.now.parents v lo.now [] source.now position.new
+        × StandsIn f cache.new source.now position.new.scratch) }
     ensures same { LooksThrough (D.view disk.old) (D.view disk.new)
         (arrays_at source.now) cache.old cache.new }
     ensures damaged { (b : ℕ) → IsErrOf result (Damaged b)
@@ -261,18 +261,18 @@ pub(crate) fn begin<D: Disk>(
     ensures reads { (n : ℕ) → HaveFewBlocks n (arrays_at source.now)
         → ReadsAtMost (reads_of_source n source.now) (D.reads disk.old) (D.reads disk.new) }
     ensures room { OnOk result ((n : ℕ) → HaveFewBlocks n (arrays_at source.now)
-        → D.reads disk.new + reads_left source.now desk.new
+        → D.reads disk.new + reads_left source.now position.new
         ≤ D.reads disk.old + reads_of_source n source.now) }
 {
     match source {
         Source::None => Ok(()),
         Source::Zero(list) => {
-            desk.item = begin_item(pool, list, tree, v, lo);
+            position.item = begin_item(pool, list, tree, v, lo);
             Ok(())
         }
         Source::Array(desc) => {
-            let at = begin_place(disk, cache, desc, tree, v, lo, &mut desk.scratch)?;
-            desk.stand(at);
+            let at = begin_place(disk, cache, desc, tree, v, lo, &mut position.scratch)?;
+            position.stand(at);
             Ok(())
         }
     }
@@ -288,42 +288,51 @@ pub(crate) fn advance<D: Disk>(
     tree: &Tree,
     v: Version,
     last: &[u8],
-    desk: &mut Desk,
+    position: &mut SourcePosition,
 ) -> Result<(), Fault>
     requires kept { MayBeRead pool.now source.now }
     requires fits { v < length tree.now.parents }
-    requires same { HasHead source.now desk.old }
-    requires found { IsSpent last.now (first_at_source pool.now source.now desk.old) }
-    ensures found { OnOk result (IsSettledAt tree.now.parents v pool.now source.now desk.new) }
+    requires same { HasHead source.now position.old }
+    requires found { IsSpent last.now (first_at_source pool.now source.now position.old) }
+    ensures found { OnOk result (IsSettledAt tree.now.parents v pool.now source.now position.new) }
     ensures ok { OnOk result ((f : Image) → Exposes (D.view disk.old) f
-        → StandsIn f cache.old source.now desk.old.scratch
-        → PassesUndue tree.now.parents v last.now (left_at_source f pool.now source.now desk.old)
-        (left_at_source f pool.now source.now desk.new)
-        × StandsIn f cache.new source.now desk.new.scratch) }
-    ensures end { OnOk result (steps_left pool.now source.now desk.new
-        < steps_left pool.now source.now desk.old) }
+        → StandsIn f cache.old source.now position.old.scratch
+        → PassesUndue tree.now.parents v last.now (left_at_source f pool.now source.now position.old)
+        (left_at_source f pool.now source.now position.new)
+        × StandsIn f cache.new source.now position.new.scratch) }
+    ensures end { OnOk result (steps_left pool.now source.now position.new
+        < steps_left pool.now source.now position.old) }
     ensures same { LooksThrough (D.view disk.old) (D.view disk.new)
         (arrays_at source.now) cache.old cache.new }
     ensures damaged { (b : ℕ) → IsErrOf result (Damaged b)
         → NamesNoBlock (D.view disk.old).content (arrays_at source.now) b }
     ensures cause { HasCause Device (D.faults disk.old) (D.faults disk.new) result }
-    ensures reads { ReadsAtMost (reads_left source.now desk.old)
+    ensures reads { ReadsAtMost (reads_left source.now position.old)
         (D.reads disk.old) (D.reads disk.new) }
-    ensures room { OnOk result (D.reads disk.new + reads_left source.now desk.new
-        ≤ D.reads disk.old + reads_left source.now desk.old) }
+    ensures room { OnOk result (D.reads disk.new + reads_left source.now position.new
+        ≤ D.reads disk.old + reads_left source.now position.old) }
 {
     match source {
         Source::None => Ok(()),
         Source::Zero(list) => {
             // That there are more items than the place says is known where they are counted.
             let _items = list.items().len();
-            desk.item = stand_item(pool, list, tree, v, last, desk.item + 1);
+            position.item = stand_item(pool, list, tree, v, last, position.item + 1);
             Ok(())
         }
         Source::Array(desc) => {
-            let next = desk.place.next();
-            let at = stand_place(disk, cache, desc, tree, v, last, next, &mut desk.scratch)?;
-            desk.stand(at);
+            let next = position.place.next();
+            let at = stand_place(
+                disk,
+                cache,
+                desc,
+                tree,
+                v,
+                last,
+                next,
+                &mut position.scratch,
+            )?;
+            position.stand(at);
             Ok(())
         }
     }

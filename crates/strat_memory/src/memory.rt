@@ -33,7 +33,7 @@ use std::mem;
 use strat_arena::ArenaPool;
 use strat_array::{Cache, Seen};
 use strat_base::{ArrayDesc, Change, NoMemory, PairBuf, Val, Version};
-use strat_cursor::{CursorFault, Cursors, Desks, NextFault};
+use strat_cursor::{CursorFault, Cursors, NextFault, ScanBuffers};
 use strat_disk::Disk;
 use strat_level::{Levels, Zero};
 use strat_model::{Refusal, Reply};
@@ -401,7 +401,7 @@ impl Memory {
         cache: &mut Cache,
         number: u64,
         limit: u16,
-        desks: &mut Desks,
+        buffers: &mut ScanBuffers,
         out: &mut PairBuf,
     ) -> Result<bool, NextFault>
         requires fits { (1 ≤ limit) × (limit ≤ 256) }
@@ -428,7 +428,7 @@ impl Memory {
             (D.reads disk.old) (D.reads disk.new) }
     {
         let more = self.cursors.next(
-            disk, cache, &self.pool, &self.tree, number, limit, desks, out,
+            disk, cache, &self.pool, &self.tree, number, limit, buffers, out,
         )?;
         Ok(more)
     }

@@ -14,7 +14,7 @@ use crate::edges::{count_entries, give_all, is_deepest, leads_of};
 use crate::obstacle::Obstacle;
 use crate::slicing::{take_steps, taken_in};
 use crate::stage::Stage;
-use crate::step::{Desk, Sources, Step, Task};
+use crate::step::{Sources, Step, Task, WorkBuffers};
 use std::alloc::Global;
 use strat_arena::{Arena, ArenaPool};
 use strat_base::limits::LEVELS;
@@ -41,7 +41,7 @@ pub enum Progress {
 pub struct Promotion {
     task: Task,
     stage: Stage,
-    desk: Desk,
+    buffers: WorkBuffers,
     level: Option<LevelDesc>,
     is_done: bool,
 }
@@ -82,7 +82,7 @@ impl Promotion {
             first: next_array,
             purges: is_deepest(levels, target),
         };
-        let desk = Desk {
+        let buffers = WorkBuffers {
             alloc,
             arena: Arena::new(alloc),
             group: GroupBuf::new(alloc, horizon)?,
@@ -90,7 +90,7 @@ impl Promotion {
         Ok(Promotion {
             task,
             stage: Stage::Begun,
-            desk,
+            buffers,
             level: None,
             is_done: false,
         })
@@ -157,7 +157,7 @@ impl Promotion {
         match take_steps(
             &self.task,
             &mut self.stage,
-            &mut self.desk,
+            &mut self.buffers,
             &sources,
             space,
             disk,

@@ -18,7 +18,7 @@ ghost use Rattle.strat_promote.specs.declared.obstacle.Obstacle.TheVariants.{Dam
 
 use crate::obstacle::Obstacle;
 use crate::stage::Stage;
-use crate::step::{Desk, Sources, Step, Task, take_step};
+use crate::step::{Sources, Step, Task, WorkBuffers, take_step};
 use strat_disk::Disk;
 use strat_extent::Space;
 
@@ -75,7 +75,7 @@ fn may_pause<D: Disk>(start: u64, budget: u64, stage: &Stage) -> bool
 pub(crate) fn take_steps<D: Disk>(
     task: &Task,
     stage: &mut Stage,
-    desk: &mut Desk,
+    buffers: &mut WorkBuffers,
     sources: &Sources<'_>,
     space: &mut Space,
     disk: &mut D,
@@ -113,7 +113,7 @@ pub(crate) fn take_steps<D: Disk>(
 {
     let start = taken_in(stage);
     for _ in 0..STEPS_MAX {
-        match take_step(task, stage, desk, sources, space, disk)? {
+        match take_step(task, stage, buffers, sources, space, disk)? {
             Step::Made(level) => return Ok(Step::Made(level)),
             Step::More => {
                 if may_pause::<D>(start, budget, stage) {

@@ -68,7 +68,7 @@ pub(crate) struct Sources<'a> {
 
 /// Room for the group at hand.
 #[derive(Drop)]
-pub(crate) struct Desk {
+pub(crate) struct WorkBuffers {
     pub(crate) alloc: Global,
     pub(crate) arena: Arena,
     pub(crate) group: GroupBuf,
@@ -84,7 +84,7 @@ pub(crate) enum Step {
 /// The runs of the first pass are opened.
 fn start_counting<D: Disk>(
     task: &Task,
-    desk: &mut Desk,
+    buffers: &mut WorkBuffers,
     sources: &Sources<'_>,
     disk: &mut D,
 ) -> Result<Stage, Trouble>
@@ -108,7 +108,7 @@ fn start_counting<D: Disk>(
         + 2 * length (blocks_listed (arrays_to sources.now.levels.now task.now.target))) }
 {
     let counting = begin_counting(
-        desk.alloc,
+        buffers.alloc,
         sources.zero,
         sources.levels,
         sources.pool,
@@ -124,7 +124,7 @@ fn start_counting<D: Disk>(
 fn step_counting<D: Disk>(
     task: &Task,
     counting: &mut Counting<Input>,
-    desk: &mut Desk,
+    buffers: &mut WorkBuffers,
     sources: &Sources<'_>,
     disk: &mut D,
 ) -> Result<Option<Stage>, Obstacle>
@@ -171,8 +171,8 @@ fn step_counting<D: Disk>(
 {
     let more = count_group::<D, Input>(
         counting,
-        &mut desk.arena,
-        &mut desk.group,
+        &mut buffers.arena,
+        &mut buffers.group,
         sources.tree,
         task.purges,
         disk,
@@ -182,7 +182,7 @@ fn step_counting<D: Disk>(
     }
     let before = counting.merger.consumed();
     let writing = begin_writing(
-        desk.alloc,
+        buffers.alloc,
         counting,
         sources.zero,
         sources.levels,
@@ -231,7 +231,7 @@ fn finish_writing<D: Disk>(
 fn step_writing<D: Disk>(
     task: &Task,
     writing: &mut Writing<Input>,
-    desk: &mut Desk,
+    buffers: &mut WorkBuffers,
     sources: &Sources<'_>,
     space: &mut Space,
     disk: &mut D,
@@ -270,8 +270,8 @@ fn step_writing<D: Disk>(
 {
     let more = write_group::<D, Input>(
         writing,
-        &mut desk.arena,
-        &mut desk.group,
+        &mut buffers.arena,
+        &mut buffers.group,
         sources.tree,
         task.purges,
         space,
@@ -280,7 +280,7 @@ fn step_writing<D: Disk>(
     if more {
         return Ok(Step::More);
     }
-    let made = finish_writing(task, desk.alloc, writing, space, disk)?;
+    let made = finish_writing(task, buffers.alloc, writing, space, disk)?;
     Ok(Step::Made(made))
 }
 
@@ -297,7 +297,7 @@ fn enter_stage(stage: &mut Stage, next: Option<Stage>)
 pub(crate) fn take_step<D: Disk>(
     task: &Task,
     stage: &mut Stage,
-    desk: &mut Desk,
+    buffers: &mut WorkBuffers,
     sources: &Sources<'_>,
     space: &mut Space,
     disk: &mut D,
@@ -338,16 +338,16 @@ pub(crate) fn take_step<D: Disk>(
 {
     match stage {
         Stage::Begun => {
-            *stage = start_counting(task, desk, sources, disk)?;
+            *stage = start_counting(task, buffers, sources, disk)?;
             Ok(Step::More)
         }
         Stage::Counting(counting) => {
-            let next = step_counting(task, counting, desk, sources, disk)?;
+            let next = step_counting(task, counting, buffers, sources, disk)?;
             enter_stage(stage, next);
             Ok(Step::More)
         }
         Stage::Writing(writing, _) => {
-            let step = step_writing(task, writing, desk, sources, space, disk)?;
+            let step = step_writing(task, writing, buffers, sources, space, disk)?;
             Ok(step)
         }
     }

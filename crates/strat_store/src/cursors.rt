@@ -23,7 +23,7 @@ ghost use Rattle.strat_store.specs.Applying.{held_after};
 
 use strat_array::Cache;
 use strat_base::{PairBuf, Version};
-use strat_cursor::{CursorFault, Desks, NextFault};
+use strat_cursor::{CursorFault, NextFault, ScanBuffers};
 use strat_disk::Disk;
 use strat_memory::open_store::OpenStore;
 use strat_model::{Refusal, Reply};
@@ -99,7 +99,7 @@ pub(crate) fn reply_to_open_cursor(
 pub(crate) fn reply_to_next_pairs<D: Disk>(
     held: &mut OpenStore,
     cache: &mut Cache,
-    desks: &mut Desks,
+    buffers: &mut ScanBuffers,
     disk: &mut D,
     number: u64,
     limit: u16,
@@ -137,7 +137,7 @@ pub(crate) fn reply_to_next_pairs<D: Disk>(
 {
     let told = held
         .memory
-        .next_pairs(disk, cache, number, limit, desks, out);
+        .next_pairs(disk, cache, number, limit, buffers, out);
     reply_of_next(told)
 }
 

@@ -22,7 +22,7 @@ ghost use Rattle.strat_memory.specs.RecoveredFields.{held_of};
 
 use strat_array::Cache;
 use strat_base::{Fault, PairBuf, Version};
-use strat_cursor::{Desks, Picked, View, scan};
+use strat_cursor::{Picked, ScanBuffers, View, scan};
 use strat_disk::Disk;
 use strat_memory::open_store::OpenStore;
 use strat_model::{Refusal, Reply};
@@ -45,7 +45,7 @@ fn reply_of_scan(found: Result<bool, Fault>) -> Reply
 pub(crate) fn scan_range<D: Disk>(
     held: &OpenStore,
     cache: &mut Cache,
-    desks: &mut Desks,
+    buffers: &mut ScanBuffers,
     disk: &mut D,
     version: Version,
     lo: &[u8],
@@ -93,6 +93,6 @@ pub(crate) fn scan_range<D: Disk>(
         sealed: None,
         levels: Picked::Live(&held.published.levels),
     };
-    let found = scan(disk, cache, &view, version, lo, hi, limit, desks, out);
+    let found = scan(disk, cache, &view, version, lo, hi, limit, buffers, out);
     reply_of_scan(found)
 }

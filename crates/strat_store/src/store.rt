@@ -41,7 +41,7 @@ use std::marker::Model;
 use strat_array::{Cache, Scratch};
 use strat_base::limits::CACHED_BLOCKS;
 use strat_base::{Change, NoMemory, PairBuf, Version};
-use strat_cursor::Desks;
+use strat_cursor::ScanBuffers;
 use strat_disk::Disk;
 use strat_memory::memory::Memory;
 use strat_memory::open_store::OpenStore;
@@ -57,7 +57,7 @@ pub struct Store {
     held: OpenStore,
     cache: Cache,
     scratch: Scratch,
-    desks: Desks,
+    buffers: ScanBuffers,
     spent: bool,
 }
 
@@ -121,7 +121,7 @@ fn look<D: Disk>(
     held: &OpenStore,
     cache: &mut Cache,
     scratch: &mut Scratch,
-    desks: &mut Desks,
+    buffers: &mut ScanBuffers,
     disk: &mut D,
     command: &Command<'_>,
     out: &mut PairBuf,
@@ -158,7 +158,7 @@ fn look<D: Disk>(
             lo,
             hi,
             limit,
-        } => scan_range(held, cache, desks, disk, version, lo, hi, limit, out),
+        } => scan_range(held, cache, buffers, disk, version, lo, hi, limit, out),
         Command::Info { version } => info(&held.memory, version),
         Command::Stat => held.memory.stat(),
         // The premises leave no other command.
@@ -171,7 +171,7 @@ fn query<D: Disk>(
     held: &mut OpenStore,
     cache: &mut Cache,
     scratch: &mut Scratch,
-    desks: &mut Desks,
+    buffers: &mut ScanBuffers,
     disk: &mut D,
     command: &Command<'_>,
     out: &mut PairBuf,
@@ -209,10 +209,10 @@ fn query<D: Disk>(
     match *command {
         Command::OpenCursor { version, lo, hi } => reply_to_open_cursor(held, version, lo, hi),
         Command::NextPairs { cursor, limit } => {
-            reply_to_next_pairs(held, cache, desks, disk, cursor, limit, out)
+            reply_to_next_pairs(held, cache, buffers, disk, cursor, limit, out)
         }
         Command::CloseCursor { cursor } => reply_to_close_cursor(held, cursor),
-        _ => look(held, cache, scratch, desks, disk, command, out),
+        _ => look(held, cache, scratch, buffers, disk, command, out),
     }
 }
 
@@ -222,7 +222,7 @@ fn answer<D: Disk>(
     held: &mut OpenStore,
     cache: &mut Cache,
     scratch: &mut Scratch,
-    desks: &mut Desks,
+    buffers: &mut ScanBuffers,
     disk: &mut D,
     command: &Command<'_>,
     out: &mut PairBuf,
@@ -263,19 +263,19 @@ fn answer<D: Disk>(
 {
     match change_asked(command) {
         Some(asked) => change(alloc, held, disk, &asked),
-        None => query(held, cache, scratch, desks, disk, command, out),
+        None => query(held, cache, scratch, buffers, disk, command, out),
     }
 }
 
 /// What look-ups and scans work with: a cache of 256 blocks, which takes memory as it fills, and room for 25 blocks. The
 /// only error is want of memory.
-fn take_read_buffers(alloc: Global) -> Result<(Cache, Scratch, Desks), NoMemory>
+fn take_read_buffers(alloc: Global) -> Result<(Cache, Scratch, ScanBuffers), NoMemory>
     ensures ok { IfOk result (λ room. room.0 ≡ empty_cache 256) }
 {
     let cache = Cache::new(alloc, CACHED_BLOCKS)?;
     let scratch = Scratch::new(alloc)?;
-    let desks = Desks::new(alloc)?;
-    Ok((cache, scratch, desks))
+    let buffers = ScanBuffers::new(alloc)?;
+    Ok((cache, scratch, buffers))
 }
 
 impl Store {
@@ -346,7 +346,7 @@ impl Store {
             &mut self.held,
             &mut self.cache,
             &mut self.scratch,
-            &mut self.desks,
+            &mut self.buffers,
             disk,
             command,
             out,
@@ -383,14 +383,14 @@ impl Store {
             (chain_length s.sb.length + region_blocks s.sb.mem + 4)
             (D.reads disk.old) (D.reads disk.new)) }
     {
-        let (cache, scratch, desks) = take_read_buffers(alloc)?;
+        let (cache, scratch, buffers) = take_read_buffers(alloc)?;
         match open(alloc, disk) {
             Ok(held) => Ok(Store {
                 alloc,
                 held,
                 cache,
                 scratch,
-                desks,
+                buffers,
                 spent: false,
             }),
             Err(fault) => Err(fault),

@@ -1,8 +1,8 @@
 use Rattle.std.proofs.Common.{List, ℕ, sym, subst, ◌∙◌}
 use Rattle.strat_base.proofs.ResultFacts.{if_ok_then}
-use Rattle.strat_cursor.specs.Turning.{AreUpTo}
+use Rattle.strat_cursor.specs.Emitting.{AreUpTo}
 use Rattle.strat_cursor.proofs.ThroughLemmas.{through_trans}
-use Rattle.strat_cursor.proofs.TurnLemmas.{at_hand}
+use Rattle.strat_cursor.proofs.EmitLemmas.{at_hand}
 use Rattle.strat_cursor.proofs.TellLemmas.{page_range}
 use Rattle.strat_cursor.proofs.scanning.scan_sources.Goals as goal
 
@@ -14,7 +14,7 @@ returns-clause-ok g c =
     if_ok_then c.tell_all.result c.tell_all.ensures.ok (λ more answers f next exposed may m seen.
     page_range m c.args.lo.now c.args.hi.now c.clear.new.self.items c.args.out.now c.args.limit _ more c.clear.ensures.items c.requires.room.1
     (answers f c.args.lo.now m (c.in_ok-begin_all.ensures.same.disk.same ∙ exposed) may.ids
-    (subst (λ (l : List ℕ). AreUpTo f c.begin_all.new.cache c.args.view.now.pool.now c.args.view.now.tree.now.parents c.args.v c.args.lo.now l c.args.sources.now c.begin_all.new.desks) (sym c.clear.ensures.items) (c.in_ok-begin_all.ensures.ok f next exposed may)) seen))
+    (subst (λ (l : List ℕ). AreUpTo f c.begin_all.new.cache c.args.view.now.pool.now c.args.view.now.tree.now.parents c.args.v c.args.lo.now l c.args.sources.now c.begin_all.new.positions) (sym c.clear.ensures.items) (c.in_ok-begin_all.ensures.ok f next exposed may)) seen))
 
 pub returns-clause-same : goal.returns-clause-same
 returns-clause-same g c = through_trans _ _ _ _ _ _ _ c.in_ok-begin_all.ensures.same c.tell_all.ensures.same

@@ -1,23 +1,23 @@
 use Rattle.std.proofs.Common.{◌≡◌, ◌≤◌, ◌+◌, length, vec_capacity}
 use Rattle.strat_merge.specs.Bracket.{IsTournament}
-use Rattle.strat_cursor.specs.Contest.{contenders}
+use Rattle.strat_cursor.specs.Contenders.{contenders}
 use Rattle.strat_cursor.specs.Sources.{reads_left, steps_left}
-use Rattle.strat_cursor.specs.Turning.{AreSettled, sum_over}
+use Rattle.strat_cursor.specs.Emitting.{AreSettled, sum_over}
 use Rattle.strat_cursor.proofs.TellLemmas.{Telling}
 use Rattle.strat_cursor.proofs.scanning.tell_all.Given as goal
 
 abbrev pub invariant-loop-w : goal.invariant-loop-w
 invariant-loop-w g l = record {
-  telling : Telling (g.D.Disk.view l.initial.disk) (g.D.Disk.view l.disk) l.view l.v l.hi l.sources l.initial.cache l.cache l.initial.last.items l.last.items l.initial.desks l.desks l.initial.out l.out;
-  settled : AreSettled l.view.tree.now.parents l.v l.view.pool.now l.sources l.desks;
-  won : IsTournament (contenders l.view.pool.now l.sources l.desks) l.winners;
+  telling : Telling (g.D.Disk.view l.initial.disk) (g.D.Disk.view l.disk) l.view l.v l.hi l.sources l.initial.cache l.cache l.initial.last.items l.last.items l.initial.positions l.positions l.initial.out l.out;
+  settled : AreSettled l.view.tree.now.parents l.v l.view.pool.now l.sources l.positions;
+  won : IsTournament (contenders l.view.pool.now l.sources l.positions) l.winners;
   few : length l.out ≤ l.limit;
   room : 255 ≤ vec_capacity l.last;
-  same : length l.desks ≡ length l.initial.desks;
+  same : length l.positions ≡ length l.initial.positions;
   faults : g.D.Disk.faults l.disk ≡ g.D.Disk.faults l.initial.disk;
   later : g.D.Disk.reads l.initial.disk ≤ g.D.Disk.reads l.disk;
-  reads : g.D.Disk.reads l.disk + sum_over reads_left l.sources l.desks ≤ g.D.Disk.reads l.initial.disk + sum_over reads_left l.sources l.initial.desks;
+  reads : g.D.Disk.reads l.disk + sum_over reads_left l.sources l.positions ≤ g.D.Disk.reads l.initial.disk + sum_over reads_left l.sources l.initial.positions;
 }
 
 abbrev pub decreases-loop-w : goal.decreases-loop-w
-decreases-loop-w g l = sum_over (steps_left l.view.pool.now) l.sources l.desks
+decreases-loop-w g l = sum_over (steps_left l.view.pool.now) l.sources l.positions

@@ -5,32 +5,32 @@ ghost use Rattle.std.specs.Prelude.{◌≡◌, ◌≤◌, ◌<◌, ◌+◌, ◌*
 ghost use Rattle.strat_base.specs.EntryBytes.{fits_fields};
 ghost use Rattle.strat_base.specs.EntryView.{entry_of};
 ghost use Rattle.strat_merge.specs.Bracket.{is_ahead, winner_of, IsBracket, IsTournament, PlayedBeside};
-ghost use Rattle.strat_cursor.specs.Contest.{contenders, head_in, keyed, LeadsAll, NoneAhead, AreAtHand};
+ghost use Rattle.strat_cursor.specs.Contenders.{contenders, head_in, keyed, LeadsAll, NoneAhead, AreAtHand};
 
-use crate::desks::Desk;
+use crate::scan_buffers::SourcePosition;
 use crate::sources::{Source, head};
 use std::alloc::Global;
 use strat_arena::ArenaPool;
 use strat_base::{Entry, NoMemory, key_order};
 
 /// The first entry that a source has left, if there is one. O(1), and nothing is read.
-#[tactic(auto, using(crate::proofs::ContestLemmas::get_here))]
+#[tactic(auto, using(crate::proofs::TournamentLemmas::get_here))]
 pub(crate) fn head_in<'a>(
     sources: &[Source<'_>],
     pool: &'a ArenaPool,
-    desks: &'a [Desk],
+    positions: &'a [SourcePosition],
     i: usize,
 ) -> Option<Entry<'a>>
-    requires kept { AreAtHand pool.now sources.now desks.now }
+    requires kept { AreAtHand pool.now sources.now positions.now }
     requires fits { i < length sources.now }
-    ensures ok { option_map entry_of result ≡ head_in pool.now sources.now desks.now i }
+    ensures ok { option_map entry_of result ≡ head_in pool.now sources.now positions.now i }
     ensures fits { IfSome result (λ e. IsTrue (fits_fields (entry_of e))) }
 {
-    head(&sources[i], pool, &desks[i])
+    head(&sources[i], pool, &positions[i])
 }
 
 /// Whether an entry's key is below another's, or the same and the number of its source less.
-#[tactic(auto, using(crate::proofs::ContestLemmas::keyed_ahead))]
+#[tactic(auto, using(crate::proofs::TournamentLemmas::keyed_ahead))]
 fn is_before(e: &Entry<'_>, a: usize, f: &Entry<'_>, b: usize) -> bool
     ensures ok { result ≡ is_ahead (Some (keyed (entry_of e.now))) a
         (Some (keyed (entry_of f.now))) b }
@@ -39,15 +39,21 @@ fn is_before(e: &Entry<'_>, a: usize, f: &Entry<'_>, b: usize) -> bool
 }
 
 /// Whether a source is ahead of another. A comparison of keys where they lie.
-fn precedes(sources: &[Source<'_>], pool: &ArenaPool, desks: &[Desk], a: usize, b: usize) -> bool
-    requires kept { AreAtHand pool.now sources.now desks.now }
+fn precedes(
+    sources: &[Source<'_>],
+    pool: &ArenaPool,
+    positions: &[SourcePosition],
+    a: usize,
+    b: usize,
+) -> bool
+    requires kept { AreAtHand pool.now sources.now positions.now }
     requires fits { (a < length sources.now) × (b < length sources.now) }
-    ensures ok { result ≡ is_ahead (option_map keyed (head_in pool.now sources.now desks.now a)) a
-        (option_map keyed (head_in pool.now sources.now desks.now b)) b }
+    ensures ok { result ≡ is_ahead (option_map keyed (head_in pool.now sources.now positions.now a)) a
+        (option_map keyed (head_in pool.now sources.now positions.now b)) b }
 {
     match (
-        head_in(sources, pool, desks, a),
-        head_in(sources, pool, desks, b),
+        head_in(sources, pool, positions, a),
+        head_in(sources, pool, positions, b),
     ) {
         (Some(e), Some(f)) => is_before(&e, a, &f, b),
         (Some(_), None) => true,
@@ -69,19 +75,25 @@ pub(crate) fn new_bracket(alloc: Global, sources: usize) -> Result<Vec<usize>, N
 }
 
 /// Plays one node: the winner of the two below it takes its place.
-#[tactic(auto, using(crate::proofs::ContestLemmas::contender_at, strat_merge::proofs::BracketLemmas::winner_low))]
-fn play(sources: &[Source<'_>], pool: &ArenaPool, desks: &[Desk], winners: &mut [usize], k: usize)
-    requires kept { AreAtHand pool.now sources.now desks.now }
+#[tactic(auto, using(crate::proofs::TournamentLemmas::contender_at, strat_merge::proofs::BracketLemmas::winner_low))]
+fn play(
+    sources: &[Source<'_>],
+    pool: &ArenaPool,
+    positions: &[SourcePosition],
+    winners: &mut [usize],
+    k: usize,
+)
+    requires kept { AreAtHand pool.now sources.now positions.now }
     requires fits { (1 ≤ k) × (k < length sources.now) }
     requires found { IsBracket (length sources.now) winners.old }
     ensures ok { winners.new ≡ slice_set winners.old k
-        (winner_of (contenders pool.now sources.now desks.now)
+        (winner_of (contenders pool.now sources.now positions.now)
         (slice_index winners.old (2 * k)) (slice_index winners.old (2 * k + 1))) }
     ensures kept { IsBracket (length sources.now) winners.new }
 {
     let a = winners[2 * k];
     let b = winners[2 * k + 1];
-    winners[k] = if precedes(sources, pool, desks, b, a) {
+    winners[k] = if precedes(sources, pool, positions, b, a) {
         b
     } else {
         a
@@ -92,17 +104,17 @@ fn play(sources: &[Source<'_>], pool: &ArenaPool, desks: &[Desk], winners: &mut 
 pub(crate) fn play_all(
     sources: &[Source<'_>],
     pool: &ArenaPool,
-    desks: &[Desk],
+    positions: &[SourcePosition],
     winners: &mut [usize],
 )
-    requires kept { AreAtHand pool.now sources.now desks.now }
+    requires kept { AreAtHand pool.now sources.now positions.now }
     requires found { IsBracket (length sources.now) winners.old }
-    ensures ok { IsTournament (contenders pool.now sources.now desks.now) winners.new }
+    ensures ok { IsTournament (contenders pool.now sources.now positions.now) winners.new }
 {
     let mut k = sources.len();
     while k > 1 {
         k -= 1;
-        play(sources, pool, desks, winners, k);
+        play(sources, pool, positions, winners, k);
     }
 }
 
@@ -110,31 +122,36 @@ pub(crate) fn play_all(
 pub(crate) fn replay(
     sources: &[Source<'_>],
     pool: &ArenaPool,
-    desks: &[Desk],
+    positions: &[SourcePosition],
     winners: &mut [usize],
     node: usize,
 )
-    requires kept { AreAtHand pool.now sources.now desks.now }
+    requires kept { AreAtHand pool.now sources.now positions.now }
     requires found { IsBracket (length sources.now) winners.old }
     requires fits { node < 2 * length sources.now }
-    requires same { PlayedBeside (contenders pool.now sources.now desks.now) winners.old
+    requires same { PlayedBeside (contenders pool.now sources.now positions.now) winners.old
         (node / 2) }
-    ensures ok { IsTournament (contenders pool.now sources.now desks.now) winners.new }
+    ensures ok { IsTournament (contenders pool.now sources.now positions.now) winners.new }
 {
     let mut k = node / 2;
     while k > 0 {
-        play(sources, pool, desks, winners, k);
+        play(sources, pool, positions, winners, k);
         k /= 2;
     }
 }
 
 /// Whether a source has an entry left.
-fn has_head(sources: &[Source<'_>], pool: &ArenaPool, desks: &[Desk], i: usize) -> bool
-    requires kept { AreAtHand pool.now sources.now desks.now }
+fn has_head(
+    sources: &[Source<'_>],
+    pool: &ArenaPool,
+    positions: &[SourcePosition],
+    i: usize,
+) -> bool
+    requires kept { AreAtHand pool.now sources.now positions.now }
     requires fits { i < length sources.now }
-    ensures ok { result ≡ is_some (head_in pool.now sources.now desks.now i) }
+    ensures ok { result ≡ is_some (head_in pool.now sources.now positions.now i) }
 {
-    head_in(sources, pool, desks, i).is_some()
+    head_in(sources, pool, positions, i).is_some()
 }
 
 /// The source whose first key is least, the first of these where several have it, or `None` where none has an entry
@@ -142,19 +159,19 @@ fn has_head(sources: &[Source<'_>], pool: &ArenaPool, desks: &[Desk], i: usize) 
 pub(crate) fn leader(
     sources: &[Source<'_>],
     pool: &ArenaPool,
-    desks: &[Desk],
+    positions: &[SourcePosition],
     winners: &[usize],
 ) -> Option<usize>
-    requires kept { AreAtHand pool.now sources.now desks.now }
-    requires found { IsTournament (contenders pool.now sources.now desks.now) winners.now }
+    requires kept { AreAtHand pool.now sources.now positions.now }
+    requires found { IsTournament (contenders pool.now sources.now positions.now) winners.now }
     requires fits { 0 < length sources.now }
     ensures found { IfSome result (λ w. (w < length sources.now)
-        × IsSome (head_in pool.now sources.now desks.now w)) }
-    ensures ok { IfSome result (λ w. LeadsAll pool.now sources.now desks.now w) }
-    ensures none { IfNone result (NoneAhead pool.now sources.now desks.now) }
+        × IsSome (head_in pool.now sources.now positions.now w)) }
+    ensures ok { IfSome result (λ w. LeadsAll pool.now sources.now positions.now w) }
+    ensures none { IfNone result (NoneAhead pool.now sources.now positions.now) }
 {
     let winner = winners[1];
-    if has_head(sources, pool, desks, winner) {
+    if has_head(sources, pool, positions, winner) {
         Some(winner)
     } else {
         None

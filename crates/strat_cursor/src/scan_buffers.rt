@@ -2,8 +2,8 @@
 
 ghost use Rattle.std.specs.Prelude.{◌≡◌, length, IfOk, is_some, unwrap_or};
 
-use crate::contest::new_bracket;
 use crate::picking::SOURCES;
+use crate::tournament::new_bracket;
 use std::alloc::Global;
 use std::marker::Model;
 use strat_array::{Place, Scratch};
@@ -13,17 +13,17 @@ use strat_base::limits::KEY_MAX;
 /// Where a source of entries stands: at an item of level 0, or at an entry of the block that its scratch holds, if it
 /// has one left.
 #[derive(Drop)]
-pub struct Desk {
+pub struct SourcePosition {
     pub(crate) scratch: Scratch,
     pub(crate) item: usize,
     pub(crate) place: Place,
     pub(crate) there: bool,
 }
 
-impl Desk {
-    /// A desk with room for a block of 4,096 bytes, which is taken here. The only error is want of memory.
-    fn new(alloc: Global) -> Result<Desk, NoMemory> {
-        Ok(Desk {
+impl SourcePosition {
+    /// A position with room for a block of 4,096 bytes, which is taken here. The only error is want of memory.
+    fn new(alloc: Global) -> Result<SourcePosition, NoMemory> {
+        Ok(SourcePosition {
             scratch: Scratch::new(alloc)?,
             item: 0,
             place: Place { block: 0, index: 0 },
@@ -50,43 +50,43 @@ impl Desk {
     }
 }
 
-/// Room for a scan, which takes no memory itself: for each place that a range may be read from a desk, on which one
+/// Room for a scan, which takes no memory itself: for each place that a range may be read from a position, on which one
 /// block is at hand, a tournament of these places, and the key that was handled last. 98,304 bytes for blocks, and
 /// less than 4,096 for the rest.
 #[derive(Drop)]
-pub struct Desks {
-    pub(crate) desks: Vec<Desk>,
+pub struct ScanBuffers {
+    pub(crate) positions: Vec<SourcePosition>,
     pub(crate) winners: Vec<usize>,
     pub(crate) last: Vec<u8>,
 }
 
-impl Model for Desks {
+impl Model for ScanBuffers {
     ghost use Rattle.std.specs.Prelude.{⊤, vec_capacity};
-    ghost use Rattle.strat_cursor.specs.DeskFields.{HasScanRoom};
+    ghost use Rattle.strat_cursor.specs.ScanRoom.{HasScanRoom};
 
     ghost Value = { ⊤ };
 
     ghost view = { λ d. tt };
 
-    ghost invariant = { λ d. HasScanRoom d.desks.items d.winners.items (vec_capacity d.last) };
+    ghost invariant = { λ d. HasScanRoom d.positions.items d.winners.items (vec_capacity d.last) };
 }
 
-/// A desk for each place that a range may be read from.
-fn new_desks(alloc: Global) -> Result<Vec<Desk>, NoMemory>
+/// A position for each place that a range may be read from.
+fn new_positions(alloc: Global) -> Result<Vec<SourcePosition>, NoMemory>
     ensures len { IfOk result (λ d. length d.items ≡ 24) }
 {
-    let mut desks = Vec::with_capacity(alloc, SOURCES)?;
+    let mut positions = Vec::with_capacity(alloc, SOURCES)?;
     for _i in 0..SOURCES {
-        desks.push_reserved(Desk::new(alloc)?);
+        positions.push_reserved(SourcePosition::new(alloc)?);
     }
-    Ok(desks)
+    Ok(positions)
 }
 
-impl Desks {
+impl ScanBuffers {
     /// Room for a scan, which is taken here. The only error is want of memory.
-    pub fn new(alloc: Global) -> Result<Desks, NoMemory> {
-        Ok(Desks {
-            desks: new_desks(alloc)?,
+    pub fn new(alloc: Global) -> Result<ScanBuffers, NoMemory> {
+        Ok(ScanBuffers {
+            positions: new_positions(alloc)?,
             winners: new_bracket(alloc, SOURCES)?,
             last: Vec::with_capacity(alloc, KEY_MAX)?,
         })

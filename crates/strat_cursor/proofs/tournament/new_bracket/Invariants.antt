@@ -1,5 +1,5 @@
 use Rattle.std.proofs.Common.{◌≡◌, ◌≤◌, ◌<◌, ◌*◌, ℕ, ◌-◌, length, slice_index, vec_capacity}
-use Rattle.strat_cursor.proofs.contest.new_bracket.Given as goal
+use Rattle.strat_cursor.proofs.tournament.new_bracket.Given as goal
 
 abbrev pub invariant-loop-k : goal.invariant-loop-k
 invariant-loop-k l = record {

@@ -4,27 +4,27 @@ use Rattle.strat_base.proofs.ResultFacts.{err_of}
 use Rattle.strat_base.specs.Entries.{Entry}
 use Rattle.std.specs.declared.option.Option.{Option}
 use Rattle.strat_cursor.specs.Sources.{IsSpent, steps_left, reads_left}
-use Rattle.strat_cursor.proofs.ContestLemmas.{get_here, won_bracket, beside_source}
+use Rattle.strat_cursor.proofs.TournamentLemmas.{get_here, won_bracket, beside_source}
 use Rattle.strat_cursor.proofs.ThroughLemmas.{through_more, names_more}
-use Rattle.strat_cursor.proofs.TurnLemmas.{at_hand, settled_next, up_next, sum_next, sum_has, head_here, desk_at}
-use Rattle.strat_cursor.proofs.turn.go_on.Goals as goal
+use Rattle.strat_cursor.proofs.EmitLemmas.{at_hand, settled_next, up_next, sum_next, sum_has, head_here, desk_at}
+use Rattle.strat_cursor.proofs.emit.advance_leader.Goals as goal
 use Rattle.strat_cursor.specs.Views.{arrays_read}
 
 pub advance-requires-clause-same : goal.advance-requires-clause-same
 advance-requires-clause-same g c =
     let here = get_here c.args.sources.now c.args.w c.index-sources-w.result c.requires.fits.1 c.index-sources-w.is in
-    let there = desk_at c.args.desks.now (length c.args.sources.now) c.args.w c.index-desks-w.result c.requires.kept.0.same c.requires.fits.1 in
-    (c.requires.kept.0.each c.args.w c.index-sources-w.result (get_or c.args.desks.now c.args.w c.index-desks-w.result) here there).1.held
+    let there = desk_at c.args.positions.now (length c.args.sources.now) c.args.w c.index-positions-w.result c.requires.kept.0.same c.requires.fits.1 in
+    (c.requires.kept.0.each c.args.w c.index-sources-w.result (get_or c.args.positions.now c.args.w c.index-positions-w.result) here there).1.held
 
 pub advance-requires-clause-found : goal.advance-requires-clause-found
 advance-requires-clause-found g c =
     let here = get_here c.args.sources.now c.args.w c.index-sources-w.result c.requires.fits.1 c.index-sources-w.is in
-    let there = desk_at c.args.desks.now (length c.args.sources.now) c.args.w c.index-desks-w.result c.requires.kept.0.same c.requires.fits.1 in
-    subst (λ (o : Option Entry). IsSpent c.args.last.now o) (head_here c.args.view.now.pool.now c.args.sources.now c.args.desks.now c.args.w c.index-sources-w.result (get_or c.args.desks.now c.args.w c.index-desks-w.result) here there) c.requires.room
+    let there = desk_at c.args.positions.now (length c.args.sources.now) c.args.w c.index-positions-w.result c.requires.kept.0.same c.requires.fits.1 in
+    subst (λ (o : Option Entry). IsSpent c.args.last.now o) (head_here c.args.view.now.pool.now c.args.sources.now c.args.positions.now c.args.w c.index-sources-w.result (get_or c.args.positions.now c.args.w c.index-positions-w.result) here there) c.requires.room
 
 pub returns-in_err-advance-clause-len : goal.returns-in_err-advance-clause-len
 returns-in_err-advance-clause-len g c =
-    (length-set c.args.desks.now c.args.w c.advance.new.desk, won_bracket c.args.view.now.pool.now c.args.sources.now c.args.desks.now c.args.winners.now c.requires.kept.0.same c.requires.kept.1)
+    (length-set c.args.positions.now c.args.w c.advance.new.position, won_bracket c.args.view.now.pool.now c.args.sources.now c.args.positions.now c.args.winners.now c.requires.kept.0.same c.requires.kept.1)
 
 pub returns-in_err-advance-clause-same : goal.returns-in_err-advance-clause-same
 returns-in_err-advance-clause-same g c =
@@ -39,47 +39,47 @@ returns-in_err-advance-clause-damaged g c =
 pub returns-in_err-advance-clause-reads : goal.returns-in_err-advance-clause-reads
 returns-in_err-advance-clause-reads g c =
     let here = get_here c.args.sources.now c.args.w c.index-sources-w.result c.requires.fits.1 c.index-sources-w.is in
-    let there = desk_at c.args.desks.now (length c.args.sources.now) c.args.w c.index-desks-w.result c.requires.kept.0.same c.requires.fits.1 in
-    let all = sum_has reads_left c.args.sources.now c.args.desks.now c.args.w c.index-sources-w.result (get_or c.args.desks.now c.args.w c.index-desks-w.result) here there in
+    let there = desk_at c.args.positions.now (length c.args.sources.now) c.args.w c.index-positions-w.result c.requires.kept.0.same c.requires.fits.1 in
+    let all = sum_has reads_left c.args.sources.now c.args.positions.now c.args.w c.index-sources-w.result (get_or c.args.positions.now c.args.w c.index-positions-w.result) here there in
     record { later = c.advance.ensures.reads.later; bound = omega (arith, all, c.advance.ensures.reads.bound) }
 
 pub replay-requires-clause-kept : goal.replay-requires-clause-kept
 replay-requires-clause-kept g c =
     let here = get_here c.args.sources.now c.args.w c.index-sources-w.result c.requires.fits.1 c.index-sources-w.is in
-    at_hand c.args.view.now.tree.now.parents c.args.v c.args.view.now.pool.now c.args.sources.now _ (settled_next c.args.view.now.tree.now.parents c.args.v c.args.view.now.pool.now c.args.sources.now c.args.desks.now c.args.w c.index-sources-w.result c.advance.new.desk c.requires.kept.0 here (c.requires.same.each c.args.w c.index-sources-w.result here).read c.in_ok-advance.ensures.found)
+    at_hand c.args.view.now.tree.now.parents c.args.v c.args.view.now.pool.now c.args.sources.now _ (settled_next c.args.view.now.tree.now.parents c.args.v c.args.view.now.pool.now c.args.sources.now c.args.positions.now c.args.w c.index-sources-w.result c.advance.new.position c.requires.kept.0 here (c.requires.same.each c.args.w c.index-sources-w.result here).read c.in_ok-advance.ensures.found)
 
 pub replay-requires-clause-found : goal.replay-requires-clause-found
 replay-requires-clause-found g c =
-    won_bracket c.args.view.now.pool.now c.args.sources.now c.args.desks.now c.args.winners.now c.requires.kept.0.same c.requires.kept.1
+    won_bracket c.args.view.now.pool.now c.args.sources.now c.args.positions.now c.args.winners.now c.requires.kept.0.same c.requires.kept.1
 
 pub replay-requires-clause-same : goal.replay-requires-clause-same
 replay-requires-clause-same g c =
-    beside_source c.args.view.now.pool.now c.args.sources.now c.args.desks.now c.args.winners.now c.requires.kept.0.same c.requires.kept.1 c.args.w c.advance.new.desk
+    beside_source c.args.view.now.pool.now c.args.sources.now c.args.positions.now c.args.winners.now c.requires.kept.0.same c.requires.kept.1 c.args.w c.advance.new.position
 
 pub returns-clause-kept : goal.returns-clause-kept
 returns-clause-kept g c =
     let here = get_here c.args.sources.now c.args.w c.index-sources-w.result c.requires.fits.1 c.index-sources-w.is in
-    (settled_next c.args.view.now.tree.now.parents c.args.v c.args.view.now.pool.now c.args.sources.now c.args.desks.now c.args.w c.index-sources-w.result c.advance.new.desk c.requires.kept.0 here (c.requires.same.each c.args.w c.index-sources-w.result here).read c.in_ok-advance.ensures.found, c.replay.ensures.ok)
+    (settled_next c.args.view.now.tree.now.parents c.args.v c.args.view.now.pool.now c.args.sources.now c.args.positions.now c.args.w c.index-sources-w.result c.advance.new.position c.requires.kept.0 here (c.requires.same.each c.args.w c.index-sources-w.result here).read c.in_ok-advance.ensures.found, c.replay.ensures.ok)
 
 pub returns-clause-len : goal.returns-clause-len
 returns-clause-len g c =
-    (length-set c.args.desks.now c.args.w c.advance.new.desk, won_bracket c.args.view.now.pool.now c.args.sources.now _ c.replay.new.winners (length-set c.args.desks.now c.args.w c.advance.new.desk ∙ c.requires.kept.0.same) c.replay.ensures.ok)
+    (length-set c.args.positions.now c.args.w c.advance.new.position, won_bracket c.args.view.now.pool.now c.args.sources.now _ c.replay.new.winners (length-set c.args.positions.now c.args.w c.advance.new.position ∙ c.requires.kept.0.same) c.replay.ensures.ok)
 
 pub returns-clause-ok : goal.returns-clause-ok
 returns-clause-ok g c =
     let here = get_here c.args.sources.now c.args.w c.index-sources-w.result c.requires.fits.1 c.index-sources-w.is in
-    let there = desk_at c.args.desks.now (length c.args.sources.now) c.args.w c.index-desks-w.result c.requires.kept.0.same c.requires.fits.1 in
+    let there = desk_at c.args.positions.now (length c.args.sources.now) c.args.w c.index-positions-w.result c.requires.kept.0.same c.requires.fits.1 in
     λ f lo prev exposed own later up.
-    up_next (g.D.Disk.view c.args.disk.now) (g.D.Disk.view c.advance.new.disk) (arrays_read c.args.view.now c.args.v) f c.args.cache.now c.advance.new.cache c.args.view.now.pool.now c.args.view.now.tree.now.parents c.args.v lo prev c.args.last.now c.args.sources.now c.args.desks.now c.args.w c.index-sources-w.result (get_or c.args.desks.now c.args.w c.index-desks-w.result) c.advance.new.desk
+    up_next (g.D.Disk.view c.args.disk.now) (g.D.Disk.view c.advance.new.disk) (arrays_read c.args.view.now c.args.v) f c.args.cache.now c.advance.new.cache c.args.view.now.pool.now c.args.view.now.tree.now.parents c.args.v lo prev c.args.last.now c.args.sources.now c.args.positions.now c.args.w c.index-sources-w.result (get_or c.args.positions.now c.args.w c.index-positions-w.result) c.advance.new.position
     exposed own (through_more _ _ _ (arrays_read c.args.view.now c.args.v) _ _ c.advance.ensures.same (λ a of. (c.requires.same.each c.args.w c.index-sources-w.result here).there a of))
     (λ i t at a of. (c.requires.same.each i t at).there a of) later up here there (λ stands. c.in_ok-advance.ensures.ok f exposed stands)
 
 pub returns-clause-end : goal.returns-clause-end
 returns-clause-end g c =
     let here = get_here c.args.sources.now c.args.w c.index-sources-w.result c.requires.fits.1 c.index-sources-w.is in
-    let there = desk_at c.args.desks.now (length c.args.sources.now) c.args.w c.index-desks-w.result c.requires.kept.0.same c.requires.fits.1 in
-    let steps = sum_next (steps_left c.args.view.now.pool.now) c.args.sources.now c.args.desks.now c.args.w c.index-sources-w.result (get_or c.args.desks.now c.args.w c.index-desks-w.result) c.advance.new.desk here there in
-    let reads = sum_next reads_left c.args.sources.now c.args.desks.now c.args.w c.index-sources-w.result (get_or c.args.desks.now c.args.w c.index-desks-w.result) c.advance.new.desk here there in
+    let there = desk_at c.args.positions.now (length c.args.sources.now) c.args.w c.index-positions-w.result c.requires.kept.0.same c.requires.fits.1 in
+    let steps = sum_next (steps_left c.args.view.now.pool.now) c.args.sources.now c.args.positions.now c.args.w c.index-sources-w.result (get_or c.args.positions.now c.args.w c.index-positions-w.result) c.advance.new.position here there in
+    let reads = sum_next reads_left c.args.sources.now c.args.positions.now c.args.w c.index-sources-w.result (get_or c.args.positions.now c.args.w c.index-positions-w.result) c.advance.new.position here there in
     (omega (arith, steps, c.in_ok-advance.ensures.end), omega (arith, reads, c.in_ok-advance.ensures.room))
 
 pub returns-clause-same : goal.returns-clause-same
@@ -90,6 +90,6 @@ returns-clause-same g c =
 pub returns-clause-reads : goal.returns-clause-reads
 returns-clause-reads g c =
     let here = get_here c.args.sources.now c.args.w c.index-sources-w.result c.requires.fits.1 c.index-sources-w.is in
-    let there = desk_at c.args.desks.now (length c.args.sources.now) c.args.w c.index-desks-w.result c.requires.kept.0.same c.requires.fits.1 in
-    let all = sum_has reads_left c.args.sources.now c.args.desks.now c.args.w c.index-sources-w.result (get_or c.args.desks.now c.args.w c.index-desks-w.result) here there in
+    let there = desk_at c.args.positions.now (length c.args.sources.now) c.args.w c.index-positions-w.result c.requires.kept.0.same c.requires.fits.1 in
+    let all = sum_has reads_left c.args.sources.now c.args.positions.now c.args.w c.index-sources-w.result (get_or c.args.positions.now c.args.w c.index-positions-w.result) here there in
     record { later = c.advance.ensures.reads.later; bound = omega (arith, all, c.advance.ensures.reads.bound) }

@@ -10,7 +10,7 @@ use Rattle.def_crash.specs.Image.{Image}
 use Rattle.strat_model.specs.Pairs.{Pairs}
 use Rattle.strat_cursor.specs.Ahead.{is_after}
 use Rattle.strat_cursor.specs.Sources.{MayBeRead, IsSettledAt, IsUpTo, StandsIn, content_of}
-use Rattle.strat_cursor.specs.declared.desks.Desk.{Desk}
+use Rattle.strat_cursor.specs.declared.scan_buffers.SourcePosition.{SourcePosition}
 use Rattle.strat_cursor.specs.declared.sources.Source.{Source}
 
 -- a key is below hi, where that is not empty
@@ -45,27 +45,27 @@ HandlesKey e hi limit last next old new (Some true) =
 
 -- each source can be read, and stands at an entry that is at hand and at a version or an ancestor of it
 pub record AreSettled (parents : Parents) (v : ℕ) (pool : List PoolEntry) (sources : List Source)
-    (desks : List Desk) : Type 0 where
-  pub same : length desks ≡ length sources
-  pub each : (i : ℕ) (s : Source) (d : Desk) → slice_get sources i ≡ Some s
-      → slice_get desks i ≡ Some d → MayBeRead pool s × IsSettledAt parents v pool s d
+    (positions : List SourcePosition) : Type 0 where
+  pub same : length positions ≡ length sources
+  pub each : (i : ℕ) (s : Source) (d : SourcePosition) → slice_get sources i ≡ Some s
+      → slice_get positions i ≡ Some d → MayBeRead pool s × IsSettledAt parents v pool s d
 
 -- in an image each source's entries are in order, what it has left says of each key to come what all say,
 -- and its blocks are kept as they stand there
 pub record AreUpTo (f : Image) (c : Blocks) (pool : List PoolEntry) (parents : Parents) (v : ℕ)
-    (lo last : List ℕ) (sources : List Source) (desks : List Desk) : Type 0 where
+    (lo last : List ℕ) (sources : List Source) (positions : List SourcePosition) : Type 0 where
   pub ordered : (i : ℕ) (s : Source) → slice_get sources i ≡ Some s
       → IsTrue (is_ascending (content_of f pool s))
-  pub each : (i : ℕ) (s : Source) (d : Desk) → slice_get sources i ≡ Some s
-      → slice_get desks i ≡ Some d
+  pub each : (i : ℕ) (s : Source) (d : SourcePosition) → slice_get sources i ≡ Some s
+      → slice_get positions i ≡ Some d
       → IsUpTo f pool parents v lo last s d × StandsIn f c s d.scratch
 
 -- keys after one are after another
 abbrev pub IsLater : List ℕ → List ℕ → Type 0
 IsLater prev last = (key : List ℕ) → IsTrue (is_after last key) → IsTrue (is_after prev key)
 
--- of each source and its desk a number, and the sum of these
-abbrev pub sum_over : (Source → Desk → ℕ) → List Source → List Desk → ℕ
-sum_over h [] desks = 0
+-- of each source and its position a number, and the sum of these
+abbrev pub sum_over : (Source → SourcePosition → ℕ) → List Source → List SourcePosition → ℕ
+sum_over h [] positions = 0
 sum_over h (s ∷ sources) [] = 0
-sum_over h (s ∷ sources) (d ∷ desks) = h s d + sum_over h sources desks
+sum_over h (s ∷ sources) (d ∷ positions) = h s d + sum_over h sources positions

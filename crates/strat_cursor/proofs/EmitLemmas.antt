@@ -15,18 +15,18 @@ use Rattle.def_crash.specs.Image.{Image}
 use Rattle.def_crash.specs.Moments.{DiskView}
 use Rattle.def_bytes.specs.Arrays.{blocks_of, block_on}
 use Rattle.strat_cursor.specs.Ahead.{is_after, is_to_come}
-use Rattle.strat_cursor.specs.Contest.{head_in, AreAtHand}
+use Rattle.strat_cursor.specs.Contenders.{head_in, AreAtHand}
 use Rattle.strat_cursor.specs.Looking.{LooksThrough, HaveOwnIds}
 use Rattle.strat_cursor.specs.Sources.{PassesUndue, MayBeRead, IsSettledAt, IsUpTo, StandsIn, arrays_at, left_at_source, first_at_source, lists_of}
-use Rattle.strat_cursor.specs.Turning.{AreSettled, AreUpTo, IsLater, sum_over}
-use Rattle.strat_cursor.specs.declared.desks.Desk.{Desk}
+use Rattle.strat_cursor.specs.Emitting.{AreSettled, AreUpTo, IsLater, sum_over}
+use Rattle.strat_cursor.specs.declared.scan_buffers.SourcePosition.{SourcePosition}
 use Rattle.strat_cursor.specs.declared.sources.Source.{Source}
 use Rattle.strat_cursor.specs.declared.sources.Source.TheVariants as source
 use Rattle.strat_cursor.proofs.ThroughLemmas.{same_array}
 use Rattle.std.specs.Ordering.{is_lt}
 
-pub at_hand : (parents : Parents) (v : ℕ) (pool : List PoolEntry) (sources : List Source) (desks : List Desk) → AreSettled parents v pool sources desks → AreAtHand pool sources desks
-at_hand parents v pool sources desks settled = record { same = settled.same; each = λ i s d at there. let both = settled.each i s d at there in (both.0, both.1.held) }
+pub at_hand : (parents : Parents) (v : ℕ) (pool : List PoolEntry) (sources : List Source) (positions : List SourcePosition) → AreSettled parents v pool sources positions → AreAtHand pool sources positions
+at_hand parents v pool sources positions settled = record { same = settled.same; each = λ i s d at there. let both = settled.each i s d at there in (both.0, both.1.held) }
 
 -- what stands at a number after one was set
 pub set_cases : {X : Type 0} (xs : List X) (w : ℕ) (x : X) (i : ℕ) (y : X) → slice_get (set xs w x) i ≡ Some y → ((i ≡ w) × (y ≡ x)) ⊎ (slice_get xs i ≡ Some y)
@@ -43,17 +43,17 @@ set_cases (z ∷ zs) (suc w) x (suc i) y at =
 same_at : {X : Type 0} (xs : List X) (i w : ℕ) (x y : X) → i ≡ w → slice_get xs i ≡ Some y → slice_get xs w ≡ Some x → y ≡ x
 same_at xs i w x y same at there = let both : Some y ≡ Some x = sym at ∙ ap (λ n. slice_get xs n) same ∙ there in cc
 
-pub settled_next : (parents : Parents) (v : ℕ) (pool : List PoolEntry) (sources : List Source) (desks : List Desk) (w : ℕ) (s : Source) (d : Desk) → AreSettled parents v pool sources desks → slice_get sources w ≡ Some s → MayBeRead pool s → IsSettledAt parents v pool s d
-    → AreSettled parents v pool sources (set desks w d)
-settled_next parents v pool sources desks w s d settled here read next = record {
-  same = length-set desks w d ∙ settled.same;
+pub settled_next : (parents : Parents) (v : ℕ) (pool : List PoolEntry) (sources : List Source) (positions : List SourcePosition) (w : ℕ) (s : Source) (d : SourcePosition) → AreSettled parents v pool sources positions → slice_get sources w ≡ Some s → MayBeRead pool s → IsSettledAt parents v pool s d
+    → AreSettled parents v pool sources (set positions w d)
+settled_next parents v pool sources positions w s d settled here read next = record {
+  same = length-set positions w d ∙ settled.same;
   each = λ i t e at there.
-      elim (set_cases desks w d i e there) [
+      elim (set_cases positions w d i e there) [
         | inr before ↦ settled.each i t e at before
         | inl this ↦
             let source_is : t ≡ s = same_at sources i w s t this.0 at here in
-            let P : Source → Desk → Type 0 = λ x y. MayBeRead pool x × IsSettledAt parents v pool x y in
-            subst (λ (x : Source). P x e) (sym source_is) (subst (λ (y : Desk). P s y) (sym this.1) (read, next))
+            let P : Source → SourcePosition → Type 0 = λ x y. MayBeRead pool x × IsSettledAt parents v pool x y in
+            subst (λ (x : Source). P x e) (sym source_is) (subst (λ (y : SourcePosition). P s y) (sym this.1) (read, next))
       ];
 }
 
@@ -90,70 +90,70 @@ later_come lo prev last key later come =
 
 module _ (f : Image) (pool : List PoolEntry) (parents : Parents) (v : ℕ) (lo prev last : List ℕ) (later : IsLater prev last) (s : Source) where
   -- with a later key
-  up_later : (d : Desk) → IsUpTo f pool parents v lo prev s d → IsUpTo f pool parents v lo last s d
+  up_later : (d : SourcePosition) → IsUpTo f pool parents v lo prev s d → IsUpTo f pool parents v lo last s d
   up_later d up = record { same = λ key come. up.same key (later_come lo prev last key later come); ordered = up.ordered; from = up.from }
 
   -- and after entries were passed over
-  up_passed : (d e : Desk) → IsUpTo f pool parents v lo prev s d → PassesUndue parents v last (left_at_source f pool s d) (left_at_source f pool s e) → IsUpTo f pool parents v lo last s e
+  up_passed : (d e : SourcePosition) → IsUpTo f pool parents v lo prev s d → PassesUndue parents v last (left_at_source f pool s d) (left_at_source f pool s e) → IsUpTo f pool parents v lo last s e
   up_passed d e up passes = record {
     same = λ key come. passes.same key (and_parts (not (is_lt (key_cmp key lo))) (is_after last key) come).1 ∙ up.same key (later_come lo prev last key later come);
     ordered = passes.ordered up.ordered;
     from = passes.among (is_from lo) up.from;
   }
 
-pub up_next : (old new : DiskView) (arrays : List ArrayDesc) (f : Image) (c d : Blocks) (pool : List PoolEntry) (parents : Parents) (v : ℕ) (lo prev last : List ℕ) (sources : List Source) (desks : List Desk) (w : ℕ) (s : Source) (before after : Desk)
+pub up_next : (old new : DiskView) (arrays : List ArrayDesc) (f : Image) (c d : Blocks) (pool : List PoolEntry) (parents : Parents) (v : ℕ) (lo prev last : List ℕ) (sources : List Source) (positions : List SourcePosition) (w : ℕ) (s : Source) (before after : SourcePosition)
     → old.content ≡ Some f → HaveOwnIds arrays → LooksThrough old new arrays c d → ((i : ℕ) (t : Source) → slice_get sources i ≡ Some t → (a : ArrayDesc) → Contains (arrays_at t) a → Contains arrays a) → IsLater prev last
-    → AreUpTo f c pool parents v lo prev sources desks → slice_get sources w ≡ Some s → slice_get desks w ≡ Some before
+    → AreUpTo f c pool parents v lo prev sources positions → slice_get sources w ≡ Some s → slice_get positions w ≡ Some before
     → (StandsIn f c s before.scratch → PassesUndue parents v last (left_at_source f pool s before) (left_at_source f pool s after) × StandsIn f d s after.scratch)
-    → AreUpTo f d pool parents v lo last sources (set desks w after)
-up_next old new arrays f c d pool parents v lo prev last sources desks w s before after exposed own looks of later up here there goes = record {
+    → AreUpTo f d pool parents v lo last sources (set positions w after)
+up_next old new arrays f c d pool parents v lo prev last sources positions w s before after exposed own looks of later up here there goes = record {
   ordered = up.ordered;
   each = λ i t e at set_at.
-      elim (set_cases desks w after i e set_at) [
+      elim (set_cases positions w after i e set_at) [
         | inr stays ↦
             let both = up.each i t e at stays in
             (up_later f pool parents v lo prev last later t e both.0, stands_still old new arrays f c d t e.scratch looks exposed own (of i t at) both.1)
         | inl this ↦
             let source_is : t ≡ s = same_at sources i w s t this.0 at here in
-            let P : Source → Desk → Type 0 = λ x y. IsUpTo f pool parents v lo last x y × StandsIn f d x y.scratch in
+            let P : Source → SourcePosition → Type 0 = λ x y. IsUpTo f pool parents v lo last x y × StandsIn f d x y.scratch in
             let both = up.each w s before here there in
             let gone = goes both.1 in
-            subst (λ (x : Source). P x e) (sym source_is) (subst (λ (y : Desk). P s y) (sym this.1) (up_passed f pool parents v lo prev last later s before after both.0 gone.0, gone.1))
+            subst (λ (x : Source). P x e) (sym source_is) (subst (λ (y : SourcePosition). P s y) (sym this.1) (up_passed f pool parents v lo prev last later s before after both.0 gone.0, gone.1))
       ];
 }
 
 -- sums
-pub sum_next : (h : Source → Desk → ℕ) (sources : List Source) (desks : List Desk) (w : ℕ) (s : Source) (d e : Desk) → slice_get sources w ≡ Some s → slice_get desks w ≡ Some d → sum_over h sources (set desks w e) + h s d ≡ sum_over h sources desks + h s e
-sum_next h [] desks w s d e here there = absurd (cc)
+pub sum_next : (h : Source → SourcePosition → ℕ) (sources : List Source) (positions : List SourcePosition) (w : ℕ) (s : Source) (d e : SourcePosition) → slice_get sources w ≡ Some s → slice_get positions w ≡ Some d → sum_over h sources (set positions w e) + h s d ≡ sum_over h sources positions + h s e
+sum_next h [] positions w s d e here there = absurd (cc)
 sum_next h (x ∷ sources) [] w s d e here there = absurd (cc)
-sum_next h (x ∷ sources) (y ∷ desks) zero s d e here there =
+sum_next h (x ∷ sources) (y ∷ positions) zero s d e here there =
     let xs : x ≡ s = cc in
     let yd : y ≡ d = cc in
     let now : h x y ≡ h s d = (λ j. h (xs j) (yd j)) in
     let then_is : h x e ≡ h s e = ap (λ (z : Source). h z e) xs in
     omega (arith, now, then_is)
-sum_next h (x ∷ sources) (y ∷ desks) (suc w) s d e here there = let rest = sum_next h sources desks w s d e here there in omega (arith, rest)
+sum_next h (x ∷ sources) (y ∷ positions) (suc w) s d e here there = let rest = sum_next h sources positions w s d e here there in omega (arith, rest)
 
-pub sum_has : (h : Source → Desk → ℕ) (sources : List Source) (desks : List Desk) (w : ℕ) (s : Source) (d : Desk) → slice_get sources w ≡ Some s → slice_get desks w ≡ Some d → h s d ≤ sum_over h sources desks
-sum_has h [] desks w s d here there = absurd (cc)
+pub sum_has : (h : Source → SourcePosition → ℕ) (sources : List Source) (positions : List SourcePosition) (w : ℕ) (s : Source) (d : SourcePosition) → slice_get sources w ≡ Some s → slice_get positions w ≡ Some d → h s d ≤ sum_over h sources positions
+sum_has h [] positions w s d here there = absurd (cc)
 sum_has h (x ∷ sources) [] w s d here there = absurd (cc)
-sum_has h (x ∷ sources) (y ∷ desks) zero s d here there =
+sum_has h (x ∷ sources) (y ∷ positions) zero s d here there =
     let xs : x ≡ s = cc in
     let yd : y ≡ d = cc in
     let now : h x y ≡ h s d = (λ j. h (xs j) (yd j)) in
     omega (arith, now)
-sum_has h (x ∷ sources) (y ∷ desks) (suc w) s d here there = let rest = sum_has h sources desks w s d here there in omega (arith, rest)
+sum_has h (x ∷ sources) (y ∷ positions) (suc w) s d here there = let rest = sum_has h sources positions w s d here there in omega (arith, rest)
 
-pub head_here : (pool : List PoolEntry) (sources : List Source) (desks : List Desk) (w : ℕ) (s : Source) (d : Desk) → slice_get sources w ≡ Some s → slice_get desks w ≡ Some d → head_in pool sources desks w ≡ first_at_source pool s d
-head_here pool sources desks w s d here there =
-    ap (λ (o : Option Source). option_and_then (λ t. option_and_then (λ x. first_at_source pool t x) (slice_get desks w)) o) here
-    ∙ ap (λ (o : Option Desk). option_and_then (λ x. first_at_source pool s x) o) there
+pub head_here : (pool : List PoolEntry) (sources : List Source) (positions : List SourcePosition) (w : ℕ) (s : Source) (d : SourcePosition) → slice_get sources w ≡ Some s → slice_get positions w ≡ Some d → head_in pool sources positions w ≡ first_at_source pool s d
+head_here pool sources positions w s d here there =
+    ap (λ (o : Option Source). option_and_then (λ t. option_and_then (λ x. first_at_source pool t x) (slice_get positions w)) o) here
+    ∙ ap (λ (o : Option SourcePosition). option_and_then (λ x. first_at_source pool s x) o) there
 
--- a desk by its number
-pub desk_at : (desks : List Desk) (count w : ℕ) (d : Desk) → length desks ≡ count → w < count → slice_get desks w ≡ Some (get_or desks w d)
-desk_at desks count w d same low = go desks w d (omega (arith, same, low))
+-- a position by its number
+pub desk_at : (positions : List SourcePosition) (count w : ℕ) (d : SourcePosition) → length positions ≡ count → w < count → slice_get positions w ≡ Some (get_or positions w d)
+desk_at positions count w d same low = go positions w d (omega (arith, same, low))
   where
-    go : (ds : List Desk) (n : ℕ) (x : Desk) → n < length ds → slice_get ds n ≡ Some (get_or ds n x)
+    go : (ds : List SourcePosition) (n : ℕ) (x : SourcePosition) → n < length ds → slice_get ds n ≡ Some (get_or ds n x)
     go [] n x low = absurd (omega (arith, low))
     go (y ∷ ys) zero x low = refl
     go (y ∷ ys) (suc n) x low = go ys n x (omega (arith, low))

@@ -10,16 +10,16 @@ ghost use Rattle.def_crash.specs.Faults.{HasCause, ReadsAtMost};
 ghost use Rattle.def_crash.specs.Image.{Image};
 ghost use Rattle.def_crash.specs.Moments.{Exposes};
 ghost use Rattle.strat_merge.specs.Bracket.{IsBracket, IsTournament};
-ghost use Rattle.strat_cursor.specs.Contest.{contenders, head_in, AreAtHand};
+ghost use Rattle.strat_cursor.specs.Contenders.{contenders, head_in, AreAtHand};
 ghost use Rattle.strat_cursor.specs.Looking.{LooksThrough, NamesNoBlock, HaveOwnIds};
 ghost use Rattle.strat_cursor.specs.Picking.{AreSourcesOf};
 ghost use Rattle.strat_cursor.specs.Sources.{IsSpent, steps_left, reads_left};
-ghost use Rattle.strat_cursor.specs.Turning.{is_under, TellsValue, HandlesKey, AreSettled, AreUpTo, IsLater, sum_over};
+ghost use Rattle.strat_cursor.specs.Emitting.{is_under, TellsValue, HandlesKey, AreSettled, AreUpTo, IsLater, sum_over};
 ghost use Rattle.strat_cursor.specs.Views.{arrays_read};
 
-use crate::contest::{head_in, replay};
-use crate::desks::Desk;
+use crate::scan_buffers::SourcePosition;
 use crate::sources::{Source, advance, is_after};
+use crate::tournament::{head_in, replay};
 use crate::view::View;
 use strat_arena::ArenaPool;
 use strat_array::Cache;
@@ -61,7 +61,7 @@ fn remember(last: &mut Vec<u8>, key: &[u8])
 }
 
 /// Handles the entry of the least key: see `HandlesKey`. At most `limit` pairs are told.
-fn handle(
+fn emit(
     entry: &Entry<'_>,
     hi: &[u8],
     limit: usize,
@@ -89,32 +89,32 @@ fn handle(
 }
 
 /// Handles the first entry of the source that leads.
-pub(crate) fn handle_head(
+pub(crate) fn emit_head(
     sources: &[Source<'_>],
     pool: &ArenaPool,
-    desks: &[Desk],
+    positions: &[SourcePosition],
     w: usize,
     hi: &[u8],
     limit: usize,
     last: &mut Vec<u8>,
     out: &mut PairBuf,
 ) -> Option<bool>
-    requires kept { AreAtHand pool.now sources.now desks.now }
+    requires kept { AreAtHand pool.now sources.now positions.now }
     requires fits { w < length sources.now }
-    requires found { IsSome (head_in pool.now sources.now desks.now w) }
+    requires found { IsSome (head_in pool.now sources.now positions.now w) }
     requires room { (limit ≤ PAIRS_MAX) × (255 ≤ vec_capacity last.old) }
-    ensures ok { (e : TheEntry) → head_in pool.now sources.now desks.now w ≡ Some e
+    ensures ok { (e : TheEntry) → head_in pool.now sources.now positions.now w ≡ Some e
         → HandlesKey e hi.now limit last.old.items last.new.items out.old out.new result }
-    ensures fits { (e : TheEntry) → head_in pool.now sources.now desks.now w ≡ Some e
+    ensures fits { (e : TheEntry) → head_in pool.now sources.now positions.now w ≡ Some e
         → IsTrue (fits_fields e) }
     ensures room { 255 ≤ vec_capacity last.new }
 {
-    let entry = head_in(sources, pool, desks, w).unwrap();
-    handle(&entry, hi, limit, last, out)
+    let entry = head_in(sources, pool, positions, w).unwrap();
+    emit(&entry, hi, limit, last, out)
 }
 
 /// The source that led goes on, and the nodes above its leaf are played again.
-pub(crate) fn go_on<D: Disk>(
+pub(crate) fn advance_leader<D: Disk>(
     disk: &mut D,
     cache: &mut Cache,
     view: &View<'_>,
@@ -122,36 +122,36 @@ pub(crate) fn go_on<D: Disk>(
     v: Version,
     w: usize,
     last: &[u8],
-    desks: &mut [Desk],
+    positions: &mut [SourcePosition],
     winners: &mut [usize],
 ) -> Result<(), Fault>
     requires fits { (v < length view.now.tree.now.parents) × (w < length sources.now) }
     requires same { AreSourcesOf view.now v sources.now }
     requires kept { AreSettled view.now.tree.now.parents v view.now.pool.now
-        sources.now desks.old
-        × IsTournament (contenders view.now.pool.now sources.now desks.old) winners.old }
-    requires room { IsSpent last.now (head_in view.now.pool.now sources.now desks.old w) }
+        sources.now positions.old
+        × IsTournament (contenders view.now.pool.now sources.now positions.old) winners.old }
+    requires room { IsSpent last.now (head_in view.now.pool.now sources.now positions.old w) }
     ensures kept { OnOk result (AreSettled view.now.tree.now.parents v view.now.pool.now
-        sources.now desks.new
-        × IsTournament (contenders view.now.pool.now sources.now desks.new) winners.new) }
-    ensures len { (length desks.new ≡ length desks.old)
+        sources.now positions.new
+        × IsTournament (contenders view.now.pool.now sources.now positions.new) winners.new) }
+    ensures len { (length positions.new ≡ length positions.old)
         × IsBracket (length sources.now) winners.new }
     ensures ok { OnOk result ((f : Image) (lo prev : List ℕ) → Exposes (D.view disk.old) f
         → HaveOwnIds (arrays_read view.now v) → IsLater prev last.now
         → AreUpTo f cache.old view.now.pool.now view.now.tree.now.parents v lo prev
-        sources.now desks.old
+        sources.now positions.old
         → AreUpTo f cache.new view.now.pool.now view.now.tree.now.parents v lo last.now
-        sources.now desks.new) }
-    ensures end { OnOk result ((sum_over (steps_left view.now.pool.now) sources.now desks.new
-        < sum_over (steps_left view.now.pool.now) sources.now desks.old)
-        × (D.reads disk.new + sum_over reads_left sources.now desks.new
-        ≤ D.reads disk.old + sum_over reads_left sources.now desks.old)) }
+        sources.now positions.new) }
+    ensures end { OnOk result ((sum_over (steps_left view.now.pool.now) sources.now positions.new
+        < sum_over (steps_left view.now.pool.now) sources.now positions.old)
+        × (D.reads disk.new + sum_over reads_left sources.now positions.new
+        ≤ D.reads disk.old + sum_over reads_left sources.now positions.old)) }
     ensures same { LooksThrough (D.view disk.old) (D.view disk.new)
         (arrays_read view.now v) cache.old cache.new }
     ensures damaged { (b : ℕ) → IsErrOf result (Damaged b)
         → NamesNoBlock (D.view disk.old).content (arrays_read view.now v) b }
     ensures cause { HasCause Device (D.faults disk.old) (D.faults disk.new) result }
-    ensures reads { ReadsAtMost (sum_over reads_left sources.now desks.old)
+    ensures reads { ReadsAtMost (sum_over reads_left sources.now positions.old)
         (D.reads disk.old) (D.reads disk.new) }
 {
     advance(
@@ -162,8 +162,8 @@ pub(crate) fn go_on<D: Disk>(
         view.tree,
         v,
         last,
-        &mut desks[w],
+        &mut positions[w],
     )?;
-    replay(sources, view.pool, desks, winners, sources.len() + w);
+    replay(sources, view.pool, positions, winners, sources.len() + w);
     Ok(())
 }
