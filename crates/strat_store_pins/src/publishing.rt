@@ -1,14 +1,17 @@
 //! Contents that follow others: their numbers, publications that are refused, and how many changes may be in the journal.
 //! Each is the contract of a function that does nothing.
 
-ghost use Rattle.std.specs.Prelude.{◌≡◌, [], ◌∷◌, None, Err};
+ghost use Rattle.std.specs.Prelude.{◌≡◌, List, [], ◌∷◌, Option, None, Err};
 ghost use Rattle.strat_base.specs.Change.{Clone};
+ghost use Rattle.strat_base.specs.declared.descriptors.LevelDesc.{LevelDesc};
+ghost use Rattle.def_crash.specs.Image.{Image};
 ghost use Rattle.def_recovery.specs.Disks.{chain_manifest};
 ghost use Rattle.def_recovery.specs.Opening.{recover};
-ghost use Rattle.def_publish.specs.Contents.{sealed_part, later_part, sealed_state};
-ghost use Rattle.def_publish.specs.Next.{IsNextOf, MayBeNext};
+ghost use Rattle.def_publish.specs.Contents.{Contents, contents_state, sealed_part, later_part, sealed_state};
+ghost use Rattle.def_publish.specs.Next.{IsNextOf, IsSoundNext, MayBeNext};
 ghost use Rattle.def_publish.specs.Publication.{Succeeds, IsPrepared, IsPromotedFrom};
 ghost use Rattle.def_publish.specs.Standing.{ContentsStand};
+ghost use Rattle.def_state.specs.Sound.{IsSound};
 ghost use Rattle.def_publish.specs.Worked.{resting, chain_logged, chain_next, chain_again, chain_made, published_disk, at_generation};
 ghost use Rattle.strat_store_pins.specs.Publications.{chain_grown, chain_behind, new_logged, new_next, at_format, twice_disk};
 
@@ -27,6 +30,16 @@ pub fn the_next_contents_have_these_numbers()
       chained = record { manifest = record chain_manifest { next_array = 3 }; blocks = 8 ∷ [] };
     }) chain_made [] []) }
     ensures same { ¬ IsNextOf chain_logged (record chain_next { slot = 0 }) chain_made [] [] }
+{}
+
+/// Contents that follow soundly are sound, and so were those that they follow.
+pub fn sound_contents_follow_sound_ones()
+    ensures before { (f g : Image) (old new : Contents) (made : Option LevelDesc)
+        (taken kept : List LevelDesc) → IsSoundNext f g old new made taken kept
+        → IsSound (contents_state old) }
+    ensures after { (f g : Image) (old new : Contents) (made : Option LevelDesc)
+        (taken kept : List LevelDesc) → IsSoundNext f g old new made taken kept
+        → IsSound (contents_state new) }
 {}
 
 /// Of five changes, where a region takes four, the fifth came behind.
