@@ -20,8 +20,8 @@ import clauses
 PARAMETERS_MOST = 7  # of one function, `self` among them, as clippy's too_many_arguments counts
 FUNCTION_MOST = 40  # lines of a body, between its braces or behind its `def`; contracts have bounds of their own
 
-# Most of what these have is definitions, on which those of other crates stand. Their lemmas are about these.
-DEFINING = ("strat_base", "def_bytes", "strat_model")
+# Beside the crates `def_..` these have definitions on which those of other crates stand. Their lemmas are about these.
+DEFINING = ("strat_base", "strat_model")
 
 # What breaks a rule under one name: how much, the places where, and what is wrong there.
 Found = collections.namedtuple("Found", "count places what")
@@ -62,7 +62,8 @@ def is_run(tree, crate):
     A law is a function with nothing between its braces, so a crate of definitions and laws alone has no other function.
     What a crate of tests has only its tests run.
     """
-    return crate in tree.crates and tree.has_code(crate) and not crate.endswith("_tests") and crate not in DEFINING
+    defines = crate.startswith("def_") or crate in DEFINING
+    return crate in tree.crates and tree.has_code(crate) and not crate.endswith("_tests") and not defines
 
 
 @functools.lru_cache(maxsize=None)
