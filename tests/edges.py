@@ -13,6 +13,7 @@ import sys
 import words
 
 DOCUMENT = "docs/ARCHITECTURE.md"
+NAMED = re.compile(r"\b(?:def|strat)_\w+")  # a crate; only the top one has another name
 PICTURES = {
     "Code": (r"src/**/*.rt", r"^\s*(?:pub )?use (\w+)(?:::|;)", {"strat_base", "def_crash"}),
     "Definitions": (r"specs/**/*.antt", r"^(?:pub )?use Rattle\.(\w+)\.specs\b", set()),
@@ -45,13 +46,13 @@ def drawn(tree, title):
         found.setdefault(crate, set())
         if len(path) > 1:
             found[path[-2]].add(crate)
-        on, under = (re.search(rf"  {word} (strat_[^:]*)", rest) for word in ("on", "under"))
-        found[crate].update(re.findall(r"strat_\w+", on[1]) if on else [])
-        for upper in re.findall(r"strat_\w+", under[1]) if under else []:
+        on, under = (re.search(rf"  {word} ((?:def|strat)_[^:]*)", rest) for word in ("on", "under"))
+        found[crate].update(NAMED.findall(on[1]) if on else [])
+        for upper in NAMED.findall(under[1]) if under else []:
             found.setdefault(upper, set()).add(crate)
     table = re.search(rf"\| {title} of \|.*?\n\n", tree.text(DOCUMENT), re.S)
     for row in table[0].strip().splitlines()[2:] if table else []:
-        uppers, lowers = (re.findall(r"strat_\w+", cell) for cell in row.strip("|").split("|"))
+        uppers, lowers = (NAMED.findall(cell) for cell in row.strip("|").split("|"))
         for upper in uppers:
             found.setdefault(upper, set()).update(lowers)
     return found

@@ -1,5 +1,6 @@
 """The small tree on which tests/words.py tries its rules. It keeps them all, and one fault at a time breaks it."""
 
+import clauses
 import placed
 import prose
 import ratchet
@@ -115,7 +116,6 @@ pub fn status_text(status: u8) -> &'static str {
     }
 }
 ''',
-    "crates/low_tests/src/lib.rt": "#[test]\nfn a_test() { half(); }\n\nfn no_test() { half(); }\n",
     "crates/low/specs/Half.antt": '''-- Halves.
 use Rattle.std.specs.Prelude.{ℕ}
 pub mod Other
@@ -154,6 +154,7 @@ pub record View : Type 0 where
 | 16 | Unknown, *open* | x |
 | 17 | Broken | x |
 ''',
+    **clauses.RIGHT,
     **placed.RIGHT,
     **ratchet.RIGHT,
 }

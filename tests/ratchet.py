@@ -15,11 +15,13 @@ import pathlib
 import re
 import sys
 
+import clauses
+
 PARAMETERS_MOST = 7  # of one function, `self` among them, as clippy's too_many_arguments counts
 FUNCTION_MOST = 40  # lines of a body, between its braces or behind its `def`; contracts have bounds of their own
 
-# Most of what these have is definitions, on which those of other crates stand. Their lemmas are about these.
-DEFINING = ("strat_base", "def_bytes", "strat_model")
+# Beside the crates `def_..` these have definitions on which those of other crates stand. Their lemmas are about these.
+DEFINING = ("strat_base", "strat_model")
 
 # What breaks a rule under one name: how much, the places where, and what is wrong there.
 Found = collections.namedtuple("Found", "count places what")
@@ -60,7 +62,8 @@ def is_run(tree, crate):
     A law is a function with nothing between its braces, so a crate of definitions and laws alone has no other function.
     What a crate of tests has only its tests run.
     """
-    return crate in tree.crates and tree.has_code(crate) and not crate.endswith("_tests") and crate not in DEFINING
+    defines = crate.startswith("def_") or crate in DEFINING
+    return crate in tree.crates and tree.has_code(crate) and not crate.endswith("_tests") and not defines
 
 
 @functools.lru_cache(maxsize=None)
@@ -140,9 +143,20 @@ def functions(tree):
     return above(bodies(tree), FUNCTION_MOST, "lines in its body")
 
 
+# Clauses
+
+def misnamed(tree):
+    """The clauses that do not speak of what their names mean."""
+    places = collections.defaultdict(list)
+    for file, line, name, meaning in clauses.astray(tree):
+        places[file, name, meaning].append((file, line))
+    return {(file, name): Found(len(lines), lines, f"{name} does not say {meaning}")
+            for (file, name, meaning), lines in places.items()}
+
+
 # The lists
 
-LISTS = {"citations": citations, "parameters": parameters, "functions": functions}
+LISTS = {"citations": citations, "parameters": parameters, "functions": functions, "clauses": misnamed}
 
 
 def list_at(name):
@@ -198,13 +212,18 @@ def functions_are_short(tree):
     yield from faults(tree, "functions")
 
 
-RULES = [crates_are_known_by_their_clauses, functions_have_few_parameters, functions_are_short]
+def clauses_say_what_their_names_mean(tree):
+    yield from faults(tree, "clauses")
+
+
+RULES = [crates_are_known_by_their_clauses, functions_have_few_parameters, functions_are_short,
+         clauses_say_what_their_names_mean]
 
 
 # What tests/words.py --self adds to its tree that is right, and the faults that it then tries one at a time
 
 RIGHT = {
-    "crates/laws/src/lib.rt": "pub fn a_law()\n    ensures ok { 1 ≡ 1 }\n{\n}\n",
+    "crates/laws/src/lib.rt": "pub fn a_law()\n    ensures ok { result ≡ 1 }\n{\n}\n",
     "crates/laws/proofs/LawLemmas.antt": "use Rattle.low.specs.Half.{half}\n",
     "crates/low_tests/proofs/TestLemmas.antt": "use Rattle.low.specs.Half.{half}\n",
     "crates/low/proofs/HalfLemmas.antt": "use Rattle.low.specs.Half.{half}\nlast : half 1 ≡ 1\n",
@@ -232,8 +251,10 @@ use Rattle.low_tests.proofs.TestLemmas.{tried}
     "tests/listed/citations.txt": "# why\ncastle low HalfLemmas 1\n",
     "tests/listed/parameters.txt": "# why\ncrates/low/src/wide.rt wide 8\n",
     "tests/listed/functions.txt": "# why\ncrates/low/src/long.rt long 41\n",
+    "tests/listed/clauses.txt": "# why\ncrates/low/src/clauses.rt vague.end 1\n",
 }
 MAIN, WIDE, LONG = "crates/castle/src/main.rt", "crates/low/src/wide.rt", "crates/low/src/long.rt"
+VAGUE = "crates/low/src/clauses.rt"
 CITING = "#[tactic(auto, using(low::proofs::HalfLemmas::last))]\npub fn status_text"
 FAULTS = [
     ("crates/castle/proofs/RunLemmas.antt", "-- use", "use", 4, crates_are_known_by_their_clauses),
@@ -254,6 +275,11 @@ FAULTS = [
     (LONG, "}\n\nfn", "    more();\n}\n\nfn", 1, functions_are_short),
     ("bench/tool", "last()\n", "last()\n    more()\n", 2, functions_are_short),
     (list_at("functions"), "41", "42", 2, functions_are_short),
+    (VAGUE, "at + 1", "2 + 1", 10, clauses_say_what_their_names_mean),
+    (VAGUE, "ok { result", "ok { 2", 9, clauses_say_what_their_names_mean),
+    (VAGUE, "end { result ≡ 1 }", "end { result ≡ 1 }\n    ensures end { 1 ≡ 1 }", 3, clauses_say_what_their_names_mean),
+    (VAGUE, "{}", "{\n    one();\n}", 17, clauses_say_what_their_names_mean),
+    (list_at("clauses"), "1", "2", 2, clauses_say_what_their_names_mean),
 ]
 
 

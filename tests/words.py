@@ -9,8 +9,9 @@ It reads files alone, and takes the crates as crates.txt and crates/ have them. 
   tests/words.py --all    also prints the comment lines that are wide; these fail nothing
   tests/words.py --self   tries each rule on a made-up tree with one fault
 
-The rules of prose are in tests/prose.py, which measures the documents if it is run alone. Those that some code breaks
-still are in tests/ratchet.py, with lists of what breaks them.
+The rules of clauses are in tests/clauses.py, with the names that they may have and what these mean. Those of prose are in
+tests/prose.py, which measures the documents if it is run alone. Those that some code breaks still are in tests/ratchet.py,
+with lists of what breaks them.
 """
 
 import collections
@@ -21,6 +22,7 @@ import re
 import sys
 import tempfile
 
+import clauses
 import made_up
 import placed
 import prose
@@ -28,29 +30,6 @@ import ratchet
 
 TOP = pathlib.Path(__file__).resolve().parent.parent
 
-# What a clause may be called. A reader asks the same questions of every function.
-CLAUSES = {
-    "ok": "what a call that succeeded did or gives",
-    "err": "what a call that failed leaves or gives",
-    "cause": "when each error may come",
-    "same": "what stays as it was",
-    "kept": "which invariant holds afterwards",
-    "images": "what a crash may leave",
-    "trail": "through which tables the images go",
-    "faults": "how counts of failures move",
-    "found": "what was found",
-    "none": "when nothing is found",
-    "damaged": "when a block is damaged, and which",
-    "room": "that there is space for what is added",
-    "fits": "that a size or a number is within its limits",
-    "durable": "that a crash leaves what was written",
-    "time": "what holds of the moments that passed",
-    "reads": "how often the disk is read",
-    "len": "how long a result is",
-    "used": "how many blocks are in use afterwards",
-    "end": "where a result or a position ends",
-}
-CLAUSES_MOST = 12  # of one function
 CONTRACT_WIDTH = 100
 COMMENT_WIDTH = 120
 FILE_LINES = 800  # of a file of code, of definitions, of proofs or of tests
@@ -260,25 +239,6 @@ def crate_of(name):
 
 
 # The rules. Each yields its faults as a file, a line and what is wrong there.
-
-def clauses_are_named_from_one_list(tree):
-    # (what only tests call is read beside its test alone)
-    for name in tree.sources():
-        if re.search(r"tests(/src/|\.rt$)", name):
-            continue
-        for function in tree.functions(name):
-            for clause in [] if function.is_law else function.clauses:
-                if clause.name and clause.name not in CLAUSES:
-                    yield name, line_at(tree.code(name), clause.at), f"{clause.kind} {clause.name} of {function.name}"
-
-
-def functions_have_few_clauses(tree):
-    for name in tree.sources():
-        for function in tree.functions(name):
-            if len(function.clauses) > CLAUSES_MOST and not function.is_law:
-                line = line_at(tree.code(name), function.at)
-                yield name, line, f"{function.name} has {len(function.clauses)} clauses, above {CLAUSES_MOST}"
-
 
 def lines_of_contracts(tree, name):
     """The numbers of the lines that contracts stand on."""
@@ -524,8 +484,6 @@ def regressions_name_what_notices_them(tree):
 
 
 RULES = [
-    clauses_are_named_from_one_list,
-    functions_have_few_clauses,
     contracts_are_narrow,
     files_are_short,
     a_definition_has_its_name_alone,
@@ -536,6 +494,7 @@ RULES = [
     crates_are_in_the_architecture,
     checks_are_run,
     regressions_name_what_notices_them,
+    *clauses.RULES,
     *placed.RULES,
     *prose.RULES,
     *ratchet.RULES,
@@ -562,14 +521,9 @@ def run(tree, rules, out=print):
 # The rules themselves, on a tree that is right and on one fault at a time
 
 LOW, HALF = "crates/low/src/lib.rt", "crates/low/specs/Half.antt"
-MANY = "".join("    requires fits { 1 ≤ 2 }\n" for _ in range(CLAUSES_MOST - 2))
 WIDE = "x" * CONTRACT_WIDTH
 # each is one replacement in one file, the line where the fault is told, and the rule that tells it alone
 FAULTS = [
-    (LOW, "ensures same", "ensures calm", 25, clauses_are_named_from_one_list),
-    (LOW, "requires fits", "requires fits_well", 6, clauses_are_named_from_one_list),
-    (LOW, "ensures ok*", "ensures* fine", 7, clauses_are_named_from_one_list),
-    (LOW, "    ensures { n ≡ n }\n", "    ensures { n ≡ n }\n" + MANY, 5, functions_have_few_clauses),
     (LOW, "        half = n;", f"        half = {WIDE};", 8, contracts_are_narrow),
     (HALF, "half n = n", f"half n = {WIDE}", 7, contracts_are_narrow),
     (HALF, "pub thrice", "-- x\n" * FILE_LINES + "pub thrice", FILE_LINES + 17, files_are_short),
@@ -614,6 +568,7 @@ FAULTS = [
     (REGRESSIONS, "IsHalf.half", "IsHalf.whole", 6, regressions_name_what_notices_them),
     (REGRESSIONS, "whole.greatest", "whole.least", 6, regressions_name_what_notices_them),
     (REGRESSIONS, "| `a_half_is_made`, `test_low`, `half_is_whole.edit` |", "| the tests |", 5, regressions_name_what_notices_them),
+    *clauses.FAULTS,
     *placed.FAULTS,
     *ratchet.FAULTS,
 ]
