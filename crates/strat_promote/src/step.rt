@@ -93,12 +93,11 @@ fn start_counting<D: Disk>(
     ensures ok { IfOk result (λ stage. (f : Image) (job : Job) → Exposes (D.view disk.old) f
         → IsTaskIn f task.now (inputs_of sources.now) job → IsUnderway f job task.now.first stage) }
     ensures none { IfOk result (λ stage. stage_writers stage ≡ []) }
-    ensures len { IfOk result (λ stage. stage_consumed stage ≡ 0) }
+    ensures len { IfOk result (λ stage. (stage_consumed stage ≡ 0) × (0 < how_far stage)) }
     ensures state { IfOk result (λ stage. IsReadFrom
         (arrays_to sources.now.levels.now task.now.target) stage) }
     ensures damaged { IfOk result (λ stage. (f : Image) → Exposes (D.view disk.old) f
         → IsReadOf f (arrays_to sources.now.levels.now task.now.target) stage) }
-    ensures time { IfOk result (λ stage. 0 < how_far stage) }
     ensures found { OpensInputs trouble.Device trouble.Damaged (D.view disk.old) (D.view disk.new)
         (arrays_to sources.now.levels.now task.now.target) (D.faults disk.old)
         (D.faults disk.new) (D.reads disk.old) (D.reads disk.new) result }

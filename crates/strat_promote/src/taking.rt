@@ -27,11 +27,11 @@ use strat_tree::Tree;
 fn keep_needed(group: &mut GroupBuf, tree: &Tree, purges: bool)
     requires kept { IsTrue (is_descending group.old) }
     requires fits { IsTrue (are_below (length tree.now.parents) group.old) }
-    ensures same { (pairs : List KeyValue) (key : List ℕ)
+    ensures ok { (pairs : List KeyValue) (key : List ℕ)
         → IsTrue (list_all (is_of key) (entries_of pairs group.old)) → entries_of pairs group.new
         ≡ group_kept tree.now.parents purges (entries_of pairs group.old) }
     ensures kept { IsTrue (is_descending group.new) }
-    ensures fits { (p : Item → Bool) → IsTrue (list_all p group.old)
+    ensures same { (p : Item → Bool) → IsTrue (list_all p group.old)
         → IsTrue (list_all p group.new) }
 {
     if purges {
