@@ -9,6 +9,7 @@ pub mod CursorsFields
 pub mod Cursors
 pub mod Held
 pub mod Pins
+pub mod Queries
 pub mod Ranges
 pub mod Sources
 pub mod Emitting

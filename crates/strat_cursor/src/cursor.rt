@@ -9,7 +9,7 @@ ghost use Rattle.def_crash.specs.Image.{Image};
 ghost use Rattle.def_crash.specs.Moments.{Exposes};
 ghost use Rattle.strat_level.specs.Memtable.{ListStands};
 ghost use Rattle.strat_model.specs.Pairs.{Pairs};
-ghost use Rattle.strat_cursor.specs.Cursors.{goes_on, moved_on, pairs_left, IsMapPinned, MayGoOn, TellsNext};
+ghost use Rattle.strat_cursor.specs.Cursors.{goes_on, moved_on, pairs_left, IsMapPinned, MayGoOn};
 ghost use Rattle.strat_cursor.specs.Looking.{LooksThrough, NamesNoBlock, ReadsArrays};
 ghost use Rattle.strat_cursor.specs.Pins.{IsPinned, ListsStand, GivesShares, arenas_of, arena_pinned};
 ghost use Rattle.strat_cursor.specs.Ranges.{FillsPage, IsPageOf};
@@ -113,8 +113,9 @@ impl Cursor {
         self.arrays.as_slice().iter().any(|a| a.id == id)
     }
 
-    /// The first pairs of what is left, at most `limit`, are put into `out`. Answers whether there are others.
-    fn page<D: Disk>(
+    /// Puts the first pairs of what is left into `out`, at most `limit`. Answers whether there are others. It takes no
+    /// memory but for cached blocks.
+    pub(crate) fn tell_page<D: Disk>(
         &self,
         disk: &mut D,
         cache: &mut Cache,
@@ -165,48 +166,13 @@ impl Cursor {
     }
 
     /// Goes on behind the pairs that were told, where others follow. O(1).
-    fn advance(&mut self, more: bool, told: &PairBuf)
+    pub(crate) fn advance(&mut self, more: bool, told: &PairBuf)
         ensures ok { self.new ≡ moved_on more told.now self.old }
     {
         self.from = match self.from.take() {
             None => None,
             Some(bound) => bound_behind(bound, more, told),
         };
-    }
-
-    /// Puts the first pairs of what is left into `out`, at most `limit`, and goes on behind them. Answers whether there
-    /// are others. It takes no memory but for cached blocks, and after an error it stands where it stood.
-    pub(crate) fn next<D: Disk>(
-        &mut self,
-        disk: &mut D,
-        cache: &mut Cache,
-        pool: &ArenaPool,
-        tree: &Tree,
-        limit: u16,
-        buffers: &mut ScanBuffers,
-        out: &mut PairBuf,
-    ) -> Result<bool, Fault>
-        requires found { ListsStand pool.now self.old }
-        requires kept { IsPinned pool.now tree.now.parents self.old }
-        requires fits { (1 ≤ limit) × (limit ≤ 256) }
-        requires room { out.old ≡ [] }
-        ensures ok { IfOk result (λ more. (f : Image) (next : ℕ) (m : Pairs)
-            → Exposes (D.view disk.old) f → MayGoOn f next self.old cache.old
-            → IsMapPinned f tree.now.parents pool.now self.old m
-            → TellsNext m self.old limit out.new more) }
-        ensures len { IfOk result (λ more. FillsPage limit (length out.new) more) }
-        ensures state { IfOk result (λ more. self.new ≡ moved_on more out.new self.old) }
-        ensures err { OnErr result ((out.new ≡ []) × (self.new ≡ self.old)) }
-        ensures same { LooksThrough (D.view disk.old) (D.view disk.new) self.old.arrays cache.old
-            cache.new }
-        ensures damaged { (b : ℕ) → IsErrOf result (Damaged b)
-            → NamesNoBlock (D.view disk.old).content self.old.arrays b }
-        ensures cause { HasCause Device (D.faults disk.old) (D.faults disk.new) result }
-        ensures reads { ReadsArrays self.old.arrays (D.reads disk.old) (D.reads disk.new) }
-    {
-        let more = self.page(disk, cache, pool, tree, limit, buffers, out)?;
-        self.advance(more, out);
-        Ok(more)
     }
 
     /// Gives the shares in its arenas back.

@@ -20,7 +20,7 @@ ghost use Rattle.strat_cursor.specs.declared.cursors.NextFault.TheVariants as ne
 
 use crate::cursor::Cursor;
 use crate::scan_buffers::ScanBuffers;
-use crate::starting::open_cursor;
+use crate::starting::{Origin, open_cursor};
 use std::alloc::Global;
 use std::marker::Model;
 use strat_arena::ArenaPool;
@@ -204,9 +204,13 @@ impl Cursors {
             return Err(CursorFault::NoMemory);
         }
         let number = self.next;
-        let cursor = open_cursor(
-            self.alloc, pool, tree, zero, sealed, levels, number, version, lo, hi,
-        )?;
+        let origin = Origin {
+            tree,
+            zero,
+            sealed,
+            levels,
+        };
+        let cursor = open_cursor(self.alloc, pool, &origin, number, version, lo, hi)?;
         self.opened.push_reserved(cursor);
         self.next += 1;
         Ok(number)
@@ -253,7 +257,9 @@ impl Cursors {
         let Some(place) = place_of(&self.opened, number) else {
             return Err(NextFault::UnknownCursor);
         };
-        let more = self.opened[place].next(disk, cache, pool, tree, limit, buffers, out)?;
+        let cursor = &mut self.opened[place];
+        let more = cursor.tell_page(disk, cache, pool, tree, limit, buffers, out)?;
+        cursor.advance(more, out);
         Ok(more)
     }
 

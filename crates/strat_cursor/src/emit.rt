@@ -10,20 +10,18 @@ ghost use Rattle.def_crash.specs.Faults.{HasCause, ReadsAtMost};
 ghost use Rattle.def_crash.specs.Image.{Image};
 ghost use Rattle.def_crash.specs.Moments.{Exposes};
 ghost use Rattle.strat_merge.specs.Bracket.{IsBracket, IsTournament};
-ghost use Rattle.strat_cursor.specs.Contenders.{contenders, head_in, AreAtHand};
+ghost use Rattle.strat_cursor.specs.Contenders.{head_in, AreAtHand};
 ghost use Rattle.strat_cursor.specs.Looking.{LooksThrough, NamesNoBlock, HaveOwnIds};
-ghost use Rattle.strat_cursor.specs.Picking.{AreSourcesOf};
+ghost use Rattle.strat_cursor.specs.Queries.{pool_asked, tree_asked, arrays_queried, contenders_asked, AsksSources, StandSettled, StandUpTo};
 ghost use Rattle.strat_cursor.specs.Sources.{IsSpent, steps_left, reads_left};
-ghost use Rattle.strat_cursor.specs.Emitting.{is_under, TellsValue, HandlesKey, AreSettled, AreUpTo, IsLater, sum_over};
-ghost use Rattle.strat_cursor.specs.Views.{arrays_read};
+ghost use Rattle.strat_cursor.specs.Emitting.{is_under, TellsValue, HandlesKey, IsLater, sum_over};
 
+use crate::query::Query;
 use crate::scan_buffers::SourcePosition;
-use crate::sources::{Source, advance, is_after};
+use crate::sources::{advance, is_after};
 use crate::tournament::{head_in, replay};
-use crate::view::View;
-use strat_arena::ArenaPool;
 use strat_array::Cache;
-use strat_base::{Entry, Fault, PairBuf, Val, Version, key_order};
+use strat_base::{Entry, Fault, PairBuf, Val, key_order};
 use strat_disk::Disk;
 
 /// Whether a key is below hi, where that is not empty.
@@ -90,80 +88,75 @@ fn emit(
 
 /// Handles the first entry of the source that leads.
 pub(crate) fn emit_head(
-    sources: &[Source<'_>],
-    pool: &ArenaPool,
-    positions: &[SourcePosition],
+    query: &Query<'_>,
     w: usize,
-    hi: &[u8],
-    limit: usize,
     last: &mut Vec<u8>,
+    positions: &[SourcePosition],
     out: &mut PairBuf,
 ) -> Option<bool>
-    requires kept { AreAtHand pool.now sources.now positions.now }
-    requires fits { w < length sources.now }
-    requires found { IsSome (head_in pool.now sources.now positions.now w) }
-    requires room { (limit ≤ PAIRS_MAX) × (255 ≤ vec_capacity last.old) }
-    ensures ok { (e : TheEntry) → head_in pool.now sources.now positions.now w ≡ Some e
-        → HandlesKey e hi.now limit last.old.items last.new.items out.old out.new result }
-    ensures fits { (e : TheEntry) → head_in pool.now sources.now positions.now w ≡ Some e
-        → IsTrue (fits_fields e) }
+    requires kept { AreAtHand (pool_asked query.now) query.now.sources.now positions.now }
+    requires fits { w < length query.now.sources.now }
+    requires found { IsSome (head_in (pool_asked query.now) query.now.sources.now
+        positions.now w) }
+    requires room { (query.now.limit ≤ PAIRS_MAX) × (255 ≤ vec_capacity last.old) }
+    ensures ok { (e : TheEntry) → head_in (pool_asked query.now) query.now.sources.now
+        positions.now w ≡ Some e → HandlesKey e query.now.hi.now query.now.limit
+        last.old.items last.new.items out.old out.new result }
+    ensures fits { (e : TheEntry) → head_in (pool_asked query.now) query.now.sources.now
+        positions.now w ≡ Some e → IsTrue (fits_fields e) }
     ensures room { 255 ≤ vec_capacity last.new }
 {
-    let entry = head_in(sources, pool, positions, w).unwrap();
-    emit(&entry, hi, limit, last, out)
+    let entry = head_in(query.sources, query.view.pool, positions, w).unwrap();
+    emit(&entry, query.hi, query.limit, last, out)
 }
 
 /// The source that led goes on, and the nodes above its leaf are played again.
 pub(crate) fn advance_leader<D: Disk>(
     disk: &mut D,
     cache: &mut Cache,
-    view: &View<'_>,
-    sources: &[Source<'_>],
-    v: Version,
+    query: &Query<'_>,
     w: usize,
     last: &[u8],
     positions: &mut [SourcePosition],
     winners: &mut [usize],
 ) -> Result<(), Fault>
-    requires fits { (v < length view.now.tree.now.parents) × (w < length sources.now) }
-    requires same { AreSourcesOf view.now v sources.now }
-    requires kept { AreSettled view.now.tree.now.parents v view.now.pool.now
-        sources.now positions.old
-        × IsTournament (contenders view.now.pool.now sources.now positions.old) winners.old }
-    requires room { IsSpent last.now (head_in view.now.pool.now sources.now positions.old w) }
-    ensures kept { OnOk result (AreSettled view.now.tree.now.parents v view.now.pool.now
-        sources.now positions.new
-        × IsTournament (contenders view.now.pool.now sources.now positions.new) winners.new) }
+    requires fits { (query.now.version < length (tree_asked query.now))
+        × (w < length query.now.sources.now) }
+    requires same { AsksSources query.now }
+    requires kept { StandSettled query.now positions.old
+        × IsTournament (contenders_asked query.now positions.old) winners.old }
+    requires room { IsSpent last.now (head_in (pool_asked query.now)
+        query.now.sources.now positions.old w) }
+    ensures kept { OnOk result (StandSettled query.now positions.new
+        × IsTournament (contenders_asked query.now positions.new) winners.new) }
     ensures len { (length positions.new ≡ length positions.old)
-        × IsBracket (length sources.now) winners.new }
+        × IsBracket (length query.now.sources.now) winners.new }
     ensures ok { OnOk result ((f : Image) (lo prev : List ℕ) → Exposes (D.view disk.old) f
-        → HaveOwnIds (arrays_read view.now v) → IsLater prev last.now
-        → AreUpTo f cache.old view.now.pool.now view.now.tree.now.parents v lo prev
-        sources.now positions.old
-        → AreUpTo f cache.new view.now.pool.now view.now.tree.now.parents v lo last.now
-        sources.now positions.new) }
-    ensures end { OnOk result ((sum_over (steps_left view.now.pool.now) sources.now positions.new
-        < sum_over (steps_left view.now.pool.now) sources.now positions.old)
-        × (D.reads disk.new + sum_over reads_left sources.now positions.new
-        ≤ D.reads disk.old + sum_over reads_left sources.now positions.old)) }
+        → HaveOwnIds (arrays_queried query.now) → IsLater prev last.now
+        → StandUpTo f cache.old query.now lo prev positions.old
+        → StandUpTo f cache.new query.now lo last.now positions.new) }
+    ensures end { OnOk result ((sum_over (steps_left (pool_asked query.now))
+        query.now.sources.now positions.new
+        < sum_over (steps_left (pool_asked query.now))
+        query.now.sources.now positions.old)
+        × (D.reads disk.new + sum_over reads_left query.now.sources.now positions.new
+        ≤ D.reads disk.old + sum_over reads_left query.now.sources.now positions.old)) }
     ensures same { LooksThrough (D.view disk.old) (D.view disk.new)
-        (arrays_read view.now v) cache.old cache.new }
+        (arrays_queried query.now) cache.old cache.new }
     ensures damaged { (b : ℕ) → IsErrOf result (Damaged b)
-        → NamesNoBlock (D.view disk.old).content (arrays_read view.now v) b }
+        → NamesNoBlock (D.view disk.old).content (arrays_queried query.now) b }
     ensures cause { HasCause Device (D.faults disk.old) (D.faults disk.new) result }
-    ensures reads { ReadsAtMost (sum_over reads_left sources.now positions.old)
+    ensures reads { ReadsAtMost (sum_over reads_left query.now.sources.now positions.old)
         (D.reads disk.old) (D.reads disk.new) }
 {
-    advance(
-        disk,
-        cache,
-        &sources[w],
-        view.pool,
-        view.tree,
-        v,
-        last,
-        &mut positions[w],
-    )?;
-    replay(sources, view.pool, positions, winners, sources.len() + w);
+    let sources = query.sources;
+    advance(disk, cache, &sources[w], query, last, &mut positions[w])?;
+    replay(
+        sources,
+        query.view.pool,
+        positions,
+        winners,
+        sources.len() + w,
+    );
     Ok(())
 }

@@ -7,6 +7,7 @@ mod cursors;
 mod emit;
 pub mod held_laws;
 mod picking;
+mod query;
 mod scan_buffers;
 mod scanning;
 mod sources;

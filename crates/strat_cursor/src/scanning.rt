@@ -8,10 +8,9 @@ ghost use Rattle.def_crash.specs.Moments.{Exposes};
 ghost use Rattle.strat_merge.specs.Bracket.{IsBracket, IsTournament};
 ghost use Rattle.strat_model.specs.Pairs.{Pairs};
 ghost use Rattle.strat_cursor.specs.Ahead.{range_after};
-ghost use Rattle.strat_cursor.specs.Contenders.{contenders};
-ghost use Rattle.strat_cursor.specs.Picking.{AreSourcesOf};
+ghost use Rattle.strat_cursor.specs.Queries.{tree_asked, arrays_queried, contenders_asked, AsksSources, StandSettled, StandUpTo};
 ghost use Rattle.strat_cursor.specs.Sources.{reads_left, reads_of_source};
-ghost use Rattle.strat_cursor.specs.Emitting.{AreSettled, AreUpTo, sum_over};
+ghost use Rattle.strat_cursor.specs.Emitting.{sum_over};
 ghost use Rattle.strat_cursor.specs.ScanRoom.{HasScanRoom};
 ghost use Rattle.strat_cursor.specs.Looking.{LooksThrough, NamesNoBlock, HaveOwnIds, HaveFewBlocks, ReadsArrays};
 ghost use Rattle.strat_cursor.specs.Ranges.{FillsPage, IsMapSeen, IsPageOf};
@@ -19,57 +18,45 @@ ghost use Rattle.strat_cursor.specs.Views.{ViewStands, IsReadable, TellsPage, ar
 
 use crate::emit::{advance_leader, emit_head};
 use crate::picking::pick;
+use crate::query::Query;
 use crate::scan_buffers::{ScanBuffers, SourcePosition};
-use crate::sources::{Source, begin};
+use crate::sources::begin;
 use crate::tournament::{leader, play_all};
 use crate::view::View;
 use strat_array::Cache;
 use strat_base::{Fault, PairBuf, Version};
 use strat_disk::Disk;
 
-/// Lets each source stand at its first entry that is due from a key on. What `begin` costs, for each.
+/// Lets each source stand at its first entry that is due. What `begin` costs, for each.
 fn begin_all<D: Disk>(
     disk: &mut D,
     cache: &mut Cache,
-    view: &View<'_>,
-    sources: &[Source<'_>],
-    v: Version,
-    lo: &[u8],
+    query: &Query<'_>,
     positions: &mut [SourcePosition],
 ) -> Result<(), Fault>
-    requires fits { v < length view.now.tree.now.parents }
-    requires same { AreSourcesOf view.now v sources.now }
-    requires room { length positions.old ≡ length sources.now }
-    ensures kept { OnOk result (AreSettled view.now.tree.now.parents v view.now.pool.now
-        sources.now positions.new) }
+    requires fits { query.now.version < length (tree_asked query.now) }
+    requires same { AsksSources query.now }
+    requires room { length positions.old ≡ length query.now.sources.now }
+    ensures kept { OnOk result (StandSettled query.now positions.new) }
     ensures len { length positions.new ≡ length positions.old }
     ensures ok { OnOk result ((f : Image) (next : ℕ) → Exposes (D.view disk.old) f
-        → IsReadable f next view.now v cache.old
-        → AreUpTo f cache.new view.now.pool.now view.now.tree.now.parents v lo.now []
-        sources.now positions.new) }
+        → IsReadable f next query.now.view.now query.now.version cache.old
+        → StandUpTo f cache.new query.now query.now.lo.now [] positions.new) }
     ensures same { LooksThrough (D.view disk.old) (D.view disk.new)
-        (arrays_read view.now v) cache.old cache.new }
+        (arrays_queried query.now) cache.old cache.new }
     ensures damaged { (b : ℕ) → IsErrOf result (Damaged b)
-        → NamesNoBlock (D.view disk.old).content (arrays_read view.now v) b }
+        → NamesNoBlock (D.view disk.old).content (arrays_queried query.now) b }
     ensures cause { HasCause Device (D.faults disk.old) (D.faults disk.new) result }
-    ensures reads { (n : ℕ) → HaveFewBlocks n (arrays_read view.now v)
-        → ReadsAtMost (sum_by (reads_of_source n) sources.now)
+    ensures reads { (n : ℕ) → HaveFewBlocks n (arrays_queried query.now)
+        → ReadsAtMost (sum_by (reads_of_source n) query.now.sources.now)
         (D.reads disk.old) (D.reads disk.new) }
-    ensures room { OnOk result ((n : ℕ) → HaveFewBlocks n (arrays_read view.now v)
-        → D.reads disk.new + sum_over reads_left sources.now positions.new
-        ≤ D.reads disk.old + sum_by (reads_of_source n) sources.now) }
+    ensures room { OnOk result ((n : ℕ) → HaveFewBlocks n (arrays_queried query.now)
+        → D.reads disk.new + sum_over reads_left query.now.sources.now positions.new
+        ≤ D.reads disk.old + sum_by (reads_of_source n) query.now.sources.now) }
 {
+    let sources = query.sources;
     for i in 0..sources.len() {
-        begin(
-            disk,
-            cache,
-            &sources[i],
-            view.pool,
-            view.tree,
-            v,
-            lo,
-            &mut positions[i],
-        )?;
+        begin(disk, cache, &sources[i], query, &mut positions[i])?;
     }
     Ok(())
 }
@@ -79,48 +66,43 @@ fn begin_all<D: Disk>(
 fn tell_all<D: Disk>(
     disk: &mut D,
     cache: &mut Cache,
-    view: &View<'_>,
-    sources: &[Source<'_>],
-    v: Version,
-    hi: &[u8],
-    limit: usize,
+    query: &Query<'_>,
     last: &mut Vec<u8>,
     positions: &mut [SourcePosition],
     winners: &mut [usize],
     out: &mut PairBuf,
 ) -> Result<bool, Fault>
-    requires fits { v < length view.now.tree.now.parents }
-    requires same { AreSourcesOf view.now v sources.now }
-    requires kept { AreSettled view.now.tree.now.parents v view.now.pool.now
-        sources.now positions.old }
-    requires found { IsTournament (contenders view.now.pool.now sources.now positions.old)
-        winners.old }
-    requires room { (limit ≤ 256) × (255 ≤ vec_capacity last.old) × (length out.old ≤ limit) }
+    requires fits { query.now.version < length (tree_asked query.now) }
+    requires same { AsksSources query.now }
+    requires kept { StandSettled query.now positions.old }
+    requires found { IsTournament (contenders_asked query.now positions.old) winners.old }
+    requires room { (query.now.limit ≤ 256) × (255 ≤ vec_capacity last.old)
+        × (length out.old ≤ query.now.limit) }
     ensures ok { IfOk result (λ more. (f : Image) (lo : List ℕ) (m : Pairs)
-        → Exposes (D.view disk.old) f → HaveOwnIds (arrays_read view.now v)
-        → AreUpTo f cache.old view.now.pool.now view.now.tree.now.parents v lo last.old.items
-        sources.now positions.old
-        → IsMapSeen f view.now.tree.now.parents (zeros_in view.now)
-        (arrays_read view.now v) v m
-        → IsPageOf (out.old ++ range_after m lo hi.now last.old.items) limit out.new more) }
-    ensures len { IfOk result (λ more. FillsPage limit (length out.new) more) }
+        → Exposes (D.view disk.old) f → HaveOwnIds (arrays_queried query.now)
+        → StandUpTo f cache.old query.now lo last.old.items positions.old
+        → IsMapSeen f (tree_asked query.now) (zeros_in query.now.view.now)
+        (arrays_queried query.now) query.now.version m
+        → IsPageOf (out.old ++ range_after m lo query.now.hi.now last.old.items)
+        query.now.limit out.new more) }
+    ensures len { IfOk result (λ more. FillsPage query.now.limit (length out.new) more) }
     ensures room { (255 ≤ vec_capacity last.new) × (length positions.new ≡ length positions.old)
-        × IsBracket (length sources.now) winners.new }
+        × IsBracket (length query.now.sources.now) winners.new }
     ensures same { LooksThrough (D.view disk.old) (D.view disk.new)
-        (arrays_read view.now v) cache.old cache.new }
+        (arrays_queried query.now) cache.old cache.new }
     ensures damaged { (b : ℕ) → IsErrOf result (Damaged b)
-        → NamesNoBlock (D.view disk.old).content (arrays_read view.now v) b }
+        → NamesNoBlock (D.view disk.old).content (arrays_queried query.now) b }
     ensures cause { HasCause Device (D.faults disk.old) (D.faults disk.new) result }
-    ensures reads { ReadsAtMost (sum_over reads_left sources.now positions.old)
+    ensures reads { ReadsAtMost (sum_over reads_left query.now.sources.now positions.old)
         (D.reads disk.old) (D.reads disk.new) }
 {
     // What it says beside its answer: the versions are a tree.
-    let _versions = view.tree.count();
-    while let Some(w) = leader(sources, view.pool, positions, winners) {
-        if let Some(more) = emit_head(sources, view.pool, positions, w, hi, limit, last, out) {
+    let _versions = query.view.tree.count();
+    while let Some(w) = leader(query.sources, query.view.pool, positions, winners) {
+        if let Some(more) = emit_head(query, w, last, positions, out) {
             return Ok(more);
         }
-        advance_leader(disk, cache, view, sources, v, w, last, positions, winners)?;
+        advance_leader(disk, cache, query, w, last, positions, winners)?;
     }
     Ok(false)
 }
@@ -129,86 +111,35 @@ fn tell_all<D: Disk>(
 fn scan_sources<D: Disk>(
     disk: &mut D,
     cache: &mut Cache,
-    view: &View<'_>,
-    sources: &[Source<'_>],
-    v: Version,
-    lo: &[u8],
-    hi: &[u8],
-    limit: usize,
+    query: &Query<'_>,
     last: &mut Vec<u8>,
     positions: &mut [SourcePosition],
     winners: &mut [usize],
     out: &mut PairBuf,
 ) -> Result<bool, Fault>
-    requires fits { v < length view.now.tree.now.parents }
-    requires same { AreSourcesOf view.now v sources.now }
+    requires fits { query.now.version < length (tree_asked query.now) }
+    requires same { AsksSources query.now }
     requires kept { HasScanRoom positions.old winners.old (vec_capacity last.old) }
-    requires room { (limit ≤ 256) × (out.old ≡ []) }
+    requires room { (query.now.limit ≤ 256) × (out.old ≡ []) }
     ensures ok { IfOk result (λ more. (f : Image) (next : ℕ) → Exposes (D.view disk.old) f
-        → IsReadable f next view.now v cache.old
-        → TellsPage f view.now v lo.now hi.now limit out.new more) }
-    ensures len { IfOk result (λ more. FillsPage limit (length out.new) more) }
+        → IsReadable f next query.now.view.now query.now.version cache.old
+        → TellsPage f query.now.view.now query.now.version query.now.lo.now query.now.hi.now
+        query.now.limit out.new more) }
+    ensures len { IfOk result (λ more. FillsPage query.now.limit (length out.new) more) }
     ensures kept { HasScanRoom positions.new winners.new (vec_capacity last.new) }
     ensures same { LooksThrough (D.view disk.old) (D.view disk.new)
-        (arrays_read view.now v) cache.old cache.new }
+        (arrays_queried query.now) cache.old cache.new }
     ensures damaged { (b : ℕ) → IsErrOf result (Damaged b)
-        → NamesNoBlock (D.view disk.old).content (arrays_read view.now v) b }
+        → NamesNoBlock (D.view disk.old).content (arrays_queried query.now) b }
     ensures cause { HasCause Device (D.faults disk.old) (D.faults disk.new) result }
-    ensures reads { (n : ℕ) → HaveFewBlocks n (arrays_read view.now v)
-        → ReadsAtMost (sum_by (reads_of_source n) sources.now)
+    ensures reads { (n : ℕ) → HaveFewBlocks n (arrays_queried query.now)
+        → ReadsAtMost (sum_by (reads_of_source n) query.now.sources.now)
         (D.reads disk.old) (D.reads disk.new) }
 {
     last.clear();
-    begin_all(disk, cache, view, sources, v, lo, positions)?;
-    play_all(sources, view.pool, positions, winners);
-    tell_all(
-        disk, cache, view, sources, v, hi, limit, last, positions, winners, out,
-    )
-}
-
-/// Scans the sources of a view with the room of a scan.
-fn scan_with<D: Disk>(
-    disk: &mut D,
-    cache: &mut Cache,
-    view: &View<'_>,
-    sources: &[Source<'_>],
-    v: Version,
-    lo: &[u8],
-    hi: &[u8],
-    limit: usize,
-    buffers: &mut ScanBuffers,
-    out: &mut PairBuf,
-) -> Result<bool, Fault>
-    requires fits { v < length view.now.tree.now.parents }
-    requires same { AreSourcesOf view.now v sources.now }
-    requires room { (limit ≤ 256) × (out.old ≡ []) }
-    ensures ok { IfOk result (λ more. (f : Image) (next : ℕ) → Exposes (D.view disk.old) f
-        → IsReadable f next view.now v cache.old
-        → TellsPage f view.now v lo.now hi.now limit out.new more) }
-    ensures len { IfOk result (λ more. FillsPage limit (length out.new) more) }
-    ensures same { LooksThrough (D.view disk.old) (D.view disk.new)
-        (arrays_read view.now v) cache.old cache.new }
-    ensures damaged { (b : ℕ) → IsErrOf result (Damaged b)
-        → NamesNoBlock (D.view disk.old).content (arrays_read view.now v) b }
-    ensures cause { HasCause Device (D.faults disk.old) (D.faults disk.new) result }
-    ensures reads { (n : ℕ) → HaveFewBlocks n (arrays_read view.now v)
-        → ReadsAtMost (sum_by (reads_of_source n) sources.now)
-        (D.reads disk.old) (D.reads disk.new) }
-{
-    scan_sources(
-        disk,
-        cache,
-        view,
-        sources,
-        v,
-        lo,
-        hi,
-        limit,
-        &mut buffers.last,
-        &mut buffers.positions,
-        &mut buffers.winners,
-        out,
-    )
+    begin_all(disk, cache, query, positions)?;
+    play_all(query.sources, query.view.pool, positions, winners);
+    tell_all(disk, cache, query, last, positions, winners, out)
 }
 
 /// The first pairs of a version from `lo` on and below `hi`, or without an upper bound where `hi` is empty: at most
@@ -243,16 +174,20 @@ pub fn scan<D: Disk>(
         (D.reads disk.old) (D.reads disk.new) }
 {
     let sources = pick(view, version);
-    let told = scan_with(
+    let told = scan_sources(
         disk,
         cache,
-        view,
-        &sources,
-        version,
-        lo,
-        hi,
-        limit as usize,
-        buffers,
+        &Query {
+            view,
+            sources: &sources,
+            version,
+            lo,
+            hi,
+            limit: limit as usize,
+        },
+        &mut buffers.last,
+        &mut buffers.positions,
+        &mut buffers.winners,
         out,
     );
     if told.is_err() {

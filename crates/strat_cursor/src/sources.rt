@@ -18,8 +18,10 @@ ghost use Rattle.strat_base.specs.Tree.{is_ancestor};
 ghost use Rattle.strat_level.specs.Memtable.{ListStands, entries_held};
 ghost use Rattle.strat_array.specs.Steps.{blocks_ahead, left_from, HoldsPlace};
 ghost use Rattle.strat_cursor.specs.Ahead.{is_after};
+ghost use Rattle.strat_cursor.specs.Queries.{pool_asked, tree_asked};
 ghost use Rattle.strat_cursor.specs.Sources.{MayBeRead, HasHead, first_at_source, entry_held, is_due, arrays_at, left_at_source, steps_left, reads_left, reads_of_source, IsSettledAt, IsUpTo, IsSpent, MayBeBegun, StandsIn, left_behind, places_ahead, blocks_behind, PassesUndue};
 
+use crate::query::Query;
 use crate::scan_buffers::SourcePosition;
 use strat_arena::ArenaPool;
 use strat_array::{Cache, Place, Scratch, first_place_from, seek};
@@ -104,26 +106,24 @@ fn is_due(entry: &Entry<'_>, tree: &Tree, v: Version, last: &[u8]) -> bool
 }
 
 /// The first item from a place on that is due. O(items passed over), each as `is_due`.
-fn stand_item(
-    pool: &ArenaPool,
-    list: &ZeroView,
-    tree: &Tree,
-    v: Version,
-    last: &[u8],
-    item: usize,
-) -> usize
-    requires kept { ListStands pool.now list.now }
-    requires fits { v < length tree.now.parents }
-    ensures ok { PassesUndue tree.now.parents v last.now
-        (drop item (entries_held pool.now list.now))
-        (drop result (entries_held pool.now list.now)) }
-    ensures found { IfSome (slice_get (entries_held pool.now list.now) result)
-        (λ e. IsTrue (is_ancestor tree.now.parents e.version v)) }
+fn stand_item(query: &Query<'_>, list: &ZeroView, last: &[u8], item: usize) -> usize
+    requires kept { ListStands (pool_asked query.now) list.now }
+    requires fits { query.now.version < length (tree_asked query.now) }
+    ensures ok { PassesUndue (tree_asked query.now) query.now.version last.now
+        (drop item (entries_held (pool_asked query.now) list.now))
+        (drop result (entries_held (pool_asked query.now) list.now)) }
+    ensures found { IfSome (slice_get (entries_held (pool_asked query.now) list.now) result)
+        (λ e. IsTrue (is_ancestor (tree_asked query.now) e.version query.now.version)) }
     ensures end { item ≤ result }
 {
     let mut item = item;
     while item < list.items().len() {
-        if is_due(&list.entry(pool, item), tree, v, last) {
+        if is_due(
+            &list.entry(query.view.pool, item),
+            query.view.tree,
+            query.version,
+            last,
+        ) {
             return item;
         }
         item += 1;
@@ -138,22 +138,22 @@ fn stand_place<D: Disk>(
     disk: &mut D,
     cache: &mut Cache,
     desc: &ArrayDesc,
-    tree: &Tree,
-    v: Version,
+    query: &Query<'_>,
     last: &[u8],
     place: Place,
     scratch: &mut Scratch,
 ) -> Result<Option<Place>, Fault>
     requires fits { AreWithin desc.now.extents }
-    requires kept { v < length tree.now.parents }
+    requires kept { query.now.version < length (tree_asked query.now) }
     ensures found { IfOk result (λ r. IfSome r (λ at.
         HoldsPlace scratch.new desc.now.id at × (at.index < 454))) }
     ensures kept { IfOk result (λ r. IfSome r (λ at. IfSome (entry_held scratch.new at.index)
-        (λ e. IsTrue (is_ancestor tree.now.parents e.version v)))) }
+        (λ e. IsTrue (is_ancestor (tree_asked query.now) e.version query.now.version)))) }
     ensures ok { IfOk result (λ r. (lists : List (List TheEntry))
         → ArrayStands (D.view disk.old).content desc.now.id (blocks_of desc.now.extents)
         cache.old scratch.old lists
-        → PassesUndue tree.now.parents v last.now (left_from lists place) (left_behind lists r)) }
+        → PassesUndue (tree_asked query.now) query.now.version last.now
+        (left_from lists place) (left_behind lists r)) }
     ensures end { IfOk result (λ r. IfSome r (λ at. places_ahead at ≤ places_ahead place)) }
     ensures same { Looks (D.view disk.old) (D.view disk.new)
         desc.now.id (blocks_of desc.now.extents) cache.old cache.new scratch.old scratch.new }
@@ -171,7 +171,7 @@ fn stand_place<D: Disk>(
     let mut place = place;
     while let Some(at) = first_place_from(disk, cache, desc, place, scratch)? {
         let entry = scratch.entry(at.index);
-        if is_due(&entry, tree, v, last) {
+        if is_due(&entry, query.view.tree, query.version, last) {
             return Ok(Some(at));
         }
         place = at.next();
@@ -185,23 +185,21 @@ fn begin_place<D: Disk>(
     disk: &mut D,
     cache: &mut Cache,
     desc: &ArrayDesc,
-    tree: &Tree,
-    v: Version,
-    lo: &[u8],
+    query: &Query<'_>,
     scratch: &mut Scratch,
 ) -> Result<Option<Place>, Fault>
     requires fits { AreWithin desc.now.extents }
-    requires kept { v < length tree.now.parents }
+    requires kept { query.now.version < length (tree_asked query.now) }
     ensures found { IfOk result (λ r. IfSome r (λ at.
         HoldsPlace scratch.new desc.now.id at × (at.index < 454))) }
     ensures kept { IfOk result (λ r. IfSome r (λ at. IfSome (entry_held scratch.new at.index)
-        (λ e. IsTrue (is_ancestor tree.now.parents e.version v)))) }
+        (λ e. IsTrue (is_ancestor (tree_asked query.now) e.version query.now.version)))) }
     ensures ok { IfOk result (λ r. (lists : List (List TheEntry))
         → ArrayStands (D.view disk.old).content desc.now.id (blocks_of desc.now.extents)
         cache.old None lists
         → IsTrue (is_ascending (all_in lists))
-        → PassesUndue tree.now.parents v [] (filter (is_from lo.now) (all_in lists))
-        (left_behind lists r)) }
+        → PassesUndue (tree_asked query.now) query.now.version []
+        (filter (is_from query.now.lo.now) (all_in lists)) (left_behind lists r)) }
     ensures same { Looks (D.view disk.old) (D.view disk.new)
         desc.now.id (blocks_of desc.now.extents) cache.old cache.new None scratch.new }
     ensures damaged { (b : ℕ) → IsErrOf result (Damaged b)
@@ -215,23 +213,23 @@ fn begin_place<D: Disk>(
         + blocks_behind scratch.new desc.now.id (length (blocks_of desc.now.extents)) r
         ≤ D.reads disk.old + (n + 1 + length (blocks_of desc.now.extents))) }
 {
-    let place = seek(disk, cache, desc, lo, scratch)?;
-    stand_place(disk, cache, desc, tree, v, &[], place, scratch)
+    let place = seek(disk, cache, desc, query.lo, scratch)?;
+    stand_place(disk, cache, desc, query, &[], place, scratch)
 }
 
 /// The first item of level 0 that is due from a key on, when none was handled yet. What `ZeroView::seek` and
 /// `stand_item` cost.
-fn begin_item(pool: &ArenaPool, list: &ZeroView, tree: &Tree, v: Version, lo: &[u8]) -> usize
-    requires kept { ListStands pool.now list.now }
-    requires fits { v < length tree.now.parents }
-    ensures ok { PassesUndue tree.now.parents v []
-        (filter (is_from lo.now) (entries_held pool.now list.now))
-        (drop result (entries_held pool.now list.now)) }
-    ensures found { IfSome (slice_get (entries_held pool.now list.now) result)
-        (λ e. IsTrue (is_ancestor tree.now.parents e.version v)) }
+fn begin_item(query: &Query<'_>, list: &ZeroView) -> usize
+    requires kept { ListStands (pool_asked query.now) list.now }
+    requires fits { query.now.version < length (tree_asked query.now) }
+    ensures ok { PassesUndue (tree_asked query.now) query.now.version []
+        (filter (is_from query.now.lo.now) (entries_held (pool_asked query.now) list.now))
+        (drop result (entries_held (pool_asked query.now) list.now)) }
+    ensures found { IfSome (slice_get (entries_held (pool_asked query.now) list.now) result)
+        (λ e. IsTrue (is_ancestor (tree_asked query.now) e.version query.now.version)) }
 {
-    let item = list.seek(pool, lo);
-    stand_item(pool, list, tree, v, &[], item)
+    let item = list.seek(query.view.pool, query.lo);
+    stand_item(query, list, &[], item)
 }
 
 /// Lets a source stand at its first entry that is due from a key on, when none was handled yet. What `seek` costs and
@@ -240,18 +238,17 @@ pub(crate) fn begin<D: Disk>(
     disk: &mut D,
     cache: &mut Cache,
     source: &Source<'_>,
-    pool: &ArenaPool,
-    tree: &Tree,
-    v: Version,
-    lo: &[u8],
+    query: &Query<'_>,
     position: &mut SourcePosition,
 ) -> Result<(), Fault>
-    requires kept { MayBeRead pool.now source.now }
-    requires fits { v < length tree.now.parents }
-    ensures found { OnOk result (IsSettledAt tree.now.parents v pool.now source.now position.new) }
+    requires kept { MayBeRead (pool_asked query.now) source.now }
+    requires fits { query.now.version < length (tree_asked query.now) }
+    ensures found { OnOk result (IsSettledAt (tree_asked query.now) query.now.version
+        (pool_asked query.now) source.now position.new) }
     ensures ok { OnOk result ((f : Image) → Exposes (D.view disk.old) f
         → MayBeBegun f cache.old source.now
-        → IsUpTo f pool.now tree.now.parents v lo.now [] source.now position.new
+        → IsUpTo f (pool_asked query.now) (tree_asked query.now) query.now.version
+        query.now.lo.now [] source.now position.new
         × StandsIn f cache.new source.now position.new.scratch) }
     ensures same { LooksThrough (D.view disk.old) (D.view disk.new)
         (arrays_at source.now) cache.old cache.new }
@@ -267,11 +264,11 @@ pub(crate) fn begin<D: Disk>(
     match source {
         Source::None => Ok(()),
         Source::Zero(list) => {
-            position.item = begin_item(pool, list, tree, v, lo);
+            position.item = begin_item(query, list);
             Ok(())
         }
         Source::Array(desc) => {
-            let at = begin_place(disk, cache, desc, tree, v, lo, &mut position.scratch)?;
+            let at = begin_place(disk, cache, desc, query, &mut position.scratch)?;
             position.stand(at);
             Ok(())
         }
@@ -284,24 +281,25 @@ pub(crate) fn advance<D: Disk>(
     disk: &mut D,
     cache: &mut Cache,
     source: &Source<'_>,
-    pool: &ArenaPool,
-    tree: &Tree,
-    v: Version,
+    query: &Query<'_>,
     last: &[u8],
     position: &mut SourcePosition,
 ) -> Result<(), Fault>
-    requires kept { MayBeRead pool.now source.now }
-    requires fits { v < length tree.now.parents }
+    requires kept { MayBeRead (pool_asked query.now) source.now }
+    requires fits { query.now.version < length (tree_asked query.now) }
     requires same { HasHead source.now position.old }
-    requires found { IsSpent last.now (first_at_source pool.now source.now position.old) }
-    ensures found { OnOk result (IsSettledAt tree.now.parents v pool.now source.now position.new) }
+    requires found { IsSpent last.now (first_at_source (pool_asked query.now) source.now
+        position.old) }
+    ensures found { OnOk result (IsSettledAt (tree_asked query.now) query.now.version
+        (pool_asked query.now) source.now position.new) }
     ensures ok { OnOk result ((f : Image) → Exposes (D.view disk.old) f
         → StandsIn f cache.old source.now position.old.scratch
-        → PassesUndue tree.now.parents v last.now (left_at_source f pool.now source.now position.old)
-        (left_at_source f pool.now source.now position.new)
+        → PassesUndue (tree_asked query.now) query.now.version last.now
+        (left_at_source f (pool_asked query.now) source.now position.old)
+        (left_at_source f (pool_asked query.now) source.now position.new)
         × StandsIn f cache.new source.now position.new.scratch) }
-    ensures end { OnOk result (steps_left pool.now source.now position.new
-        < steps_left pool.now source.now position.old) }
+    ensures end { OnOk result (steps_left (pool_asked query.now) source.now position.new
+        < steps_left (pool_asked query.now) source.now position.old) }
     ensures same { LooksThrough (D.view disk.old) (D.view disk.new)
         (arrays_at source.now) cache.old cache.new }
     ensures damaged { (b : ℕ) → IsErrOf result (Damaged b)
@@ -317,21 +315,12 @@ pub(crate) fn advance<D: Disk>(
         Source::Zero(list) => {
             // That there are more items than the place says is known where they are counted.
             let _items = list.items().len();
-            position.item = stand_item(pool, list, tree, v, last, position.item + 1);
+            position.item = stand_item(query, list, last, position.item + 1);
             Ok(())
         }
         Source::Array(desc) => {
             let next = position.place.next();
-            let at = stand_place(
-                disk,
-                cache,
-                desc,
-                tree,
-                v,
-                last,
-                next,
-                &mut position.scratch,
-            )?;
+            let at = stand_place(disk, cache, desc, query, last, next, &mut position.scratch)?;
             position.stand(at);
             Ok(())
         }

@@ -100,32 +100,38 @@ fn copy_lists(
     }
 }
 
+/// What a cursor is opened over: level 0, a sealed one where there is one, and the levels, at versions of a tree.
+#[derive(Drop)]
+pub struct Origin<'a> {
+    pub(crate) tree: &'a Tree,
+    pub(crate) zero: &'a Zero,
+    pub(crate) sealed: Option<&'a Zero>,
+    pub(crate) levels: &'a Levels,
+}
+
 /// A cursor over a range of a version as it is now. After want of memory all is as before. O(items), 12 bytes for each,
 /// and the time of copying the descriptors of at most 22 arrays; no block is read.
 pub(crate) fn open_cursor(
     alloc: Global,
     pool: &mut ArenaPool,
-    tree: &Tree,
-    zero: &Zero,
-    sealed: Option<&Zero>,
-    levels: &Levels,
+    origin: &Origin<'_>,
     number: u64,
     version: Version,
     lo: &[u8],
     hi: &[u8],
 ) -> Result<Cursor, NoMemory>
-    requires fits { version < length tree.now.parents }
-    requires kept { ListStands pool.old zero.now.list
-        × IfSome (option_copied sealed) (λ z. ListStands pool.old z.list) }
+    requires fits { version < length origin.now.tree.now.parents }
+    requires kept { ListStands pool.old origin.now.zero.now.list
+        × IfSome (option_copied origin.now.sealed) (λ z. ListStands pool.old z.list) }
     requires room { (n : ℕ) → shares_at pool.old n + 1 < 2 ^ 32 - 1 }
-    ensures found { IfOk result (λ c. IsCopyOf zero.now.list c.zero
-        × IsCopyIfAny (option_copied sealed.entry) c.sealed) }
+    ensures found { IfOk result (λ c. IsCopyOf origin.now.zero.now.list c.zero
+        × IsCopyIfAny (option_copied origin.now.sealed) c.sealed) }
     ensures ok { IfOk result (λ c. c ≡ record {
       number = number;
       version = version;
       zero = c.zero;
       sealed = c.sealed;
-      arrays = arrays_asked tree.now.parents levels.now version;
+      arrays = arrays_asked origin.now.tree.now.parents origin.now.levels.now version;
       from = Some lo.now;
       hi = hi.now;
     }) }
@@ -136,8 +142,8 @@ pub(crate) fn open_cursor(
 {
     let from = bound_of(alloc, lo)?;
     let hi = Vec::from_slice(alloc, hi)?;
-    let arrays = arrays_at(alloc, tree, levels, version)?;
-    let (zero, sealed) = copy_lists(zero, sealed, pool)?;
+    let arrays = arrays_at(alloc, origin.tree, origin.levels, version)?;
+    let (zero, sealed) = copy_lists(origin.zero, origin.sealed, pool)?;
     Ok(Cursor {
         number,
         version,

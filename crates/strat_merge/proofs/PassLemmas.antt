@@ -8,7 +8,6 @@ use Rattle.std.proofs.lemmas.Option.{slice_get-map}
 use Rattle.def_crash.specs.Image.{Image}
 use Rattle.def_crash.specs.Moments.{DiskView, Exposes, OnlyReads}
 use Rattle.def_crash.specs.Faults.{HasCause}
-use Rattle.strat_base.specs.declared.failures.Fault.TheVariants as fault
 use Rattle.strat_base.specs.declared.failures.Trouble.{Trouble}
 use Rattle.strat_base.specs.declared.failures.Trouble.TheVariants.{Device, Damaged}
 use Rattle.strat_merge.specs.Reading.{ReadsRuns}

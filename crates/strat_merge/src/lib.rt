@@ -8,7 +8,9 @@ mod group;
 mod merger;
 mod purging;
 mod run;
+mod runs;
 
+pub use bracket::{Contest, leader, new_bracket, play_all, replay};
 pub use collect::add_entry;
 pub use group::GroupBuf;
 pub use merger::Merger;

@@ -18,6 +18,7 @@ use crate::bracket::{any_left, leader, new_bracket, play_all, replay};
 use crate::collect::{begins_with, collect, key_of_group};
 use crate::group::GroupBuf;
 use crate::run::Run;
+use crate::runs::contest_of;
 use std::alloc::Global;
 use strat_arena::Arena;
 use strat_base::{Fault, NoMemory, Trouble};
@@ -61,7 +62,7 @@ fn pass<D: Disk, R: Run<D>>(merger: &mut Merger<R>, run: usize, disk: &mut D) ->
     match advance_at::<D, R>(&mut merger.runs, run, disk) {
         Ok(()) => {
             let leaf = merger.runs.len() + run;
-            replay::<D, R>(&merger.runs, &mut merger.winners, leaf);
+            replay(&contest_of::<D, R>(&merger.runs), &mut merger.winners, leaf);
             merger.consumed = merger.consumed.saturating_add(1);
             Ok(())
         }
@@ -77,7 +78,7 @@ fn leader_of_key<D: Disk, R: Run<D>>(runs: &[R], winners: &[usize], key: &[u8]) 
         × IsTrue (is_of key.now e))) }
     ensures none { IfNone result (LeadsAside (map R.view runs.now) key.now) }
 {
-    let run = leader::<D, R>(runs, winners)?;
+    let run = leader(&contest_of::<D, R>(runs), winners)?;
     if begins_with::<D, R>(runs, run, key) {
         Some(run)
     } else {
@@ -154,7 +155,7 @@ fn gather<D: Disk, R: Run<D>>(
 {
     // The count's range is known where it is read.
     let _consumed = merger.consumed;
-    let Some(first) = leader::<D, R>(&merger.runs, &merger.winners) else {
+    let Some(first) = leader(&contest_of::<D, R>(&merger.runs), &merger.winners) else {
         return Ok(false);
     };
     let mut next = Some(first);
@@ -199,7 +200,7 @@ impl<R> Merger<R> {
         ensures found { result ≡ true
             → (i : ℕ) × IsSome (head_at (views_of R.view self.now) i) }
     {
-        any_left::<D, R>(&self.runs)
+        any_left(&contest_of::<D, R>(&self.runs))
     }
 
     /// Gathers the entries of the least key that is left: of each version once, the newest run's. The arena and
@@ -254,7 +255,7 @@ impl<R> Merger<R> {
         if self.winners.is_empty() {
             let alloc = *self.winners.allocator();
             let mut winners = new_bracket(alloc, self.runs.len())?;
-            play_all::<D, R>(&self.runs, &mut winners);
+            play_all(&contest_of::<D, R>(&self.runs), &mut winners);
             self.winners = winners;
         }
         Ok(())

@@ -7,9 +7,9 @@ use Rattle.strat_cursor.specs.Looking.{HaveFewBlocks}
 
 abbrev pub invariant-loop-i : goal.invariant-loop-i
 invariant-loop-i g l = record {
-  begun : Beginning (g.D.Disk.view l.initial.disk) (g.D.Disk.view l.disk) l.view l.v l.lo l.sources l.initial.cache l.cache l.i l.positions;
+  begun : Beginning (g.D.Disk.view l.initial.disk) (g.D.Disk.view l.disk) l.query.view.now l.query.version l.query.lo.now l.query.sources.now l.initial.cache l.cache l.i l.positions;
   same : length l.positions ≡ length l.initial.positions;
   faults : g.D.Disk.faults l.disk ≡ g.D.Disk.faults l.initial.disk;
-  later : (n : ℕ) → HaveFewBlocks n (arrays_read l.view l.v) → g.D.Disk.reads l.initial.disk ≤ g.D.Disk.reads l.disk;
-  reads : (n : ℕ) → HaveFewBlocks n (arrays_read l.view l.v) → g.D.Disk.reads l.disk + sum_first l.i reads_left l.sources l.positions + sum_by (reads_of_source n) (drop l.i l.sources) ≤ g.D.Disk.reads l.initial.disk + sum_by (reads_of_source n) l.sources;
+  later : (n : ℕ) → HaveFewBlocks n (arrays_read l.query.view.now l.query.version) → g.D.Disk.reads l.initial.disk ≤ g.D.Disk.reads l.disk;
+  reads : (n : ℕ) → HaveFewBlocks n (arrays_read l.query.view.now l.query.version) → g.D.Disk.reads l.disk + sum_first l.i reads_left l.query.sources.now l.positions + sum_by (reads_of_source n) (drop l.i l.query.sources.now) ≤ g.D.Disk.reads l.initial.disk + sum_by (reads_of_source n) l.query.sources.now;
 }

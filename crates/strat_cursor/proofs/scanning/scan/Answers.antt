@@ -1,19 +1,24 @@
-use Rattle.std.proofs.Common.{ℕ, ap, ◌∙◌, subst}
+use Rattle.std.proofs.Common.{◌≡◌, ℕ, true, Result, Ok, Err, is_err, sym, ap, ◌∙◌, subst, true≢false}
+use Rattle.std.specs.Result.{IfOk}
 use Rattle.def_crash.specs.Faults.{ReadsAtMost}
-use Rattle.strat_cursor.specs.Looking.{ReadsArrays, reads_of_arrays}
-use Rattle.strat_cursor.specs.Views.{arrays_read}
+use Rattle.strat_cursor.specs.Looking.{reads_of_arrays}
 use Rattle.strat_cursor.proofs.ReadLemmas.{reads_of_sources}
-use Rattle.strat_cursor.proofs.scanning.scan.Given.{Over}
 use Rattle.strat_cursor.proofs.scanning.scan.Goals as goal
-use Rattle.strat_cursor.proofs.scanning.scan.Goals.{After-is_err}
+use Rattle.strat_cursor.proofs.scanning.scan.Goals.{then-is_err, else-is_err}
 
-reads : (g : Over) (c : After-is_err g) → ReadsArrays (arrays_read c.args.view.now c.args.version) (g.D.Disk.reads c.args.disk.now) (g.D.Disk.reads c.scan_with-told.new.disk)
-reads g c = λ n few.
-    subst (λ (most : ℕ). ReadsAtMost most (g.D.Disk.reads c.args.disk.now) (g.D.Disk.reads c.scan_with-told.new.disk)) (reads_of_sources n c.pick-sources.result ∙ ap (reads_of_arrays n) c.pick-sources.ensures.ok.arrays)
-    (c.scan_with-told.ensures.reads n few)
+pub returns-clause-reads : goal.returns-clause-reads
+returns-clause-reads g c = λ n few.
+    subst (λ (most : ℕ). ReadsAtMost most (g.D.Disk.reads c.args.disk.now) (g.D.Disk.reads c.scan_sources-told.new.disk)) (reads_of_sources n c.pick-sources.result ∙ ap (reads_of_arrays n) c.pick-sources.ensures.ok.arrays)
+    (c.scan_sources-told.ensures.reads n few)
 
-pub returns-then-is_err-clause-reads : goal.returns-then-is_err-clause-reads
-returns-then-is_err-clause-reads g c = reads g (goal.at.returns-then-is_err-clause-reads g c).After-is_err
+-- a call that failed has no answer of which anything is to be shown
+no_ok : {T E : Type 0} (P : T → Type 0) (r : Result T E) → is_err r ≡ true → IfOk r P
+no_ok P (Ok x) is = absurd (true≢false (sym is))
+no_ok P (Err e) is = tt
 
-pub returns-else-is_err-clause-reads : goal.returns-else-is_err-clause-reads
-returns-else-is_err-clause-reads g c = reads g (goal.at.returns-else-is_err-clause-reads g c).After-is_err
+pub returns-clause-ok : goal.returns-clause-ok
+returns-clause-ok g c =
+    elim c.if-is_err.branch [
+      | then-is_err w ↦ no_ok _ c.scan_sources-told.result (sym c.is_err.ensures.value ∙ w.if-is_err.true)
+      | else-is_err w ↦ rw w.out-is c.scan_sources-told.ensures.ok
+    ]

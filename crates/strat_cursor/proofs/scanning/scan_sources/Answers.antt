@@ -12,9 +12,9 @@ play_all-requires-clause-kept g c = at_hand _ _ _ _ _ c.in_ok-begin_all.ensures.
 pub returns-clause-ok : goal.returns-clause-ok
 returns-clause-ok g c =
     if_ok_then c.tell_all.result c.tell_all.ensures.ok (λ more answers f next exposed may m seen.
-    page_range m c.args.lo.now c.args.hi.now c.clear.new.self.items c.args.out.now c.args.limit _ more c.clear.ensures.items c.requires.room.1
-    (answers f c.args.lo.now m (c.in_ok-begin_all.ensures.same.disk.same ∙ exposed) may.ids
-    (subst (λ (l : List ℕ). AreUpTo f c.begin_all.new.cache c.args.view.now.pool.now c.args.view.now.tree.now.parents c.args.v c.args.lo.now l c.args.sources.now c.begin_all.new.positions) (sym c.clear.ensures.items) (c.in_ok-begin_all.ensures.ok f next exposed may)) seen))
+    page_range m c.args.query.now.lo.now c.args.query.now.hi.now c.clear.new.self.items c.args.out.now c.args.query.now.limit _ more c.clear.ensures.items c.requires.room.1
+    (answers f c.args.query.now.lo.now m (c.in_ok-begin_all.ensures.same.disk.same ∙ exposed) may.ids
+    (subst (λ (l : List ℕ). AreUpTo f c.begin_all.new.cache c.args.query.now.view.now.pool.now c.args.query.now.view.now.tree.now.parents c.args.query.now.version c.args.query.now.lo.now l c.args.query.now.sources.now c.begin_all.new.positions) (sym c.clear.ensures.items) (c.in_ok-begin_all.ensures.ok f next exposed may)) seen))
 
 pub returns-clause-same : goal.returns-clause-same
 returns-clause-same g c = through_trans _ _ _ _ _ _ _ c.in_ok-begin_all.ensures.same c.tell_all.ensures.same

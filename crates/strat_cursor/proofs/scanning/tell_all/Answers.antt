@@ -14,13 +14,13 @@ emit_head-requires-clause-kept g c = at_hand _ _ _ _ _ c.loop-w.invariant.settle
 pub returns-in-Some-emit_head-clause-ok : goal.returns-in-Some-emit_head-clause-ok
 returns-in-Some-emit_head-clause-ok g c =
     let e = entry_some _ c.in-Some.ensures.found.1 in
-    ended _ _ c.args.view.now c.count-versions.ensures.kept c.args.v c.args.hi.now c.args.sources.now _ _ _ _ _ _ _ _ c.requires.same c.loop-w.invariant.telling c.loop-w.invariant.settled c.in-Some.w c.in-Some.ensures.found.0 e.0
-    (c.emit_head.ensures.fits e.0 e.1) c.in-Some.ensures.ok e.1 c.args.limit c.emit_head.new.last.items c.emit_head.new.out c.in-Some-emit_head.more c.loop-w.invariant.few (c.in-Some-emit_head.ensures.ok e.0 e.1)
+    ended _ _ c.args.query.now.view.now c.count-versions.ensures.kept c.args.query.now.version c.args.query.now.hi.now c.args.query.now.sources.now _ _ _ _ _ _ _ _ c.requires.same c.loop-w.invariant.telling c.loop-w.invariant.settled c.in-Some.w c.in-Some.ensures.found.0 e.0
+    (c.emit_head.ensures.fits e.0 e.1) c.in-Some.ensures.ok e.1 c.args.query.now.limit c.emit_head.new.last.items c.emit_head.new.out c.in-Some-emit_head.more c.loop-w.invariant.few (c.in-Some-emit_head.ensures.ok e.0 e.1)
 
 pub returns-in-Some-emit_head-clause-len : goal.returns-in-Some-emit_head-clause-len
 returns-in-Some-emit_head-clause-len g c =
     let e = entry_some _ c.in-Some.ensures.found.1 in
-    handled_fills e.0 c.args.hi.now c.args.limit c.loop-w.last.items c.emit_head.new.last.items c.loop-w.out c.emit_head.new.out c.in-Some-emit_head.more c.loop-w.invariant.few (c.in-Some-emit_head.ensures.ok e.0 e.1)
+    handled_fills e.0 c.args.query.now.hi.now c.args.query.now.limit c.loop-w.last.items c.emit_head.new.last.items c.loop-w.out c.emit_head.new.out c.in-Some-emit_head.more c.loop-w.invariant.few (c.in-Some-emit_head.ensures.ok e.0 e.1)
 
 pub returns-in-Some-emit_head-clause-room : goal.returns-in-Some-emit_head-clause-room
 returns-in-Some-emit_head-clause-room g c = (
@@ -36,11 +36,11 @@ loop-w-preserved g c =
     let on = c.in_ok-advance_leader.ensures in
     record {
       telling =
-          tells_on _ _ c.args.view.now c.count-versions.ensures.kept c.args.v c.args.hi.now c.args.sources.now _ _ _ _ _ _ _ _ c.requires.same c.loop-w.invariant.telling c.loop-w.invariant.settled c.in-Some.w c.in-Some.ensures.found.0 e.0
-          (c.emit_head.ensures.fits e.0 e.1) c.in-Some.ensures.ok e.1 _ c.args.limit c.advance_leader.new.cache c.emit_head.new.last.items c.advance_leader.new.positions c.emit_head.new.out handles on.same (rw (sym c.deref.ensures.value) on.ok);
+          tells_on _ _ c.args.query.now.view.now c.count-versions.ensures.kept c.args.query.now.version c.args.query.now.hi.now c.args.query.now.sources.now _ _ _ _ _ _ _ _ c.requires.same c.loop-w.invariant.telling c.loop-w.invariant.settled c.in-Some.w c.in-Some.ensures.found.0 e.0
+          (c.emit_head.ensures.fits e.0 e.1) c.in-Some.ensures.ok e.1 _ c.args.query.now.limit c.advance_leader.new.cache c.emit_head.new.last.items c.advance_leader.new.positions c.emit_head.new.out handles on.same (rw (sym c.deref.ensures.value) on.ok);
       settled = on.kept.0;
       won = on.kept.1;
-      few = handled_len e.0 c.args.hi.now c.args.limit _ _ _ _ c.loop-w.invariant.few handles;
+      few = handled_len e.0 c.args.query.now.hi.now c.args.query.now.limit _ _ _ _ c.loop-w.invariant.few handles;
       room = c.emit_head.ensures.room;
       same = on.len.0 ∙ c.loop-w.invariant.same;
       faults = on.cause.ok ∙ c.loop-w.invariant.faults;
@@ -53,7 +53,7 @@ returns-in_err-advance_leader-clause-same g c = through_trans _ _ _ _ _ _ _ c.lo
 
 pub returns-clause-ok : goal.returns-clause-ok
 returns-clause-ok g c =
-    none_left _ _ c.args.view.now c.count-versions.ensures.kept c.args.v c.args.hi.now c.args.sources.now _ _ _ _ _ _ _ _ c.requires.same c.loop-w.invariant.telling c.loop-w.invariant.settled c.args.limit c.in_default.ensures.none c.loop-w.invariant.few
+    none_left _ _ c.args.query.now.view.now c.count-versions.ensures.kept c.args.query.now.version c.args.query.now.hi.now c.args.query.now.sources.now _ _ _ _ _ _ _ _ c.requires.same c.loop-w.invariant.telling c.loop-w.invariant.settled c.args.query.now.limit c.in_default.ensures.none c.loop-w.invariant.few
 
 pub returns-clause-room : goal.returns-clause-room
 returns-clause-room g c = (

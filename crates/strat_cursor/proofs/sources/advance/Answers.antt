@@ -14,16 +14,16 @@ returns-in_err-at-in-Array-clause-damaged g c = λ b torn.
 
 pub returns-in-Zero-clause-ok : goal.returns-in-Zero-clause-ok
 returns-in-Zero-clause-ok g c = λ f exposed stands. (
-  zero_goes f c.args.pool.now c.args.tree.now.parents c.args.v c.args.last.now c.args.source.now c.in-Zero.list c.args.position.now _ c.in-Zero.is c.requires.found c.stand_item-position.ensures.ok,
+  zero_goes f c.args.query.now.view.now.pool.now c.args.query.now.view.now.tree.now.parents c.args.query.now.version c.args.last.now c.args.source.now c.in-Zero.list c.args.position.now _ c.in-Zero.is c.requires.found c.stand_item-position.ensures.ok,
   stands,
 )
 
 pub returns-in-Zero-clause-end : goal.returns-in-Zero-clause-end
-returns-in-Zero-clause-end g c = zero_steps c.args.pool.now c.args.tree.now.parents c.args.v c.args.last.now c.args.source.now c.in-Zero.list c.args.position.now _ c.in-Zero.is c.requires.found c.stand_item-position.ensures.end
+returns-in-Zero-clause-end g c = zero_steps c.args.query.now.view.now.pool.now c.args.query.now.view.now.tree.now.parents c.args.query.now.version c.args.last.now c.args.source.now c.in-Zero.list c.args.position.now _ c.in-Zero.is c.requires.found c.stand_item-position.ensures.end
 
 pub returns-in_ok-at-in-Array-clause-ok : goal.returns-in_ok-at-in-Array-clause-ok
 returns-in_ok-at-in-Array-clause-ok g c = λ f exposed stands.
-    array_goes f c.args.pool.now c.args.tree.now.parents c.args.v c.args.last.now (g.D.Disk.view c.args.disk.now) (g.D.Disk.view c.stand_place.new.disk) c.args.source.now c.in-Array.desc c.args.cache.now c.stand_place.new.cache c.args.position.now c.stand.new.self c.next-next.result c.in_ok-at-in-Array.at c.in-Array.is exposed stands
+    array_goes f c.args.query.now.view.now.pool.now c.args.query.now.view.now.tree.now.parents c.args.query.now.version c.args.last.now (g.D.Disk.view c.args.disk.now) (g.D.Disk.view c.stand_place.new.disk) c.args.source.now c.in-Array.desc c.args.cache.now c.stand_place.new.cache c.args.position.now c.stand.new.self c.next-next.result c.in_ok-at-in-Array.at c.in-Array.is exposed stands
     c.requires.same c.requires.found (ap (λ (p : Place). p.block) c.next-next.ensures.ok) (ap (λ (p : Place). p.index) c.next-next.ensures.ok) c.in_ok-at-in-Array.ensures.ok (looks_desk _ _ _ _ _ _ _ _ _ (ap (λ (d : SourcePosition). d.scratch) c.stand.ensures.ok) c.stand_place.ensures.same)
     (ap (λ (d : SourcePosition). d.there) c.stand.ensures.ok) (ap (λ (d : SourcePosition). d.place) c.stand.ensures.ok)
 

@@ -13,13 +13,13 @@ returns-in_err-at-in-Array-clause-damaged g c = λ b torn.
 
 pub returns-in-Zero-clause-ok : goal.returns-in-Zero-clause-ok
 returns-in-Zero-clause-ok g c = λ f exposed may. (
-  zero_begins f c.args.pool.now c.args.tree.now.parents c.args.v c.args.lo.now c.args.source.now c.in-Zero.list _ c.in-Zero.is (rw c.in-Zero.is at c.requires.kept) c.begin_item-position.ensures.ok,
+  zero_begins f c.args.query.now.view.now.pool.now c.args.query.now.view.now.tree.now.parents c.args.query.now.version c.args.query.now.lo.now c.args.source.now c.in-Zero.list _ c.in-Zero.is (rw c.in-Zero.is at c.requires.kept) c.begin_item-position.ensures.ok,
   rw c.in-Zero.is tt,
 )
 
 pub returns-in_ok-at-in-Array-clause-ok : goal.returns-in_ok-at-in-Array-clause-ok
 returns-in_ok-at-in-Array-clause-ok g c = λ f exposed may.
-    array_begins f c.args.pool.now c.args.tree.now.parents c.args.v c.args.lo.now (g.D.Disk.view c.args.disk.now) (g.D.Disk.view c.begin_place.new.disk) c.args.source.now c.in-Array.desc c.args.cache.now c.begin_place.new.cache c.stand.new.self c.in_ok-at-in-Array.at c.args.position.now.place c.in-Array.is exposed
+    array_begins f c.args.query.now.view.now.pool.now c.args.query.now.view.now.tree.now.parents c.args.query.now.version c.args.query.now.lo.now (g.D.Disk.view c.args.disk.now) (g.D.Disk.view c.begin_place.new.disk) c.args.source.now c.in-Array.desc c.args.cache.now c.begin_place.new.cache c.stand.new.self c.in_ok-at-in-Array.at c.args.position.now.place c.in-Array.is exposed
     (rw c.in-Array.is at may) c.in_ok-at-in-Array.ensures.ok (looks_desk _ _ _ _ _ _ _ _ _ (ap (λ (d : SourcePosition). d.scratch) c.stand.ensures.ok) c.begin_place.ensures.same)
     (ap (λ (d : SourcePosition). d.there) c.stand.ensures.ok) (ap (λ (d : SourcePosition). d.place) c.stand.ensures.ok)
 

@@ -7,5 +7,5 @@ use Rattle.strat_cursor.proofs.sources.begin_item.Goals as goal
 
 pub returns-clause-ok : goal.returns-clause-ok
 returns-clause-ok c =
-    subst (λ (l : List Entry). PassesUndue c.args.tree.now.parents c.args.v [] l (drop c.stand_item.result (entries_held c.args.pool.now c.args.list.now)))
-    (starts_from (entries_held c.args.pool.now c.args.list.now) c.args.lo.now c.seek-item.result c.requires.kept.lawful c.seek-item.ensures.ok) c.stand_item.ensures.ok
+    subst (λ (l : List Entry). PassesUndue c.args.query.now.view.now.tree.now.parents c.args.query.now.version [] l (drop c.stand_item.result (entries_held c.args.query.now.view.now.pool.now c.args.list.now)))
+    (starts_from (entries_held c.args.query.now.view.now.pool.now c.args.list.now) c.args.query.now.lo.now c.seek-item.result c.requires.kept.lawful c.seek-item.ensures.ok) c.stand_item.ensures.ok

@@ -13,7 +13,7 @@ returns-in_err-place-clause-damaged g c = λ b torn. c.in_err-place.ensures.dama
 pub returns-clause-ok : goal.returns-clause-ok
 returns-clause-ok g c =
     if_ok_then c.stand_place.result c.stand_place.ensures.ok (λ r answers lists stands up.
-    subst (λ (l : List Entry). PassesUndue c.args.tree.now.parents c.args.v [] l (left_behind lists r)) (c.in_ok-place.ensures.ok lists stands up)
+    subst (λ (l : List Entry). PassesUndue c.args.query.now.view.now.tree.now.parents c.args.query.now.version [] l (left_behind lists r)) (c.in_ok-place.ensures.ok lists stands up)
     (answers lists (stands_after _ _ _ _ _ _ _ _ lists c.in_ok-place.ensures.same stands)))
 
 pub returns-clause-damaged : goal.returns-clause-damaged

@@ -5,7 +5,7 @@ use Rattle.strat_cursor.proofs.sources.stand_item.Given as goal
 
 abbrev pub invariant-loop-item : goal.invariant-loop-item
 invariant-loop-item l = record {
-  passes : PassesUndue l.tree.parents l.v l.last (drop l.fn.item (entries_held l.pool l.list)) (drop l.item (entries_held l.pool l.list));
+  passes : PassesUndue l.query.view.now.tree.now.parents l.query.version l.last (drop l.fn.item (entries_held l.query.view.now.pool.now l.list)) (drop l.item (entries_held l.query.view.now.pool.now l.list));
   later : l.fn.item ≤ l.item;
 }
 

@@ -18,7 +18,7 @@ returns-in_err-at-clause-damaged g c = λ b torn.
 
 pub returns-then-is_due-clause-kept : goal.returns-then-is_due-clause-kept
 returns-then-is_due-clause-kept g c =
-    held_path c.args.tree.now.parents c.args.v c.args.last.now c.first_place_from.new.scratch c.in-Some.at.index (entry_of c.entry-entry.result) c.entry-entry.ensures.ok (sym c.is_due.ensures.ok ∙ c.if-is_due.true)
+    held_path c.args.query.now.view.now.tree.now.parents c.args.query.now.version c.args.last.now c.first_place_from.new.scratch c.in-Some.at.index (entry_of c.entry-entry.result) c.entry-entry.ensures.ok (sym c.is_due.ensures.ok ∙ c.if-is_due.true)
 
 pub returns-then-is_due-clause-ok : goal.returns-then-is_due-clause-ok
 returns-then-is_due-clause-ok g c = stood _ _ _ _ _ _ _ _ _ _ _ _ _ _ _ _ c.loop-at.invariant.0 c.first_place_from.ensures.same (Some c.in-Some.at) (rw c.in-Some.is at c.in_ok-at.ensures.ok)

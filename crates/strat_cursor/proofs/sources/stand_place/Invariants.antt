@@ -8,7 +8,7 @@ use Rattle.strat_cursor.proofs.sources.stand_place.Given as goal
 abbrev pub invariant-loop-at : goal.invariant-loop-at
 invariant-loop-at g l =
     Standing (g.D.Disk.view l.initial.disk) (g.D.Disk.view l.disk) l.desc.id (blocks_of l.desc.extents) l.initial.cache l.cache l.initial.scratch l.scratch
-    l.tree.parents l.v l.last l.fn.place l.place
+    l.query.view.now.tree.now.parents l.query.version l.last l.fn.place l.place
     × (places_ahead l.place ≤ places_ahead l.fn.place)
     × (g.D.Disk.faults l.disk ≡ g.D.Disk.faults l.initial.disk)
     × (g.D.Disk.reads l.initial.disk ≤ g.D.Disk.reads l.disk)

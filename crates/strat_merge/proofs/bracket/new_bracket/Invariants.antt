@@ -5,5 +5,5 @@ abbrev pub invariant-loop-k : goal.invariant-loop-k
 invariant-loop-k l = record {
   len : length l.winners.items ≡ l.k;
   room : l.nodes ≤ vec_capacity l.winners;
-  each : (j : ℕ) → j < l.k → slice_index l.winners.items j ≡ j - l.runs;
+  each : (j : ℕ) → j < l.k → slice_index l.winners.items j ≡ j - l.contenders;
 }

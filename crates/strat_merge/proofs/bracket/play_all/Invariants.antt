@@ -1,11 +1,11 @@
-use Rattle.std.proofs.Common.{◌≤◌, length, map}
+use Rattle.std.proofs.Common.{◌≤◌, length}
 use Rattle.strat_merge.proofs.BracketLemmas.{PlayedFrom}
 use Rattle.strat_merge.proofs.bracket.play_all.Given as goal
 
 abbrev pub invariant-loop-k : goal.invariant-loop-k
 invariant-loop-k g l = record {
-  low : l.k ≤ length l.runs;
-  from : PlayedFrom (map g.R.Run.view l.runs) l.winners l.k;
+  low : l.k ≤ length (g.C.Contest.contenders l.contest);
+  from : PlayedFrom (g.C.Contest.contenders l.contest) l.winners l.k;
 }
 
 abbrev pub decreases-loop-k : goal.decreases-loop-k

@@ -1,4 +1,5 @@
-use Rattle.std.proofs.Common.{◌≡◌, ◌<◌, true, length, map, sym, subst, arith}
+use Rattle.std.proofs.Common.{◌≡◌, ◌<◌, true, length, map, sym, ap, ◌∙◌, subst, arith}
+use Rattle.std.proofs.lemmas.List.{length-map}
 use Rattle.std.specs.Prelude.{IfSome, IfNone}
 use Rattle.strat_base.specs.Entries.{Entry, is_of}
 use Rattle.strat_merge.specs.Gathered.{Leads, LeadsAside}
@@ -11,8 +12,10 @@ returns-in_default-clause-len g c image exposes = count_begun _ c.args.merger.no
 
 pub loop-next-init : goal.loop-next-init
 loop-next-init g c =
-    let leads = leader_leads g.R.Run.view c.args.merger.now.runs.items c.deref.result.now c.in-Some.first c.deref.ensures.value c.in-Some.ensures.found.1 c.in-Some.ensures.ok in
-    let low : c.in-Some.first < length c.args.merger.now.runs.items = subst (λ rs. c.in-Some.first < length rs) c.deref.ensures.value c.in-Some.ensures.found.0 in
+    let held = c.contest_of.ensures.ok ∙ c.deref.ensures.value in
+    let leads = leader_leads g.R.Run.view c.args.merger.now.runs.items c.contest_of.result.runs.now c.in-Some.first held c.in-Some.ensures.found.1 c.in-Some.ensures.ok in
+    let many : length (map g.R.Run.view c.contest_of.result.runs.now) ≡ length c.args.merger.now.runs.items = length-map c.contest_of.result.runs.now g.R.Run.view ∙ ap (λ rs. length rs) held in
+    let low : c.in-Some.first < length c.args.merger.now.runs.items = omega (arith, c.in-Some.ensures.found.0, many) in
     gathering_begun g.R.Run.view g.met.R.Run.leaves_run
     (record {
       disk = g.D.Disk.view c.args.disk.now;

@@ -2,7 +2,7 @@ use Rattle.std.proofs.Common.{rules, refl, ◌≡◌, Some}
 use Rattle.def_crash.specs.Moments.{Exposes}
 use Rattle.strat_cursor.specs.CursorFields.{cursor_seen}
 use Rattle.strat_cursor.proofs.PageReads.{page_told}
-use Rattle.strat_cursor.proofs.cursor.Cursor.page.Goals as goal
+use Rattle.strat_cursor.proofs.cursor.Cursor.tell_page.Goals as goal
 
 pub returns-clause-ok : goal.returns-clause-ok
 returns-clause-ok g c =
