@@ -25,7 +25,7 @@ returns-clause-found c =
 
 pub returns-clause-cursors : goal.returns-clause-cursors
 returns-clause-cursors c =
-    ap (λ (m : Memory). m.cursors) c.in_ok-replay.ensures.ok ∙ cursors_redone (map (λ l. l.change) c.args.logged.now) c.in_ok-memory.memory ∙ c.in_ok-memory.ensures.end
+    ap (λ (m : Memory). m.cursors) c.in_ok-replay.ensures.ok ∙ cursors_redone (map (λ l. l.change) c.args.logged.now) c.in_ok-memory.memory ∙ c.in_ok-memory.ensures.cursors
 
 pub returns-in_err-replay-clause-damaged : goal.returns-in_err-replay-clause-damaged
 returns-in_err-replay-clause-damaged c = λ block damaged.

@@ -59,9 +59,9 @@ pub returns-in_ok-stage-in-Begun-clause-ok : goal.returns-in_ok-stage-in-Begun-c
 returns-in_ok-stage-in-Begun-clause-ok g c = λ f g' job told tells task used underway.
     let begun = c.in_ok-stage-in-Begun.field-0 in
     let same = exposed_once (g.D.Disk.view c.start_counting.new.disk) f g' (c.start_counting.ensures.found.same.same ∙ told) tells in
-    let none = c.in_ok-stage-in-Begun.ensures.len in (
+    let none = c.in_ok-stage-in-Begun.ensures.len.0 in (
       (subst (λ (h : Image). IsUnderway h job c.args.task.now.first begun) same (c.in_ok-stage-in-Begun.ensures.ok f job told task), none_taken f job _ _ (omega (arith, none))),
-      subst (λ (s : Stage). how_far s < how_far begun) (sym c.in-Begun.is) c.in_ok-stage-in-Begun.ensures.time,
+      subst (λ (s : Stage). how_far s < how_far begun) (sym c.in-Begun.is) c.in_ok-stage-in-Begun.ensures.len.1,
     )
 
 pub returns-in_ok-stage-in-Begun-clause-damaged : goal.returns-in_ok-stage-in-Begun-clause-damaged

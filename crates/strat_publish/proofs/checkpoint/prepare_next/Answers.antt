@@ -33,7 +33,7 @@ returns-clause-found g c = record {
 
 pub returns-clause-disk : goal.returns-clause-disk
 returns-clause-disk g c =
-    written_as (g.D.Disk.view c.args.disk.now) (g.D.Disk.view c.compute_beside.new.disk) _ _ _ _ c.in_ok-next.ensures.ok.0 c.in_ok-next.ensures.found c.in_ok-computed.ensures.end
+    written_as (g.D.Disk.view c.args.disk.now) (g.D.Disk.view c.compute_beside.new.disk) _ _ _ _ c.in_ok-next.ensures.ok.0 c.in_ok-next.ensures.found c.in_ok-computed.ensures.disk
 
 pub returns-in_err-computed-clause-damaged : goal.returns-in_err-computed-clause-damaged
 returns-in_err-computed-clause-damaged g c = λ b torn.

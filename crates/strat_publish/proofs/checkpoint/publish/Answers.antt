@@ -204,7 +204,7 @@ returns-clause-disk g c = λ other cached on.
     let greater : c.args.held.now.sb.generation < next.sb.generation = omega (arith, ap (λ (sb : Super). sb.generation) found.sb_is) in
     subst (λ (h : Held). IsOnDisk (g.D.Disk.view c.install.new.disk) h) (sym (c.in_ok-install.ensures.ok cached))
     (published_on v (g.D.Disk.view c.prepare_next.new.disk) (g.D.Disk.view c.install.new.disk) (held_of mid cached) next.target (super_of next.sb) (chained_of next.published) next.published.levels
-    whole refl (c.prepare_next.ensures.images cached) c.in_ok-next.ensures.end (g.met.D.Disk.leaves_content c.prepare_next.new.disk) c.in_ok-install.ensures.disk c.install.ensures.time
+    whole refl (c.prepare_next.ensures.images cached) c.in_ok-next.ensures.disk (g.met.D.Disk.leaves_content c.prepare_next.new.disk) c.in_ok-install.ensures.disk c.install.ensures.time
     greater (c.in_ok-next.ensures.fits cached).mem c.in_ok-next.ensures.kept.0.belonging
     (kept_on v (held_of c.args.held.now cached) (held_of mid cached) (record { slot = refl; sb = refl; chained = refl; levels = refl }) on))
 

@@ -60,7 +60,7 @@ pub returns-in-Err-clause-disk : goal.returns-in-Err-clause-disk
 returns-in-Err-clause-disk g c = λ cached.
     let keeps = c.in-Err.ensures.same.3 cached in (
       gives_up (g.D.Disk.view c.args.disk.now) (g.D.Disk.view c.publish.new.disk) c.args.held.now c.publish.new.held cached (told_as c.in-Err.obstacle) c.refusal_of.result c.refusal_of.ensures.ok
-          keeps.0 (λ other. c.in-Err.ensures.end (λ e. other (let x : ◌≡◌ {A = Result _ Obstacle} (Err c.in-Err.obstacle) (Err Device) = e in let same : c.in-Err.obstacle ≡ Device = cc in ap told_as same)) cached)
+          keeps.0 (λ other. c.in-Err.ensures.disk (λ e. other (let x : ◌≡◌ {A = Result _ Obstacle} (Err c.in-Err.obstacle) (Err Device) = e in let same : c.in-Err.obstacle ≡ Device = cc in ap told_as same)) cached)
           (λ x stands. (c.publish.ensures.trail x cached stands).1 (omega (arith, c.requires.room))) c.publish.ensures.images.1,
       cursors_left (held_of c.args.held.now cached) (held_after c.publish.new.held cached (reply.Refused c.refusal_of.result)) _ _ keeps.1,
     )
@@ -76,7 +76,7 @@ returns-clause-disk g c = λ cached.
     has_published c.args.held.now c.publish.new.held c.carry_out.new.held cached c.carry_out.result (omega (arith, c.requires.room, kept.log.mem))
     c.in_default.ensures.found.0 c.in_default.ensures.found.1 keeps.0 c.carry_out.ensures.found.0 in (
       renews v u w c.args.held.now c.publish.new.held c.carry_out.new.held cached c.carry_out.result has keeps c.carry_out.ensures.same.2
-          (c.in_default.ensures.end (λ e. absurd (cc)) cached)
+          (c.in_default.ensures.disk (λ e. absurd (cc)) cached)
           (λ x stands paid.
           let p = (c.in_default.ensures.ok x cached stands).0 in
           let first = (c.publish.ensures.trail x cached stands).1 (omega (arith, c.requires.room)) paid in

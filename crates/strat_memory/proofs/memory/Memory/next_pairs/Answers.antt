@@ -27,7 +27,7 @@ returns-in_err-more-clause-damaged g c =
 pub invariant_of-self-2 : goal.invariant_of-self-2
 invariant_of-self-2 g c = record {
   stand = paged_stands c.self.inside.pool c.self.inside.tree.parents c.self.inside.zero c.self.inside.next c.self.inside.cursors c.next.new.self c.args.number c.in_ok-more.more c.next.new.out
-      c.self.invariant.stand c.in_ok-more.ensures.kept c.in_ok-more.ensures.end;
+      c.self.invariant.stand c.in_ok-more.ensures.kept c.in_ok-more.ensures.state;
   known = c.self.invariant.known;
   changes = c.self.invariant.changes;
   updates = c.self.invariant.updates;
@@ -44,7 +44,7 @@ returns-clause-ok g c =
 pub returns-clause-state : goal.returns-clause-state
 returns-clause-state g c =
     rw (← c.self.view_is) (λ i. record (memory_held c.self.inside) {
-      cursors = held_paged c.self.inside.pool c.self.inside.cursors c.next.new.self c.args.number c.in_ok-more.more c.next.new.out c.in_ok-more.ensures.end i;
+      cursors = held_paged c.self.inside.pool c.self.inside.cursors c.next.new.self c.args.number c.in_ok-more.more c.next.new.out c.in_ok-more.ensures.state i;
     })
 
 pub returns-clause-found : goal.returns-clause-found
