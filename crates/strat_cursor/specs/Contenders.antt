@@ -36,8 +36,8 @@ contenders pool (s ∷ sources) (d ∷ positions) =
     contender (first_at_source pool s d) ∷ contenders pool sources positions
 
 -- each source can be read, and the first entry that it has left is at hand
-pub record AreAtHand (pool : List PoolEntry) (sources : List Source) (positions : List SourcePosition)
-    : Type 0 where
+pub record AreAtHand (pool : List PoolEntry) (sources : List Source)
+    (positions : List SourcePosition) : Type 0 where
   pub same : length positions ≡ length sources
   pub each : (i : ℕ) (s : Source) (d : SourcePosition) → slice_get sources i ≡ Some s
       → slice_get positions i ≡ Some d → MayBeRead pool s × HasHead s d

@@ -4,7 +4,7 @@ use Rattle.strat_base.proofs.ResultFacts.{err_of}
 use Rattle.strat_base.specs.Entries.{Entry}
 use Rattle.std.specs.declared.option.Option.{Option}
 use Rattle.strat_cursor.specs.Sources.{IsSpent, steps_left, reads_left}
-use Rattle.strat_cursor.proofs.TournamentLemmas.{get_here, won_bracket, beside_source}
+use Rattle.strat_cursor.proofs.TournamentLemmas.{get_here, count_contenders, contenders_bracket, won_bracket, beside_source}
 use Rattle.strat_cursor.proofs.ThroughLemmas.{through_more, names_more}
 use Rattle.strat_cursor.proofs.EmitLemmas.{at_hand, settled_next, up_next, sum_next, sum_has, head_here, desk_at}
 use Rattle.strat_cursor.proofs.emit.advance_leader.Goals as goal
@@ -50,7 +50,14 @@ replay-requires-clause-kept g c =
 
 pub replay-requires-clause-found : goal.replay-requires-clause-found
 replay-requires-clause-found g c =
-    won_bracket c.args.query.now.view.now.pool.now c.args.query.now.sources.now c.args.positions.now c.args.winners.now c.requires.kept.0.same c.requires.kept.1
+    contenders_bracket _ _ _ c.args.winners.now (length-set c.args.positions.now c.args.w c.advance.new.position ∙ c.requires.kept.0.same)
+    (won_bracket c.args.query.now.view.now.pool.now c.args.query.now.sources.now c.args.positions.now c.args.winners.now c.requires.kept.0.same c.requires.kept.1)
+
+pub replay-requires-clause-fits : goal.replay-requires-clause-fits
+replay-requires-clause-fits g c =
+    let same = length-set c.args.positions.now c.args.w c.advance.new.position ∙ c.requires.kept.0.same in
+    let count = count_contenders c.args.query.now.view.now.pool.now c.args.query.now.sources.now _ same in
+    omega (arith, count, c.requires.fits.1)
 
 pub replay-requires-clause-same : goal.replay-requires-clause-same
 replay-requires-clause-same g c =
