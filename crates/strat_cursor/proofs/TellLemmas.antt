@@ -17,7 +17,8 @@ use Rattle.def_crash.specs.Image.{Image}
 use Rattle.def_crash.specs.Moments.{DiskView}
 use Rattle.strat_model.specs.Pairs.{Pair, Pairs, value_of, is_between, range}
 use Rattle.strat_cursor.specs.Ahead.{is_after, range_after}
-use Rattle.strat_cursor.specs.Contenders.{head_in, LeadsAll, NoneAhead}
+use Rattle.strat_cursor.specs.Contenders.{head_in}
+use Rattle.strat_cursor.proofs.TournamentLemmas.{LeadsAll, NoneAhead}
 use Rattle.strat_cursor.specs.Looking.{LooksThrough, HaveOwnIds}
 use Rattle.strat_cursor.specs.Picking.{AreSourcesOf}
 use Rattle.strat_cursor.specs.Ranges.{FillsPage, IsMapSeen, IsPageOf}

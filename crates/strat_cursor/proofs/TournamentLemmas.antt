@@ -12,7 +12,7 @@ use Rattle.strat_merge.specs.Runs.{head_at}
 use Rattle.strat_merge.specs.Bracket.{is_ahead, IsBracket, IsTournament, PlayedBeside}
 use Rattle.strat_merge.proofs.BracketLemmas.{beside_leaf}
 use Rattle.std.proofs.lemmas.List.{length-set}
-use Rattle.strat_cursor.specs.Contenders.{keyed, contenders, head_in, LeadsAll, NoneAhead}
+use Rattle.strat_cursor.specs.Contenders.{keyed, contenders, head_in}
 use Rattle.strat_cursor.specs.Sources.{first_at_source}
 use Rattle.strat_cursor.specs.declared.scan_buffers.SourcePosition.{SourcePosition}
 use Rattle.strat_cursor.specs.declared.sources.Source.{Source}
@@ -66,6 +66,16 @@ keyed_none (Some e) is = absurd (cc)
 keyed_there : (o : Option Entry) → is_some (option_map keyed o) ≡ true → is_some o ≡ true
 keyed_there None is = is
 keyed_there (Some e) is = refl
+
+-- no source is ahead of the one of a number
+abbrev pub LeadsAll : List PoolEntry → List Source → List SourcePosition → ℕ → Type 0
+LeadsAll pool sources positions w = (i : ℕ)
+    → is_ahead (option_map keyed (head_in pool sources positions i)) i
+    (option_map keyed (head_in pool sources positions w)) w ≡ false
+
+-- no source has an entry left
+abbrev pub NoneAhead : List PoolEntry → List Source → List SourcePosition → Type 0
+NoneAhead pool sources positions = (i : ℕ) → head_in pool sources positions i ≡ None
 
 -- what a tournament says of contenders, of their sources
 module _ (pool : List PoolEntry) (sources : List Source) (positions : List SourcePosition) where
