@@ -150,8 +150,8 @@ head_here pool sources positions w s d here there =
     ∙ ap (λ (o : Option SourcePosition). option_and_then (λ x. first_at_source pool s x) o) there
 
 -- a position by its number
-pub desk_at : (positions : List SourcePosition) (count w : ℕ) (d : SourcePosition) → length positions ≡ count → w < count → slice_get positions w ≡ Some (get_or positions w d)
-desk_at positions count w d same low = go positions w d (omega (arith, same, low))
+pub position_at : (positions : List SourcePosition) (count w : ℕ) (d : SourcePosition) → length positions ≡ count → w < count → slice_get positions w ≡ Some (get_or positions w d)
+position_at positions count w d same low = go positions w d (omega (arith, same, low))
   where
     go : (ds : List SourcePosition) (n : ℕ) (x : SourcePosition) → n < length ds → slice_get ds n ≡ Some (get_or ds n x)
     go [] n x low = absurd (omega (arith, low))

@@ -29,7 +29,8 @@ use Rattle.strat_merge.proofs.OrderLemmas.{behind_le, behind_lt, key_le, first_l
 use Rattle.def_state.specs.LookUp.{first_live}
 use Rattle.def_state.specs.Reading.{live_of}
 use Rattle.strat_cursor.specs.Ahead.{is_to_come}
-use Rattle.strat_cursor.specs.Contenders.{keyed, head_in, LeadsAll}
+use Rattle.strat_cursor.specs.Contenders.{keyed, head_in}
+use Rattle.strat_cursor.proofs.TournamentLemmas.{LeadsAll}
 use Rattle.strat_cursor.specs.Sources.{HasHead, StandsIn, content_of, left_at_source, first_at_source, lists_of, entry_held}
 use Rattle.strat_cursor.specs.Emitting.{AreSettled, AreUpTo}
 use Rattle.strat_cursor.specs.declared.scan_buffers.SourcePosition.{SourcePosition}
@@ -127,8 +128,8 @@ module _ (pool : List PoolEntry) (sources : List Source) (positions : List Sourc
 
 module _ (f : Image) (c : Blocks) (pool : List PoolEntry) (parents : Parents) (tree : IsTree parents) (v : ℕ) (lo last : List ℕ) (sources : List Source) (positions : List SourcePosition) (settled : AreSettled parents v pool sources positions) (up : AreUpTo f c pool parents v lo last sources positions) where
   -- a source and its position
-  desk_for : (i : ℕ) (s : Source) → slice_get sources i ≡ Some s → (d : SourcePosition) × (slice_get positions i ≡ Some d)
-  desk_for i s at = get_within positions i (omega (arith, settled.same, got_low sources i s at))
+  position_for : (i : ℕ) (s : Source) → slice_get sources i ≡ Some s → (d : SourcePosition) × (slice_get positions i ≡ Some d)
+  position_for i s at = get_within positions i (omega (arith, settled.same, got_low sources i s at))
 
   -- what a source says of a key to come is what it has left
   says : (i : ℕ) (s : Source) (d : SourcePosition) (key : List ℕ) → slice_get sources i ≡ Some s → slice_get positions i ≡ Some d → is_to_come lo last key ≡ true → live_of parents (content_of f pool s) v key ≡ find (is_seen_at parents key v) (left_at_source f pool s d)
@@ -140,7 +141,7 @@ module _ (f : Image) (c : Blocks) (pool : List PoolEntry) (parents : Parents) (t
   -- a source whose first key is above a key says nothing of it
   silent : (i : ℕ) (s : Source) (key : List ℕ) → slice_get sources i ≡ Some s → is_to_come lo last key ≡ true → ((h : Entry) → head_in pool sources positions i ≡ Some h → is_lt (key_cmp key h.key) ≡ true) → live_of parents (content_of f pool s) v key ≡ None
   silent i s key at come above =
-      let position = desk_for i s at in
+      let position = position_for i s at in
       let first = first_of i s position.0 at position.1 in
       says i s position.0 key at position.1 come
       ∙ elim (option_cases (head_in pool sources positions i)) [
@@ -182,7 +183,7 @@ module _ (f : Image) (c : Blocks) (pool : List PoolEntry) (parents : Parents) (t
     -- and of its key the leader's entry
     pub lead_seen : (s : Source) → slice_get sources w ≡ Some s → is_to_come lo last e.key ≡ true → first_live parents (map (content_of f pool) sources) v e.key ≡ Some e
     lead_seen s at come =
-        let position = desk_for w s at in
+        let position = position_for w s at in
         let first = sym (first_of w s position.0 at position.1) ∙ here in
         let path : is_ancestor parents e.version v ≡ true = path_of (first_at_source pool s position.0) (sym (head_here pool sources positions w s position.0 at position.1) ∙ here) (settled.each w s position.0 at position.1).1.on_path in
         first_at parents v e.key (map (content_of f pool) sources) w (content_of f pool s) e (map_got w s at)
@@ -194,6 +195,6 @@ module _ (f : Image) (c : Blocks) (pool : List PoolEntry) (parents : Parents) (t
     -- its key is from lo on
     pub lead_from : (s : Source) → slice_get sources w ≡ Some s → is_from lo e ≡ true
     lead_from s at =
-        let position = desk_for w s at in
+        let position = position_for w s at in
         let first = sym (first_of w s position.0 at position.1) ∙ here in
         all_at (is_from lo) e (left_at_source f pool s position.0) (up.each w s position.0 at position.1).0.from (get_among (left_at_source f pool s position.0) 0 e first)

@@ -141,15 +141,15 @@ module _ (f : Image) (pool : List PoolEntry) (parents : Parents) (v : ℕ) (lo :
       subst (λ (x : Source). IsUpTo f pool parents v lo [] x position) (sym is) (record { same = λ key come. refl; ordered = refl; from = refl })
 
   -- the entries from a place on, as a position has it
-  abbrev left_at_desk : ArrayDesc → Bool → Place → List Entry
-  left_at_desk a there place = cond there (left_from (lists_of f a) place) []
+  abbrev left_where : ArrayDesc → Bool → Place → List Entry
+  left_where a there place = cond there (left_from (lists_of f a) place) []
 
-  left_desk : (a : ArrayDesc) (r : Option Place) (p : Place) → left_at_desk a (is_some r) (unwrap_or r p) ≡ left_behind (lists_of f a) r
-  left_desk a None p = refl
-  left_desk a (Some at) p = refl
+  left_at : (a : ArrayDesc) (r : Option Place) (p : Place) → left_where a (is_some r) (unwrap_or r p) ≡ left_behind (lists_of f a) r
+  left_at a None p = refl
+  left_at a (Some at) p = refl
 
-  left_stood : (a : ArrayDesc) (r : Option Place) (p : Place) (position : SourcePosition) → position.there ≡ is_some r → position.place ≡ unwrap_or r p → left_at_desk a position.there position.place ≡ left_behind (lists_of f a) r
-  left_stood a r p position there place = (λ j. left_at_desk a (there j) (place j)) ∙ left_desk a r p
+  left_stood : (a : ArrayDesc) (r : Option Place) (p : Place) (position : SourcePosition) → position.there ≡ is_some r → position.place ≡ unwrap_or r p → left_where a position.there position.place ≡ left_behind (lists_of f a) r
+  left_stood a r p position there place = (λ j. left_where a (there j) (place j)) ∙ left_at a r p
 
   -- an array begins
   pub array_begins : (old new : DiskView) (s : Source) (a : _) (c d : Blocks) (position : SourcePosition) (r : Option Place) (p : Place) → s ≡ source.Array a → old.content ≡ Some f → MayBeAsked f c a.now
@@ -165,9 +165,9 @@ module _ (f : Image) (pool : List PoolEntry) (parents : Parents) (v : ℕ) (lo :
       let lists_are : lists_of f a.now ≡ lists = ap (λ (o : Option (List (List Entry))). unwrap_or o []) listed in
       let whole : all_in lists ≡ unwrap_or (entries_on f (blocks_of a.now.extents)) [] = made.2 ∙ sym (ap (λ (o : Option (List Entry)). unwrap_or o []) may.read) in
       let up : is_ascending (all_in lists) ≡ true = ap is_ascending made.2 ∙ may.ordered in
-      let left : left_at_desk a.now position.there position.place ≡ left_behind lists r = left_stood a.now r p position there place ∙ ap (λ (l : List (List Entry)). left_behind l r) lists_are in
+      let left : left_where a.now position.there position.place ≡ left_behind lists r = left_stood a.now r p position there place ∙ ap (λ (l : List (List Entry)). left_behind l r) lists_are in
       let is_begun = begun parents v lo (all_in lists) (left_behind lists r) up (passes lists made.1 up) in
-      let here : IsBegun parents v lo (content_of f pool (source.Array a)) (left_at_desk a.now position.there position.place) = subst (λ (l : List Entry). IsBegun parents v lo (unwrap_or (entries_on f (blocks_of a.now.extents)) []) l) (sym left) (subst (λ (l : List Entry). IsBegun parents v lo l (left_behind lists r)) whole is_begun) in
+      let here : IsBegun parents v lo (content_of f pool (source.Array a)) (left_where a.now position.there position.place) = subst (λ (l : List Entry). IsBegun parents v lo (unwrap_or (entries_on f (blocks_of a.now.extents)) []) l) (sym left) (subst (λ (l : List Entry). IsBegun parents v lo l (left_behind lists r)) whole is_begun) in
       let after : ArrayStands (Some f) a.now.id (blocks_of a.now.extents) d position.scratch (lists_of f a.now) =
       subst (λ (o : Option Image). ArrayStands o a.now.id (blocks_of a.now.extents) d position.scratch (lists_of f a.now)) (looks.disk.same ∙ exposed)
       (subst (λ (l : List (List Entry)). ArrayStands new.content a.now.id (blocks_of a.now.extents) d position.scratch l) (sym lists_are) (stands_after old new a.now.id (blocks_of a.now.extents) c d None position.scratch lists looks made.1)) in (
@@ -276,5 +276,5 @@ zero_steps pool parents v last s list position after is spent further =
     omega (arith, low, further))
 
 -- the scratch of a position is the one that was looked with
-pub looks_desk : (old new : DiskView) (array : ℕ) (blocks : List ℕ) (c d : Blocks) (s t u : Option Kept) → u ≡ t → Looks old new array blocks c d s t → Looks old new array blocks c d s u
-looks_desk old new array blocks c d s t u same looks = subst (λ (x : Option Kept). Looks old new array blocks c d s x) (sym same) looks
+pub looks_position : (old new : DiskView) (array : ℕ) (blocks : List ℕ) (c d : Blocks) (s t u : Option Kept) → u ≡ t → Looks old new array blocks c d s t → Looks old new array blocks c d s u
+looks_position old new array blocks c d s t u same looks = subst (λ (x : Option Kept). Looks old new array blocks c d s x) (sym same) looks

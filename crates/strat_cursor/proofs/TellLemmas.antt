@@ -4,6 +4,7 @@ use Rattle.std.specs.List.{slice_get}
 use Rattle.std.specs.Option.{option_and_then}
 use Rattle.std.specs.Ordering.{is_lt}
 use Rattle.std.proofs.lemmas.Bool.{and_parts, and_from, lt-ltb, le-ltb}
+use Rattle.std.proofs.lemmas.Cmp.{nat_list_cmp_total}
 use Rattle.std.proofs.lemmas.List.{append_assoc, append-nil, take_all}
 use Rattle.std.proofs.Math.Seq.{take-append_seam}
 use Rattle.strat_array.specs.Kept.{Blocks}
@@ -16,12 +17,14 @@ use Rattle.def_crash.specs.Image.{Image}
 use Rattle.def_crash.specs.Moments.{DiskView}
 use Rattle.strat_model.specs.Pairs.{Pair, Pairs, value_of, is_between, range}
 use Rattle.strat_cursor.specs.Ahead.{is_after, range_after}
-use Rattle.strat_cursor.specs.Contenders.{head_in, LeadsAll, NoneAhead}
+use Rattle.strat_cursor.specs.Contenders.{head_in}
+use Rattle.strat_cursor.proofs.TournamentLemmas.{LeadsAll, NoneAhead}
 use Rattle.strat_cursor.specs.Looking.{LooksThrough, HaveOwnIds}
 use Rattle.strat_cursor.specs.Picking.{AreSourcesOf}
 use Rattle.strat_cursor.specs.Ranges.{FillsPage, IsMapSeen, IsPageOf}
 use Rattle.def_state.specs.LookUp.{first_live}
-use Rattle.strat_cursor.specs.Sources.{content_of}
+use Rattle.strat_merge.proofs.OrderLemmas.{not_before_itself}
+use Rattle.strat_cursor.specs.Sources.{content_of, IsSpent}
 use Rattle.strat_cursor.proofs.ThroughLemmas.{through_trans}
 use Rattle.strat_cursor.specs.Emitting.{is_under, AddsValue, HandlesKey, AreSettled, AreUpTo, IsLater}
 use Rattle.strat_cursor.specs.Views.{zeros_in, arrays_read}
@@ -50,6 +53,20 @@ handled_later e hi limit last next out new fits handles = elim handles [
   | inl before ↦ λ key is. ap (λ (k : List ℕ). is_after k key) (sym before.1) ∙ is
   | inr told ↦ λ key is. later_after hi hi last e.key (key_some e fits) told.0 key (ap (λ (k : List ℕ). is_after k key) (sym told.2) ∙ is)
 ]
+
+-- no key is after itself
+after_itself : (key : List ℕ) → 0 < length key → is_after key key ≡ false
+after_itself [] some = absurd (omega (arith, some))
+after_itself (b ∷ key) some = not_before_itself nat_list_cmp_total (b ∷ key)
+
+-- an entry that was handled is of no key to come
+pub handled_spent : (e : Entry) (hi : List ℕ) (limit : ℕ) (last next : List ℕ) (out new : Pairs) (o : Option Entry) → o ≡ Some e → fits_fields e ≡ true → HandlesKey e hi limit last next out new None → IsSpent next o
+handled_spent e hi limit last next out new o here fits handles =
+    subst (λ (x : Option Entry). IsSpent next x) (sym here)
+    (elim handles [
+      | inl before ↦ ap (λ (l : List ℕ). is_after l e.key) before.1 ∙ before.0
+      | inr told ↦ ap (λ (l : List ℕ). is_after l e.key) told.2 ∙ after_itself e.key (key_some e fits)
+    ])
 
 -- a page whose end was met
 pub handled_fills : (e : Entry) (hi : List ℕ) (limit : ℕ) (last next : List ℕ) (old new : Pairs) (more : Bool) → length old ≤ limit → HandlesKey e hi limit last next old new (Some more)

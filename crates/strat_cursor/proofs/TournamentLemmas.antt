@@ -1,5 +1,5 @@
 -- What a tournament sees of sources, by their numbers.
-use Rattle.std.proofs.Common.{◌≡◌, ◌≢◌, ◌<◌, ◌+◌, ◌*◌, ◌/◌, ℕ, false, zero, suc, get_or, set, List, [], ◌∷◌, length, Option, Some, None, is_some, refl, sym, ap, ◌∙◌, subst, arith}
+use Rattle.std.proofs.Common.{◌≡◌, ◌≢◌, ◌<◌, ◌+◌, ◌/◌, ℕ, true, false, zero, suc, get_or, set, List, [], ◌∷◌, length, Option, Some, None, is_some, IsSome, refl, sym, ap, ◌∙◌, subst, arith}
 use Rattle.std.specs.List.{slice_get}
 use Rattle.std.specs.Option.{option_map, option_and_then}
 use Rattle.std.specs.Ordering.{is_lt, nat_cmp, ordering_then}
@@ -10,9 +10,9 @@ use Rattle.strat_base.specs.Entries.{Entry}
 use Rattle.strat_base.specs.Order.{key_cmp}
 use Rattle.strat_merge.specs.Runs.{head_at}
 use Rattle.strat_merge.specs.Bracket.{is_ahead, IsBracket, IsTournament, PlayedBeside}
-use Rattle.strat_merge.proofs.BracketLemmas.{root_first, root_last, beside_leaf}
+use Rattle.strat_merge.proofs.BracketLemmas.{beside_leaf}
 use Rattle.std.proofs.lemmas.List.{length-set}
-use Rattle.strat_cursor.specs.Contenders.{keyed, contenders, head_in, LeadsAll, NoneAhead}
+use Rattle.strat_cursor.specs.Contenders.{keyed, contenders, head_in}
 use Rattle.strat_cursor.specs.Sources.{first_at_source}
 use Rattle.strat_cursor.specs.declared.scan_buffers.SourcePosition.{SourcePosition}
 use Rattle.strat_cursor.specs.declared.sources.Source.{Source}
@@ -63,27 +63,40 @@ keyed_none : (o : Option Entry) → option_map keyed o ≡ None → o ≡ None
 keyed_none None is = refl
 keyed_none (Some e) is = absurd (cc)
 
-keyed_some : (o : Option Entry) → is_some o ≡ false → is_some (option_map keyed o) ≡ false
-keyed_some None is = refl
-keyed_some (Some e) is = is
+keyed_there : (o : Option Entry) → is_some (option_map keyed o) ≡ true → is_some o ≡ true
+keyed_there None is = is
+keyed_there (Some e) is = refl
+
+-- no source is ahead of the one of a number
+abbrev pub LeadsAll : List PoolEntry → List Source → List SourcePosition → ℕ → Type 0
+LeadsAll pool sources positions w = (i : ℕ)
+    → is_ahead (option_map keyed (head_in pool sources positions i)) i
+    (option_map keyed (head_in pool sources positions w)) w ≡ false
+
+-- no source has an entry left
+abbrev pub NoneAhead : List PoolEntry → List Source → List SourcePosition → Type 0
+NoneAhead pool sources positions = (i : ℕ) → head_in pool sources positions i ≡ None
+
+-- what a tournament says of contenders, of their sources
+module _ (pool : List PoolEntry) (sources : List Source) (positions : List SourcePosition) where
+  pub leads_all : (w : ℕ) → ((i : ℕ) → is_ahead (head_at (contenders pool sources positions) i) i (head_at (contenders pool sources positions) w) w ≡ false) → LeadsAll pool sources positions w
+  leads_all w leads = λ i. (λ j. is_ahead (sym (contender_at pool sources positions i) j) i (sym (contender_at pool sources positions w) j) w) ∙ leads i
+
+  pub none_ahead : ((i : ℕ) → head_at (contenders pool sources positions) i ≡ None) → NoneAhead pool sources positions
+  none_ahead none = λ i. keyed_none (head_in pool sources positions i) (sym (contender_at pool sources positions i) ∙ none i)
+
+  pub head_there : (w : ℕ) → IsSome (head_at (contenders pool sources positions) w) → IsSome (head_in pool sources positions w)
+  head_there w some = keyed_there (head_in pool sources positions w) (ap is_some (sym (contender_at pool sources positions w)) ∙ some)
+
+  pub low : length positions ≡ length sources → (w : ℕ) → w < length (contenders pool sources positions) → w < length sources
+  low same w within = let count = count_contenders pool sources positions same in omega (arith, count, within)
+
+  pub contenders_bracket : (winners : List ℕ) → length positions ≡ length sources → IsBracket (length sources) winners → IsBracket (length (contenders pool sources positions)) winners
+  contenders_bracket winners same bracket = subst (λ n. IsBracket n winners) (sym (count_contenders pool sources positions same)) bracket
 
 module _ (pool : List PoolEntry) (sources : List Source) (positions : List SourcePosition) (winners : List ℕ) (same : length positions ≡ length sources) (won : IsTournament (contenders pool sources positions) winners) where
   pub won_bracket : IsBracket (length sources) winners
   won_bracket = subst (λ n. IsBracket n winners) (count_contenders pool sources positions same) won.bracket
-
-  pub root_low : 0 < length sources → get_or winners 1 0 < length sources
-  root_low some = let nodes : length winners ≡ 2 * length sources = won_bracket.nodes in won_bracket.low 1 (omega arith)
-
-  pub root_leads : LeadsAll pool sources positions (get_or winners 1 0)
-  root_leads = λ i.
-      (λ j. is_ahead (sym (contender_at pool sources positions i) j) i (sym (contender_at pool sources positions (get_or winners 1 0)) j) (get_or winners 1 0))
-      ∙ root_first (contenders pool sources positions) winners won (get_or winners 1 0) refl i
-
-  pub root_none : is_some (head_in pool sources positions (get_or winners 1 0)) ≡ false → NoneAhead pool sources positions
-  root_none none = λ i.
-      keyed_none (head_in pool sources positions i)
-      (sym (contender_at pool sources positions i)
-      ∙ root_last (contenders pool sources positions) winners won (get_or winners 1 0) refl (ap is_some (contender_at pool sources positions (get_or winners 1 0)) ∙ keyed_some (head_in pool sources positions (get_or winners 1 0)) none) i)
 
   -- after one source went on, all nodes are played but those above its leaf
   pub beside_source : (w : ℕ) (d : SourcePosition) → PlayedBeside (contenders pool sources (set positions w d)) winners ((length sources + w) / 2)

@@ -1,8 +1,7 @@
 -- The sources of a range in a tournament: the one whose first key is least wins, and of equal keys the first source.
-use Rattle.std.specs.Prelude.{◌≡◌, ℕ, List, [], ◌∷◌, length, Option, None, Some, option_map, option_and_then, slice_get, false}
+use Rattle.std.specs.Prelude.{◌≡◌, ℕ, List, [], ◌∷◌, length, Option, None, Some, option_map, option_and_then, slice_get}
 use Rattle.strat_arena.specs.declared.pool.PoolEntry.{PoolEntry}
 use Rattle.strat_base.specs.Entries.{Entry}
-use Rattle.strat_merge.specs.Bracket.{is_ahead}
 use Rattle.strat_merge.specs.Runs.{RunView}
 use Rattle.strat_cursor.specs.Sources.{MayBeRead, HasHead, first_at_source}
 use Rattle.strat_cursor.specs.declared.scan_buffers.SourcePosition.{SourcePosition}
@@ -36,18 +35,8 @@ contenders pool (s ∷ sources) (d ∷ positions) =
     contender (first_at_source pool s d) ∷ contenders pool sources positions
 
 -- each source can be read, and the first entry that it has left is at hand
-pub record AreAtHand (pool : List PoolEntry) (sources : List Source) (positions : List SourcePosition)
-    : Type 0 where
+pub record AreAtHand (pool : List PoolEntry) (sources : List Source)
+    (positions : List SourcePosition) : Type 0 where
   pub same : length positions ≡ length sources
   pub each : (i : ℕ) (s : Source) (d : SourcePosition) → slice_get sources i ≡ Some s
       → slice_get positions i ≡ Some d → MayBeRead pool s × HasHead s d
-
--- no source is ahead of the one of a number
-abbrev pub LeadsAll : List PoolEntry → List Source → List SourcePosition → ℕ → Type 0
-LeadsAll pool sources positions w = (i : ℕ)
-    → is_ahead (option_map keyed (head_in pool sources positions i)) i
-    (option_map keyed (head_in pool sources positions w)) w ≡ false
-
--- no source has an entry left
-abbrev pub NoneAhead : List PoolEntry → List Source → List SourcePosition → Type 0
-NoneAhead pool sources positions = (i : ℕ) → head_in pool sources positions i ≡ None

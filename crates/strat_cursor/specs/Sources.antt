@@ -53,7 +53,8 @@ content_of f pool (source.Array a) = content_on f a.now
 -- the entries that a source has left
 abbrev pub left_at_source : Image → List PoolEntry → Source → SourcePosition → List Entry
 left_at_source f pool source.None position = []
-left_at_source f pool (source.Zero list) position = drop position.item (entries_held pool list.now)
+left_at_source f pool (source.Zero list) position =
+    drop position.item (entries_held pool list.now)
 left_at_source f pool (source.Array a) position =
     if position.there then left_from (lists_of f a.now) position.place else []
 
@@ -78,7 +79,8 @@ entry_held s i = option_and_then (λ kept. slice_get kept.1 i) s
 -- the first entry that a source has left, as it is at hand
 abbrev pub first_at_source : List PoolEntry → Source → SourcePosition → Option Entry
 first_at_source pool source.None position = None
-first_at_source pool (source.Zero list) position = slice_get (entries_held pool list.now) position.item
+first_at_source pool (source.Zero list) position =
+    slice_get (entries_held pool list.now) position.item
 first_at_source pool (source.Array a) position =
     if position.there then entry_held position.scratch position.place.index else None
 
@@ -93,13 +95,15 @@ abbrev pub HasHead : Source → SourcePosition → Type 0
 HasHead source.None position = ⊤
 HasHead (source.Zero list) position = ⊤
 HasHead (source.Array a) position =
-    IsTrue position.there → HoldsPlace position.scratch a.now.id position.place × (position.place.index < 454)
+    IsTrue position.there → HoldsPlace position.scratch a.now.id position.place
+    × (position.place.index < 454)
 
 -- the first entry that a source has left is at hand, and is at a version or an ancestor of it
 pub record IsSettledAt (parents : Parents) (v : ℕ) (pool : List PoolEntry) (s : Source)
     (position : SourcePosition) : Type 0 where
   pub held : HasHead s position
-  pub on_path : IfSome (first_at_source pool s position) (λ e. IsTrue (is_ancestor parents e.version v))
+  pub on_path : IfSome (first_at_source pool s position)
+      (λ e. IsTrue (is_ancestor parents e.version v))
 
 -- in an image the blocks of a source's array are kept as they stand there
 abbrev pub StandsIn : Image → Blocks → Source → Option Kept → Type 0
@@ -131,8 +135,10 @@ IsSpent last (Some e) = is_after last e.key ≡ false
 -- how many steps a source may have to go
 abbrev pub steps_left : List PoolEntry → Source → SourcePosition → ℕ
 steps_left pool source.None position = 0
-steps_left pool (source.Zero list) position = length (entries_held pool list.now) - position.item
-steps_left pool (source.Array a) position = if position.there then 1 + places_ahead position.place else 0
+steps_left pool (source.Zero list) position =
+    length (entries_held pool list.now) - position.item
+steps_left pool (source.Array a) position =
+    if position.there then 1 + places_ahead position.place else 0
 
 -- how many blocks a source has still to read at most
 abbrev pub reads_left : Source → SourcePosition → ℕ

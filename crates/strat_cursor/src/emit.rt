@@ -19,10 +19,11 @@ ghost use Rattle.strat_cursor.specs.Emitting.{is_under, TellsValue, HandlesKey, 
 use crate::query::Query;
 use crate::scan_buffers::SourcePosition;
 use crate::sources::{advance, is_after};
-use crate::tournament::{head_in, replay};
+use crate::tournament::{Heads, head_in};
 use strat_array::Cache;
 use strat_base::{Entry, Fault, PairBuf, Val, key_order};
 use strat_disk::Disk;
+use strat_merge::replay;
 
 /// Whether a key is below hi, where that is not empty.
 fn is_under(hi: &[u8], key: &[u8]) -> bool
@@ -106,7 +107,7 @@ pub(crate) fn emit_head(
         positions.now w ≡ Some e → IsTrue (fits_fields e) }
     ensures room { 255 ≤ vec_capacity last.new }
 {
-    let entry = head_in(query.sources, query.view.pool, positions, w).unwrap();
+    let entry = head_in(query, positions, w).unwrap();
     emit(&entry, query.hi, query.limit, last, out)
 }
 
@@ -151,12 +152,6 @@ pub(crate) fn advance_leader<D: Disk>(
 {
     let sources = query.sources;
     advance(disk, cache, &sources[w], query, last, &mut positions[w])?;
-    replay(
-        sources,
-        query.view.pool,
-        positions,
-        winners,
-        sources.len() + w,
-    );
+    replay(&Heads { query, positions }, winners, sources.len() + w);
     Ok(())
 }

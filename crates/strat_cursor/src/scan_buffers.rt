@@ -3,12 +3,12 @@
 ghost use Rattle.std.specs.Prelude.{◌≡◌, length, IfOk, is_some, unwrap_or};
 
 use crate::picking::SOURCES;
-use crate::tournament::new_bracket;
 use std::alloc::Global;
 use std::marker::Model;
 use strat_array::{Place, Scratch};
 use strat_base::NoMemory;
 use strat_base::limits::KEY_MAX;
+use strat_merge::new_bracket;
 
 /// Where a source of entries stands: at an item of level 0, or at an entry of the block that its scratch holds, if it
 /// has one left.

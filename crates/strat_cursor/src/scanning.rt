@@ -21,11 +21,12 @@ use crate::picking::pick;
 use crate::query::Query;
 use crate::scan_buffers::{ScanBuffers, SourcePosition};
 use crate::sources::begin;
-use crate::tournament::{leader, play_all};
+use crate::tournament::Heads;
 use crate::view::View;
 use strat_array::Cache;
 use strat_base::{Fault, PairBuf, Version};
 use strat_disk::Disk;
+use strat_merge::{leader, play_all};
 
 /// Lets each source stand at its first entry that is due. What `begin` costs, for each.
 fn begin_all<D: Disk>(
@@ -98,7 +99,7 @@ fn tell_all<D: Disk>(
 {
     // What it says beside its answer: the versions are a tree.
     let _versions = query.view.tree.count();
-    while let Some(w) = leader(query.sources, query.view.pool, positions, winners) {
+    while let Some(w) = leader(&Heads { query, positions }, winners) {
         if let Some(more) = emit_head(query, w, last, positions, out) {
             return Ok(more);
         }
@@ -138,7 +139,7 @@ fn scan_sources<D: Disk>(
 {
     last.clear();
     begin_all(disk, cache, query, positions)?;
-    play_all(query.sources, query.view.pool, positions, winners);
+    play_all(&Heads { query, positions }, winners);
     tell_all(disk, cache, query, last, positions, winners, out)
 }
 

@@ -59,7 +59,8 @@ fn entry_at_position(position: &SourcePosition) -> Option<Entry<'_>>
     requires kept { (a : ℕ) × (IsTrue position.now.there
         → HoldsPlace position.now.scratch a position.now.place × (position.now.place.index < 454)) }
     ensures ok { option_map entry_of result
-        ≡ (if position.now.there then entry_held position.now.scratch position.now.place.index else None) }
+        ≡ (if position.now.there then entry_held position.now.scratch position.now.place.index
+        else None) }
     ensures fits { IfSome result (λ e. IsTrue (fits_fields (entry_of e))) }
 {
     if position.there {

@@ -51,9 +51,9 @@ pub fn new_bracket(alloc: Global, contenders: usize) -> Result<Vec<usize>, NoMem
 
 /// Plays one node: the winner of the two below it takes its place.
 fn play<C: Contest>(contest: &C, winners: &mut [usize], k: usize)
-    requires found { C.is_ready contest.now }
+    requires kept { C.is_ready contest.now }
     requires fits { (1 ≤ k) × (k < length (C.contenders contest.now)) }
-    requires kept { IsBracket (length (C.contenders contest.now)) winners.old }
+    requires found { IsBracket (length (C.contenders contest.now)) winners.old }
     ensures ok { winners.new ≡ slice_set winners.old k (winner_of (C.contenders contest.now)
         (slice_index winners.old (2 * k)) (slice_index winners.old (2 * k + 1))) }
     ensures kept { IsBracket (length (C.contenders contest.now)) winners.new }
@@ -65,8 +65,8 @@ fn play<C: Contest>(contest: &C, winners: &mut [usize], k: usize)
 
 /// Plays all nodes, the deepest first. O(contenders) comparisons of entries.
 pub fn play_all<C: Contest>(contest: &C, winners: &mut [usize])
-    requires found { C.is_ready contest.now }
-    requires kept { IsBracket (length (C.contenders contest.now)) winners.old }
+    requires kept { C.is_ready contest.now }
+    requires found { IsBracket (length (C.contenders contest.now)) winners.old }
     ensures ok { IsTournament (C.contenders contest.now) winners.new }
 {
     let mut k = contest.count();
@@ -78,8 +78,8 @@ pub fn play_all<C: Contest>(contest: &C, winners: &mut [usize])
 
 /// Plays the nodes above a node, the nearest first. O(log contenders) comparisons of entries.
 pub fn replay<C: Contest>(contest: &C, winners: &mut [usize], node: usize)
-    requires found { C.is_ready contest.now }
-    requires kept { IsBracket (length (C.contenders contest.now)) winners.old }
+    requires kept { C.is_ready contest.now }
+    requires found { IsBracket (length (C.contenders contest.now)) winners.old }
     requires fits { node < 2 * length (C.contenders contest.now) }
     requires same { PlayedBeside (C.contenders contest.now) winners.old (node / 2) }
     ensures ok { IsTournament (C.contenders contest.now) winners.new }
@@ -93,7 +93,7 @@ pub fn replay<C: Contest>(contest: &C, winners: &mut [usize], node: usize)
 
 /// Whether some contender has an entry left. O(contenders).
 pub fn any_left<C: Contest>(contest: &C) -> bool
-    requires found { C.is_ready contest.now }
+    requires kept { C.is_ready contest.now }
     ensures ok { result ≡ false → NoneLeft (C.contenders contest.now) }
     ensures found { result ≡ true → (i : ℕ) × IsSome (head_at (C.contenders contest.now) i) }
 {
@@ -107,8 +107,8 @@ pub fn any_left<C: Contest>(contest: &C) -> bool
 
 /// The contender whose first entry stands first of all, or `None` where none has one. O(1).
 pub fn leader<C: Contest>(contest: &C, winners: &[usize]) -> Option<usize>
-    requires found { C.is_ready contest.now }
-    requires kept { IsTournament (C.contenders contest.now) winners.now }
+    requires kept { C.is_ready contest.now }
+    requires found { IsTournament (C.contenders contest.now) winners.now }
     ensures found { IfSome result (λ w. (w < length (C.contenders contest.now))
         × IsSome (head_at (C.contenders contest.now) w)) }
     ensures ok { IfSome result (λ w. (i : ℕ)

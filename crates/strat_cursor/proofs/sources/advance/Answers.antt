@@ -2,7 +2,7 @@ use Rattle.std.proofs.Common.{ap}
 use Rattle.strat_base.proofs.ResultFacts.{err_of}
 use Rattle.strat_array.specs.declared.place.Place.{Place}
 use Rattle.strat_cursor.specs.declared.scan_buffers.SourcePosition.{SourcePosition}
-use Rattle.strat_cursor.proofs.SourceLemmas.{zero_goes, zero_steps, array_goes, through_source, names_source, looks_desk}
+use Rattle.strat_cursor.proofs.SourceLemmas.{zero_goes, zero_steps, array_goes, through_source, names_source, looks_position}
 use Rattle.strat_cursor.proofs.sources.advance.Goals as goal
 
 pub returns-in_err-at-in-Array-clause-same : goal.returns-in_err-at-in-Array-clause-same
@@ -24,7 +24,7 @@ returns-in-Zero-clause-end g c = zero_steps c.args.query.now.view.now.pool.now c
 pub returns-in_ok-at-in-Array-clause-ok : goal.returns-in_ok-at-in-Array-clause-ok
 returns-in_ok-at-in-Array-clause-ok g c = λ f exposed stands.
     array_goes f c.args.query.now.view.now.pool.now c.args.query.now.view.now.tree.now.parents c.args.query.now.version c.args.last.now (g.D.Disk.view c.args.disk.now) (g.D.Disk.view c.stand_place.new.disk) c.args.source.now c.in-Array.desc c.args.cache.now c.stand_place.new.cache c.args.position.now c.stand.new.self c.next-next.result c.in_ok-at-in-Array.at c.in-Array.is exposed stands
-    c.requires.same c.requires.found (ap (λ (p : Place). p.block) c.next-next.ensures.ok) (ap (λ (p : Place). p.index) c.next-next.ensures.ok) c.in_ok-at-in-Array.ensures.ok (looks_desk _ _ _ _ _ _ _ _ _ (ap (λ (d : SourcePosition). d.scratch) c.stand.ensures.ok) c.stand_place.ensures.same)
+    c.requires.same c.requires.found (ap (λ (p : Place). p.block) c.next-next.ensures.ok) (ap (λ (p : Place). p.index) c.next-next.ensures.ok) c.in_ok-at-in-Array.ensures.ok (looks_position _ _ _ _ _ _ _ _ _ (ap (λ (d : SourcePosition). d.scratch) c.stand.ensures.ok) c.stand_place.ensures.same)
     (ap (λ (d : SourcePosition). d.there) c.stand.ensures.ok) (ap (λ (d : SourcePosition). d.place) c.stand.ensures.ok)
 
 pub returns-in_ok-at-in-Array-clause-same : goal.returns-in_ok-at-in-Array-clause-same
