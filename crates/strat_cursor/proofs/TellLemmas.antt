@@ -4,7 +4,7 @@ use Rattle.std.specs.List.{slice_get}
 use Rattle.std.specs.Option.{option_and_then}
 use Rattle.std.specs.Ordering.{is_lt}
 use Rattle.std.proofs.lemmas.Bool.{and_parts, and_from, lt-ltb, le-ltb}
-use Rattle.std.proofs.lemmas.Cmp.{nat_list_cmp_total}
+use Rattle.std.proofs.lemmas.Cmp.{nat_list_cmp_total, tied_itself}
 use Rattle.std.proofs.lemmas.List.{append_assoc, append-nil, take_all}
 use Rattle.std.proofs.Math.Seq.{take-append_seam}
 use Rattle.strat_array.specs.Kept.{Blocks}
@@ -23,7 +23,6 @@ use Rattle.strat_cursor.specs.Looking.{LooksThrough, HaveOwnIds}
 use Rattle.strat_cursor.specs.Picking.{AreSourcesOf}
 use Rattle.strat_cursor.specs.Ranges.{FillsPage, IsMapSeen, IsPageOf}
 use Rattle.def_state.specs.LookUp.{first_live}
-use Rattle.strat_merge.proofs.OrderLemmas.{not_before_itself}
 use Rattle.strat_cursor.specs.Sources.{content_of, IsSpent}
 use Rattle.strat_cursor.proofs.ThroughLemmas.{through_trans}
 use Rattle.strat_cursor.specs.Emitting.{is_under, AddsValue, HandlesKey, AreSettled, AreUpTo, IsLater}
@@ -57,7 +56,7 @@ handled_later e hi limit last next out new fits handles = elim handles [
 -- no key is after itself
 after_itself : (key : List ℕ) → 0 < length key → is_after key key ≡ false
 after_itself [] some = absurd (omega (arith, some))
-after_itself (b ∷ key) some = not_before_itself nat_list_cmp_total (b ∷ key)
+after_itself (b ∷ key) some = ap is_lt (tied_itself nat_list_cmp_total (b ∷ key))
 
 -- an entry that was handled is of no key to come
 pub handled_spent : (e : Entry) (hi : List ℕ) (limit : ℕ) (last next : List ℕ) (out new : Pairs) (o : Option Entry) → o ≡ Some e → fits_fields e ≡ true → HandlesKey e hi limit last next out new None → IsSpent next o

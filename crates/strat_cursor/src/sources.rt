@@ -25,10 +25,9 @@ use crate::query::Query;
 use crate::scan_buffers::SourcePosition;
 use strat_arena::ArenaPool;
 use strat_array::{Cache, Place, Scratch, first_place_from, seek};
-use strat_base::{ArrayDesc, Entry, Fault, Version, key_order};
+use strat_base::{ArrayDesc, Entry, Fault, key_order};
 use strat_disk::Disk;
 use strat_level::ZeroView;
-use strat_tree::Tree;
 
 /// A place that a range is read from.
 #[derive(Clone, Copy)]
@@ -95,15 +94,19 @@ pub(crate) fn is_after(last: &[u8], key: &[u8]) -> bool
     last.is_empty() || key_order(last, key).is_lt()
 }
 
-/// Whether an entry decides its key: the key is after the last one that was handled, and the entry is at v or at an
-/// ancestor of it, whatever number its version is: a disk may say anything. A comparison of keys, and O(log
-/// versions_max) where the key is after it.
+/// Whether an entry decides its key: the key is after the last one that was handled, and the entry is at the query's
+/// version or at an ancestor of it, whatever number its version is: a disk may say anything. A comparison of keys, and
+/// O(log versions_max) where the key is after it.
 #[tactic(auto, using(strat_array::proofs::WalkLemmas::past_is_off))]
-fn is_due(entry: &Entry<'_>, tree: &Tree, v: Version, last: &[u8]) -> bool
-    requires { v < length tree.now.parents }
-    ensures ok { result ≡ is_due tree.now.parents v last.now (entry_of entry.now) }
+fn is_due(entry: &Entry<'_>, query: &Query<'_>, last: &[u8]) -> bool
+    requires { query.now.version < length (tree_asked query.now) }
+    ensures ok { result ≡ is_due (tree_asked query.now) query.now.version last.now
+        (entry_of entry.now) }
 {
-    is_after(last, entry.key) && entry.version < tree.count() && tree.is_ancestor(entry.version, v)
+    let tree = query.view.tree;
+    is_after(last, entry.key)
+        && entry.version < tree.count()
+        && tree.is_ancestor(entry.version, query.version)
 }
 
 /// The first item from a place on that is due. O(items passed over), each as `is_due`.
@@ -119,12 +122,7 @@ fn stand_item(query: &Query<'_>, list: &ZeroView, last: &[u8], item: usize) -> u
 {
     let mut item = item;
     while item < list.items().len() {
-        if is_due(
-            &list.entry(query.view.pool, item),
-            query.view.tree,
-            query.version,
-            last,
-        ) {
+        if is_due(&list.entry(query.view.pool, item), query, last) {
             return item;
         }
         item += 1;
@@ -172,7 +170,7 @@ fn stand_place<D: Disk>(
     let mut place = place;
     while let Some(at) = first_place_from(disk, cache, desc, place, scratch)? {
         let entry = scratch.entry(at.index);
-        if is_due(&entry, query.view.tree, query.version, last) {
+        if is_due(&entry, query, last) {
             return Ok(Some(at));
         }
         place = at.next();
