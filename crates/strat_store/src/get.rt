@@ -35,8 +35,7 @@ fn reply_of_get(found: Result<Seen, Fault>) -> Reply
         Ok(Seen::Put) => Reply::Found,
         Ok(Seen::Gone) => Reply::Absent,
         Ok(Seen::None) => Reply::Absent,
-        Err(Fault::Device) => Reply::Refused(Refusal::DeviceFault),
-        Err(Fault::Damaged { block }) => Reply::Refused(Refusal::Damaged { block }),
+        Err(fault) => Reply::Refused(Refusal::from(fault)),
     }
 }
 
