@@ -3,6 +3,7 @@
 ghost use Rattle.std.specs.Prelude.{◌≡◌};
 
 use strat_base::{Failed, Fault, NoMemory, Trouble};
+use strat_model::Ended;
 use thiserror::Error;
 
 /// Why a store could not be opened.
@@ -65,6 +66,21 @@ impl From<Trouble> for AttachFault {
             Trouble::NoMemory => AttachFault::NoMemory,
             Trouble::Device => AttachFault::Device,
             Trouble::Damaged { block } => AttachFault::Damaged { block },
+        }
+    }
+}
+
+impl From<AttachFault> for Ended {
+    ghost use Rattle.strat_open.specs.Causes.{ended_for};
+
+    ghost from_gives = { λ fault how. how ≡ ended_for fault };
+
+    fn from(fault: AttachFault) -> Ended {
+        match fault {
+            AttachFault::NotAStore => Ended::NotAStore,
+            AttachFault::Device => Ended::Device,
+            AttachFault::Damaged { block } => Ended::Damaged { block },
+            AttachFault::NoMemory => Ended::NoMemory,
         }
     }
 }

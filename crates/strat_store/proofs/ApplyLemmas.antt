@@ -84,31 +84,20 @@ reads_known false arrays before now reads none = λ k few. let still = none refl
 pub reads_no_look : (s : Held) (r : Request) (c : Change) (before now : ℕ) → change_wanted r ≡ Some c → ReadsForLook s r before now
 reads_no_look s r c before now wanted none = absurd (let e : Some c ≡ None = sym wanted ∙ none in cc)
 
--- a command that asks for no change and is about no cursor is a get, a scan, or asks what is in memory
-pub none_left : (asked : Command) → change_wanted (request_of asked) ≡ None → is_of_cursor (request_of asked) ≡ false → ((v : ℕ) (key : Bor (List ℕ)) → asked ≡ command.Get v key → ⊥)
-    → ((v : ℕ) (lo hi : Bor (List ℕ)) (limit : ℕ) → asked ≡ command.Scan v lo hi limit → ⊥) → ((v : ℕ) → asked ≡ command.Info v → ⊥) → (asked ≡ command.Stat → ⊥) → ⊥
-none_left (command.Put v key value) none other get scan info stat = let e : Some (change.Put v key.now value.now) ≡ None = none in cc
-none_left (command.Delete v key) none other get scan info stat = let e : Some (change.Delete v key.now) ≡ None = none in cc
-none_left (command.Clone v) none other get scan info stat = let e : Some (change.Clone v) ≡ None = none in cc
-none_left (command.Get v key) none other get scan info stat = get v key refl
-none_left (command.Scan v lo hi limit) none other get scan info stat = scan v lo hi limit refl
-none_left (command.Info v) none other get scan info stat = info v refl
-none_left command.Stat none other get scan info stat = stat refl
-none_left _ none other get scan info stat = absurd (true≢false other)
-
--- one that is none of the three is about no cursor
-pub of_cursor_not : (asked : Command) → ((v : ℕ) (lo hi : Bor (List ℕ)) → asked ≡ command.OpenCursor v lo hi → ⊥) → ((cursor limit : ℕ) → asked ≡ command.NextPairs cursor limit → ⊥)
-    → ((cursor : ℕ) → asked ≡ command.CloseCursor cursor → ⊥) → is_of_cursor (request_of asked) ≡ false
-of_cursor_not (command.OpenCursor v lo hi) opens pages closes = absurd (opens v lo hi refl)
-of_cursor_not (command.NextPairs cursor limit) opens pages closes = absurd (pages cursor limit refl)
-of_cursor_not (command.CloseCursor cursor) opens pages closes = absurd (closes cursor refl)
-of_cursor_not (command.Put v key value) opens pages closes = refl
-of_cursor_not (command.Delete v key) opens pages closes = refl
-of_cursor_not (command.Get v key) opens pages closes = refl
-of_cursor_not (command.Clone v) opens pages closes = refl
-of_cursor_not (command.Scan v lo hi limit) opens pages closes = refl
-of_cursor_not (command.Info v) opens pages closes = refl
-of_cursor_not command.Stat opens pages closes = refl
+-- a command that asks for no change is none of the changes
+pub changes_left : (asked : Command) → change_wanted (request_of asked) ≡ None → ((v : ℕ) (key : Bor (List ℕ)) → asked ≡ command.Get v key → ⊥) → ((v : ℕ) (lo hi : Bor (List ℕ)) (limit : ℕ) → asked ≡ command.Scan v lo hi limit → ⊥)
+    → ((v : ℕ) → asked ≡ command.Info v → ⊥) → (asked ≡ command.Stat → ⊥) → ((v : ℕ) (lo hi : Bor (List ℕ)) → asked ≡ command.OpenCursor v lo hi → ⊥) → ((cursor limit : ℕ) → asked ≡ command.NextPairs cursor limit → ⊥)
+    → ((cursor : ℕ) → asked ≡ command.CloseCursor cursor → ⊥) → ⊥
+changes_left (command.Put v key value) none get scan info stat opens pages closes = let e : Some (change.Put v key.now value.now) ≡ None = none in cc
+changes_left (command.Delete v key) none get scan info stat opens pages closes = let e : Some (change.Delete v key.now) ≡ None = none in cc
+changes_left (command.Clone v) none get scan info stat opens pages closes = let e : Some (change.Clone v) ≡ None = none in cc
+changes_left (command.Get v key) none get scan info stat opens pages closes = get v key refl
+changes_left (command.Scan v lo hi limit) none get scan info stat opens pages closes = scan v lo hi limit refl
+changes_left (command.Info v) none get scan info stat opens pages closes = info v refl
+changes_left command.Stat none get scan info stat opens pages closes = stat refl
+changes_left (command.OpenCursor v lo hi) none get scan info stat opens pages closes = opens v lo hi refl
+changes_left (command.NextPairs cursor limit) none get scan info stat opens pages closes = pages cursor limit refl
+changes_left (command.CloseCursor cursor) none get scan info stat opens pages closes = closes cursor refl
 
 -- it reaches the disk, and so a fault may be told of it
 reaches_wanted : (r : Request) (c : Change) → change_wanted r ≡ Some c → reaches_disk r ≡ true

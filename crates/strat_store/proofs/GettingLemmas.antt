@@ -1,10 +1,10 @@
 -- What a store says of a key: level 0 and its levels answer as its table.
-use Rattle.std.proofs.Common.{◌≡◌, ◌<◌, ℕ, Bool, true, false, eqb, inl, inr, List, [], ◌∷◌, ◌++◌, length, if◌then◌else◌, Contains, flat_map, Option, Some, None, Result, Ok, Err, IfOk, OnErr, IsErrOf, refl, sym, ap, ◌∙◌, subst, true≢false}
+use Rattle.std.proofs.Common.{◌≡◌, ◌<◌, ◌+◌, ℕ, Bool, true, false, eqb, inl, inr, List, [], ◌∷◌, ◌++◌, length, if◌then◌else◌, Contains, flat_map, Option, Some, None, Result, Ok, Err, IfOk, OnErr, IsErrOf, refl, sym, ap, ◌∙◌, subst, true≢false}
 use Rattle.std.proofs.lemmas.Bool.{ltb-true, eqb-true}
 use Rattle.std.proofs.lemmas.List.Elements.{Contains-append_left}
 use Rattle.std.specs.Option.{option_and_then, option_map, option_or}
 use Rattle.strat_array.specs.Kept.{Blocks}
-use Rattle.strat_array.specs.Told.{TheirPairs, TellsFound}
+use Rattle.strat_array.specs.Told.{TheirPairs, TellsFound, AddsPair}
 use Rattle.strat_array.specs.declared.seen.Seen.{Seen}
 use Rattle.strat_array.specs.declared.seen.Seen.TheVariants as seen
 use Rattle.strat_base.proofs.ListFacts.{Among, any_among, among_in_flat}
@@ -22,6 +22,7 @@ use Rattle.strat_model.specs.Pairs.{value_of}
 use Rattle.strat_model.specs.Request.{Get}
 use Rattle.strat_model.specs.Step.{Outcome, step, found, refuses, replies_with, has_row, pairs_at}
 use Rattle.strat_model.specs.declared.replies.Refusal.TheVariants as why
+use Rattle.strat_model.specs.declared.replies.Reply.{Reply}
 use Rattle.strat_model.specs.declared.replies.Reply.TheVariants as reply
 use Rattle.strat_promote.specs.Job.{blocks_listed}
 use Rattle.def_recovery.proofs.AskedLemmas.{asked_same}
@@ -78,6 +79,15 @@ answer_told content parents entries levels n key c out (Ok told) tells none f ne
     answer_of (looked_up (on_disk f) parents (entries ∷ []) (levels_there levels) n key) key out told (tells f next exposed ordered own cached)
 answer_told content parents entries levels n key c out (Err fault.Device) tells none f next exposed ordered own cached = absurd (true≢false none)
 answer_told content parents entries levels n key c out (Err (fault.Damaged block)) tells none f next exposed ordered own cached = absurd (true≢false none)
+
+-- beside what is told of a key stands its pair where it was found, and else none
+pub key_pairs : (told : Reply) (r : Result Seen Fault) (mid out : TheirPairs) → told ≡ reply_of_get r → mid ≡ [] → IfOk r (λ seen. AddsPair mid out seen) → OnErr r (out ≡ mid)
+    → (told ≡ reply.Found → length out ≡ 1) × ((told ≡ reply.Found → ⊥) → out ≡ [])
+key_pairs told (Ok seen.Put) mid out is none adds same = (λ _. adds ∙ ap (λ (ps : TheirPairs). length ps + 1) none, λ other. absurd (other is))
+key_pairs told (Ok seen.Gone) mid out is none adds same = (λ found. absurd (let e : reply.Absent ≡ reply.Found = sym is ∙ found in cc), λ _. adds ∙ none)
+key_pairs told (Ok seen.None) mid out is none adds same = (λ found. absurd (let e : reply.Absent ≡ reply.Found = sym is ∙ found in cc), λ _. adds ∙ none)
+key_pairs told (Err fault.Device) mid out is none adds same = (λ found. absurd (let e : reply.Refused why.DeviceFault ≡ reply.Found = sym is ∙ found in cc), λ _. same ∙ none)
+key_pairs told (Err (fault.Damaged block)) mid out is none adds same = (λ found. absurd (let e : reply.Refused (why.Damaged block) ≡ reply.Found = sym is ∙ found in cc), λ _. same ∙ none)
 
 -- a block of some of the arrays that are held, which is none, is damaged
 pub blamed : (content : Option Image) (m : Memory) (levels : List (Option LevelDesc)) (arrays : List ArrayDesc) (b : ℕ) → ((a : ArrayDesc) → Contains arrays a → Contains (arrays_held m levels) a)

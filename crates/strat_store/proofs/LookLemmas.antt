@@ -2,7 +2,7 @@
 use Rattle.std.proofs.Common.{◌≡◌, ◌≤◌, ◌<◌, ◌+◌, ℕ, true, false, get_or, drop, List, [], ◌∷◌, length, Option, Some, None, IsTrue, refl, sym, ap, ◌∙◌, subst, arith, true≢false, Result, Ok, Err}
 use Rattle.std.proofs.lemmas.List.{drop_all, drop_more}
 use Rattle.std.specs.List.{Contains, filter_map, cons_option}
-use Rattle.std.specs.Prelude.{IfOk}
+use Rattle.std.specs.Prelude.{IfOk, OnErr}
 use Rattle.std.specs.Option.{option_and_then, option_map, option_or, option_to_list, unwrap_or}
 use Rattle.strat_array.specs.Kept.{Blocks, ArrayStands}
 use Rattle.strat_array.specs.Left.{all_in}
@@ -149,6 +149,25 @@ pub passed_all : (old now : DiskView) (levels : List (Option LevelDesc)) (parent
 passed_all old now levels parents key v above c d past passing f next exposed ordered own cached =
     sym (passing.silent f next exposed ordered own cached)
     ∙ ap (λ (ls : List (Option LevelDesc)). looked_up (on_disk f) parents [] (levels_there ls) v key) (drop_all above levels past)
+
+-- an answer that is not that nothing is said says something
+pub decided : (told : Seen) → (told ≡ seen.None → ⊥) → decides told ≡ true
+decided seen.None other = absurd (other refl)
+decided seen.Gone other = refl
+decided seen.Put other = refl
+
+-- what level 0 says of a key is what is told, whatever the levels say
+pub looks_here : (content : Option Image) (parents : Parents) (entries : List Entry) (levels : List (Option LevelDesc)) (n : ℕ) (key : List ℕ) (c : Blocks) (out : TheirPairs) (told : Seen)
+    → TellsFound (live_of parents entries n key) key [] out told → decides told ≡ true
+    → (f : Image) (next : ℕ) → content ≡ Some f → AreInOrder f (arrays_asked parents levels n) → HaveOwnIds (arrays_there levels) → AreCachedFrom f next (arrays_asked parents levels n) c
+    → TellsFound (looked_up (on_disk f) parents (entries ∷ []) (levels_there levels) n key) key [] out told
+looks_here content parents entries levels n key c out told tells some f next exposed ordered own cached =
+    tells_on (live_of parents entries n key) (looked_up (on_disk f) parents [] (levels_there levels) n key) key [] out told tells some
+
+-- pairs that a fault leaves as they were are none where there were none
+pub none_more : (r : Result Seen Fault) (mid out : TheirPairs) → OnErr r (out ≡ mid) → mid ≡ [] → OnErr r (out ≡ [])
+none_more (Ok told) mid out same none = tt
+none_more (Err f) mid out same none = same ∙ none
 
 -- what level 0 says nothing of is what the levels say
 pub looks_on : (content : Option Image) (parents ps : Parents) (entries : List Entry) (levels : List (Option LevelDesc)) (n : ℕ) (key : List ℕ) (c : Blocks) (mid out : TheirPairs) (r : Result Seen Fault)

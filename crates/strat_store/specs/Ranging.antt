@@ -6,13 +6,13 @@ use Rattle.strat_base.specs.Tree.{Parents, is_known}
 use Rattle.strat_base.specs.declared.descriptors.ArrayDesc.{ArrayDesc}
 use Rattle.strat_base.specs.declared.descriptors.LevelDesc.{LevelDesc}
 use Rattle.strat_base.specs.declared.failures.Fault.{Fault}
-use Rattle.strat_base.specs.declared.failures.Fault.TheVariants as fault
 use Rattle.def_crash.specs.Image.{Image}
 use Rattle.strat_cursor.specs.Cursors.{MayGoOn, arrays_of_number, is_opened, pairs_left}
 use Rattle.strat_cursor.specs.Held.{HeldCursor, HeldCursors, IsMapHeld}
 use Rattle.strat_cursor.specs.Looking.{AreCachedAs, AreInOrder, ReadsArrays, arrays_asked, levels_there}
 use Rattle.strat_cursor.specs.Ranges.{FillsPage}
 use Rattle.strat_model.specs.Answer.{Answer, plain, refusal}
+use Rattle.strat_model.specs.Faults.{refusal_by}
 use Rattle.strat_model.specs.Kept.{IsMap}
 use Rattle.strat_model.specs.Pairs.{Pairs, value_of, range}
 use Rattle.strat_model.specs.Request.{Request, Get, Scan, Info, OpenCursor, NextPairs, CloseCursor, Stat}
@@ -29,8 +29,7 @@ use Rattle.strat_memory.specs.Memory.{Memory, info_told, stat_told}
 -- what is told of a range after a scan, or after the fault that ended it
 abbrev pub reply_of_scan : Result Bool Fault → Reply
 reply_of_scan (Ok more) = reply.Pairs more
-reply_of_scan (Err fault.Device) = reply.Refused why.DeviceFault
-reply_of_scan (Err (fault.Damaged block)) = reply.Refused (why.Damaged block)
+reply_of_scan (Err fault) = reply.Refused (refusal_by fault)
 
 -- these pairs are the map of a version, as look-ups find it in an image
 pub record IsMapAsked (f : Image) (parents : Parents) (entries : List Entry)

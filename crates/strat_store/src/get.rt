@@ -1,12 +1,8 @@
 //! What a store over levels says of a key at a version.
 
-ghost use Rattle.std.specs.Prelude.{◌≡◌, ◌≢◌, ◌<◌, ℕ, [], ◌∷◌, length, true, false, None, Contains, IfOk, OnErr, IsErrOf};
+ghost use Rattle.std.specs.Prelude.{◌≡◌, ◌≢◌, ◌<◌, ℕ, [], ◌∷◌, length, true, false, None};
 ghost use Rattle.strat_array.specs.Kept.{Blocks};
-ghost use Rattle.strat_array.specs.Told.{TellsFound, AddsPair};
 ghost use Rattle.strat_base.specs.Tree.{is_known};
-ghost use Rattle.strat_base.specs.declared.descriptors.ArrayDesc.{ArrayDesc};
-ghost use Rattle.strat_base.specs.declared.failures.Fault.TheVariants.{Damaged, Device};
-ghost use Rattle.def_crash.specs.Faults.{HasCause};
 ghost use Rattle.def_crash.specs.Image.{Image};
 ghost use Rattle.def_crash.specs.Moments.{Exposes};
 ghost use Rattle.def_bytes.specs.Arrays.{block_on};
@@ -15,14 +11,13 @@ ghost use Rattle.strat_model.specs.Request.{Get};
 ghost use Rattle.strat_model.specs.Step.{found as answer_found};
 ghost use Rattle.strat_model.specs.declared.replies.Refusal.TheVariants as why;
 ghost use Rattle.strat_model.specs.declared.replies.Reply.TheVariants as reply;
-ghost use Rattle.def_recovery.specs.Asked.{on_disk, asked};
+ghost use Rattle.def_recovery.specs.Asked.{asked};
 ghost use Rattle.def_publish.specs.Contents.{Contents};
-ghost use Rattle.def_state.specs.LookUp.{looked_up};
 ghost use Rattle.strat_store.specs.Applying.{is_fault, IsLookedUp, FailsAsTold};
 ghost use Rattle.strat_publish.specs.Outcomes.{IsDamagedIn};
 ghost use Rattle.strat_store.specs.Getting.{reply_of_get, MayTellOfKey};
 ghost use Rattle.strat_memory.specs.Held.{IsConsistent, StandsWith};
-ghost use Rattle.strat_cursor.specs.Looking.{levels_there, arrays_there, MayBeFound, AreInOrder, AreCachedFrom, LooksThrough, NamesNoBlock, HaveOwnIds, ReadsArrays, arrays_asked};
+ghost use Rattle.strat_cursor.specs.Looking.{levels_there, arrays_there, AreInOrder, AreCachedFrom, LooksThrough, ReadsArrays, arrays_asked};
 ghost use Rattle.strat_memory.specs.RecoveredFields.{held_of};
 
 use crate::level_lookup::get_from_levels;
@@ -40,63 +35,15 @@ fn reply_of_get(found: Result<Seen, Fault>) -> Reply
         Ok(Seen::Put) => Reply::Found,
         Ok(Seen::Gone) => Reply::Absent,
         Ok(Seen::None) => Reply::Absent,
-        Err(Fault::Device) => Reply::Refused(Refusal::DeviceFault),
-        Err(Fault::Damaged { block }) => Reply::Refused(Refusal::Damaged { block }),
-    }
-}
-
-/// The entry that is live for a key at a version in level 0, or else in the first of the levels that says something of
-/// it: a value's pair is put into `out`. Level 0 costs what `Memory::find` does, the levels what `get_from_levels` does.
-fn look_through<D: Disk>(
-    held: &OpenStore,
-    cache: &mut Cache,
-    scratch: &mut Scratch,
-    disk: &mut D,
-    version: Version,
-    key: &[u8],
-    out: &mut PairBuf,
-) -> Result<Seen, Fault>
-    requires fits { MayBeFound (arrays_there held.now.published.levels) }
-    requires kept { version < length held.now.memory.parents }
-    requires room { out.old ≡ [] }
-    ensures found { IfOk result (λ seen. (f : Image) (next : ℕ) → Exposes (D.view disk.old) f
-        → AreInOrder f (arrays_asked held.now.memory.parents held.now.published.levels version)
-        → HaveOwnIds (arrays_there held.now.published.levels)
-        → AreCachedFrom f next
-        (arrays_asked held.now.memory.parents held.now.published.levels version) cache.old
-        → TellsFound (looked_up (on_disk f) held.now.memory.parents
-        (held.now.memory.entries ∷ []) (levels_there held.now.published.levels) version key.now)
-        key.now [] out.new seen) }
-    ensures err { OnErr result (out.new ≡ []) }
-    ensures len { IfOk result (λ seen. AddsPair [] out.new seen) }
-    ensures same { LooksThrough (D.view disk.old) (D.view disk.new)
-        (arrays_there held.now.published.levels) cache.old cache.new }
-    ensures kept { (f : Image) (next : ℕ) → Exposes (D.view disk.old) f
-        → ((a : ArrayDesc) → Contains (arrays_there held.now.published.levels) a → a.id < next)
-        → HaveOwnIds (arrays_there held.now.published.levels)
-        → AreCachedFrom f next (arrays_there held.now.published.levels) cache.old
-        → AreCachedFrom f next (arrays_there held.now.published.levels) cache.new }
-    ensures damaged { (b : ℕ) → IsErrOf result (Damaged b)
-        → NamesNoBlock (D.view disk.old).content (arrays_there held.now.published.levels) b }
-    ensures cause { HasCause Device (D.faults disk.old) (D.faults disk.new) result }
-    ensures reads { ReadsArrays
-        (arrays_asked held.now.memory.parents held.now.published.levels version)
-        (D.reads disk.old) (D.reads disk.new) }
-{
-    let (_, _, tree) = held.memory.parts();
-    match held.memory.find(key, version, out) {
-        Seen::None => {
-            let levels = &held.published.levels;
-            get_from_levels(disk, cache, levels, tree, key, version, scratch, out)
-        }
-        seen => Ok(seen),
+        Err(fault) => Reply::Refused(Refusal::from(fault)),
     }
 }
 
 /// What a store says of a key at a version; a value's pair is put into `out`, which has none. Level 0 is asked first,
 /// and then the levels, of each one array at most, until one says something: in an array of fewer than 2^n blocks a search
-/// reads n + 1 of them, and each block is read once more at most. It takes no memory but for blocks that are cached. UnknownVersion: there is no such version, and nothing was read. DeviceFault: the disk counted a fault.
-/// Damaged: this block of one of the arrays is no block of entries.
+/// reads n + 1 of them, and each block is read once more at most. It takes no memory but for blocks that are cached.
+/// UnknownVersion: there is no such version, and nothing was read. DeviceFault: the disk counted a fault. Damaged: this
+/// block of one of the arrays is no block of entries.
 pub(crate) fn get<D: Disk>(
     held: &OpenStore,
     cache: &mut Cache,
@@ -137,6 +84,13 @@ pub(crate) fn get<D: Disk>(
     if !held.memory.has(version) {
         return Reply::Refused(Refusal::UnknownVersion);
     }
-    let found = look_through(held, cache, scratch, disk, version, key, out);
-    reply_of_get(found)
+    match held.memory.find(key, version, out) {
+        Seen::None => {
+            let (_, _, tree) = held.memory.parts();
+            let levels = &held.published.levels;
+            let found = get_from_levels(disk, cache, levels, tree, key, version, scratch, out);
+            reply_of_get(found)
+        }
+        seen => reply_of_get(Ok(seen)),
+    }
 }

@@ -33,8 +33,7 @@ fn reply_of_scan(found: Result<bool, Fault>) -> Reply
 {
     match found {
         Ok(more) => Reply::Pairs { more },
-        Err(Fault::Device) => Reply::Refused(Refusal::DeviceFault),
-        Err(Fault::Damaged { block }) => Reply::Refused(Refusal::Damaged { block }),
+        Err(fault) => Reply::Refused(Refusal::from(fault)),
     }
 }
 

@@ -20,11 +20,11 @@ ghost use Rattle.def_recovery.specs.Opening.{recover};
 ghost use Rattle.def_publish.specs.Contents.{Contents};
 ghost use Rattle.strat_store.specs.Applying.{FollowsStep, FailsAsTold, IsUntouched, TellsTroubleOf, change_wanted, is_fault};
 ghost use Rattle.strat_publish.specs.Outcomes.{IsDamagedIn};
-ghost use Rattle.strat_store.specs.Cursoring.{IsAppliedAt, LeavesCursors, cursors_after, is_of_cursor};
+ghost use Rattle.strat_store.specs.Cursoring.{IsAppliedAt, LeavesCursors, cursors_after};
 ghost use Rattle.strat_open.specs.Following.{IsOpenedAs, IsUnchanged, LeavesOpening};
 ghost use Rattle.strat_memory.specs.Held.{IsConsistent, StandsAt, StandsWith, arrays_held};
 ghost use Rattle.strat_memory.specs.Memory.{info_told};
-ghost use Rattle.strat_cursor.specs.Looking.{AreOfOldArrays, LooksThrough, ReadsArrays, arrays_there};
+ghost use Rattle.strat_cursor.specs.Looking.{AreOfOldArrays, LooksThrough, ReadsArrays};
 ghost use Rattle.strat_memory.specs.Paying.{StoreTwoSince};
 ghost use Rattle.strat_store.specs.Ranging.{HasPairsFor, ReadsForLook, TellsFrom, arrays_wanted};
 ghost use Rattle.strat_memory.specs.RecoveredFields.{held_of, empty_cache};
@@ -116,56 +116,6 @@ fn info(memory: &Memory, version: Version) -> Reply
     memory.info(version)
 }
 
-/// Answers a command that asks for no change and is about no cursor.
-fn look<D: Disk>(
-    held: &OpenStore,
-    cache: &mut Cache,
-    scratch: &mut Scratch,
-    buffers: &mut ScanBuffers,
-    disk: &mut D,
-    command: &Command<'_>,
-    out: &mut PairBuf,
-) -> Reply
-    requires kept { (cached : Blocks) → IsConsistent (held_of held.now cached) }
-    requires none { (change_wanted (request_of command.now) ≡ None)
-        × (is_of_cursor (request_of command.now) ≡ false) }
-    requires fits { has_lawful_sizes (request_of command.now) ≡ true }
-    requires room { out.old ≡ [] }
-    ensures ok { (x : Contents) (rows : List Cursor)
-        → StandsAt (D.view disk.old) (held_of held.now cache.old) x rows
-        → IsAppliedAt (D.view disk.new) (held_of held.now cache.old) x rows
-        (request_of command.now) (as_told result out.new) (held_after held.now cache.new result) }
-    ensures found { AreOfOldArrays held.now.published.manifest.next_array cache.old
-        → (f : Image) → Exposes (D.view disk.old) f → is_fault result ≡ false
-        → TellsFrom f (held_of held.now cache.old)
-        (request_of command.now) (as_told result out.new) }
-    ensures len { HasPairsFor (request_of command.now) (as_told result out.new) }
-    ensures same { LooksThrough (D.view disk.old) (D.view disk.new)
-        (arrays_there held.now.published.levels) cache.old cache.new }
-    ensures cause { FailsAsTold (D.faults disk.old) (D.faults disk.new) result }
-    ensures err { TellsTroubleOf (D.view disk.old) (held_of held.now cache.old)
-        (request_of command.now) result }
-    ensures reads { ReadsArrays
-        (arrays_wanted (held_of held.now cache.old) (request_of command.now))
-        (D.reads disk.old) (D.reads disk.new) }
-    ensures damaged { (b : ℕ) → result ≡ reply.Refused (why.Damaged b)
-        → IsDamagedIn (D.view disk.old).content held.now.memory held.now.published.levels b }
-{
-    match *command {
-        Command::Get { version, key } => get(held, cache, scratch, disk, version, key, out),
-        Command::Scan {
-            version,
-            lo,
-            hi,
-            limit,
-        } => scan_range(held, cache, buffers, disk, version, lo, hi, limit, out),
-        Command::Info { version } => info(&held.memory, version),
-        Command::Stat => held.memory.stat(),
-        // The premises leave no other command.
-        _ => Reply::Refused(Refusal::Malformed),
-    }
-}
-
 /// Answers a command that asks for no change.
 fn query<D: Disk>(
     held: &mut OpenStore,
@@ -207,12 +157,22 @@ fn query<D: Disk>(
         → IsDamagedIn (D.view disk.old).content held.old.memory held.old.published.levels b }
 {
     match *command {
+        Command::Get { version, key } => get(held, cache, scratch, disk, version, key, out),
+        Command::Scan {
+            version,
+            lo,
+            hi,
+            limit,
+        } => scan_range(held, cache, buffers, disk, version, lo, hi, limit, out),
+        Command::Info { version } => info(&held.memory, version),
+        Command::Stat => held.memory.stat(),
         Command::OpenCursor { version, lo, hi } => reply_to_open_cursor(held, version, lo, hi),
         Command::NextPairs { cursor, limit } => {
             reply_to_next_pairs(held, cache, buffers, disk, cursor, limit, out)
         }
         Command::CloseCursor { cursor } => reply_to_close_cursor(held, cursor),
-        _ => look(held, cache, scratch, buffers, disk, command, out),
+        // The premise leaves no change.
+        _ => Reply::Refused(Refusal::Malformed),
     }
 }
 
