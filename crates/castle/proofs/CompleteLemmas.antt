@@ -8,6 +8,7 @@ use Rattle.def_crash.specs.Faults.{Rose}
 use Rattle.def_crash.specs.Image.{Image}
 use Rattle.def_crash.specs.Moments.{DiskView}
 use Rattle.def_bytes.specs.SuperBlock.{Super, newest_in}
+use Rattle.strat_model.specs.Faults.{fault_told}
 use Rattle.strat_model.specs.declared.ended.Ended.{Ended}
 use Rattle.strat_model.specs.declared.ended.Ended.TheVariants as ended
 use Rattle.strat_model.specs.Ended.{status_of}
@@ -20,7 +21,7 @@ use Rattle.def_publish.specs.Contents.{contents_head}
 use Rattle.def_publish.specs.Standing.{ShowsTable}
 use Rattle.def_publish.proofs.PartsLemmas.{reads_head, state_parts}
 use Rattle.def_recovery.specs.Opening.{recover, recover_slot}
-use Rattle.strat_serve.specs.Session.{GaveUp, Served, RunOutcome, IsEarlyEnd, RefusesFor, EndHasCause, EndsWithFault, EndsFor, fault_told}
+use Rattle.strat_serve.specs.Session.{GaveUp, Served, RunOutcome, IsEarlyEnd, RefusesFor, EndHasCause, EndsWithFault, EndsFor}
 use Rattle.castle.specs.Outcomes.{EndsAsInput, EndsAsFound, IsEarly}
 use Rattle.strat_serve.specs.World.{World}
 

@@ -8,7 +8,6 @@ ghost use Rattle.strat_model.specs.declared.ended.Ended.TheVariants as ended;
 ghost use Rattle.def_recovery.specs.Opening.{recover};
 ghost use Rattle.def_texts.specs.Texts.{text, report, summary, damaged_line};
 ghost use Rattle.strat_report.specs.Reporting.{levels_text, summary_text, GivesUp, IsSilent, IsSaid, WritesReport, IsComplete, ReportHasCause};
-ghost use Rattle.strat_open.specs.Causes.{ended_for};
 
 use crate::levels::add_report;
 use crate::summary::add_summary;
@@ -18,18 +17,6 @@ use strat_disk::Disk;
 use strat_io::{Sink, put_all};
 use strat_model::Ended;
 use strat_open::{AttachFault, Reading, read_store};
-
-/// How a report ends whose opening gave up so.
-fn ended_for(fault: AttachFault) -> Ended
-    ensures ok { result ≡ ended_for fault }
-{
-    match fault {
-        AttachFault::NotAStore => Ended::NotAStore,
-        AttachFault::Device => Ended::Device,
-        AttachFault::Damaged { block } => Ended::Damaged { block },
-        AttachFault::NoMemory => Ended::NoMemory,
-    }
-}
 
 /// The report of a store.
 fn report_of(alloc: Global, store: &Reading) -> Result<String, AllocError>
@@ -72,7 +59,7 @@ fn say_levels<D: Disk>(alloc: Global, disk: &mut D) -> Result<(String, Ended), E
             };
             return Ok((line, Ended::Damaged { block }));
         }
-        Err(fault) => return Err(ended_for(fault)),
+        Err(fault) => return Err(Ended::from(fault)),
     };
     let Ok(text) = report_of(alloc, &store) else {
         return Err(Ended::NoMemory);
@@ -99,7 +86,7 @@ fn say_summary<D: Disk>(
         Err(AttachFault::Damaged { block }) => {
             return Ok((String::new(alloc), Ended::Damaged { block }));
         }
-        Err(fault) => return Err(ended_for(fault)),
+        Err(fault) => return Err(Ended::from(fault)),
     };
     let Ok(text) = summary_of(alloc, &store, seed, count) else {
         return Err(Ended::NoMemory);

@@ -11,6 +11,7 @@ use Rattle.def_crash.proofs.TrailLemmas.{trail_of_two, marks_in_order}
 use Rattle.strat_frame.specs.declared.commands.BodyFault.{BodyFault}
 use Rattle.strat_frame.specs.declared.commands.BodyFault.TheVariants as body
 use Rattle.strat_frame.specs.Faults.{refusal_for}
+use Rattle.strat_model.specs.Faults.{fault_told}
 use Rattle.strat_model.specs.Answer.{Answer, as_told, refusal, accepts}
 use Rattle.strat_model.specs.declared.replies.Refusal.TheVariants as why
 use Rattle.strat_model.specs.declared.replies.Reply.{Reply}
@@ -31,7 +32,7 @@ use Rattle.strat_store.specs.Applying.{is_fault, ran_short, FollowsStep, FailsAs
 use Rattle.strat_store.specs.Cursoring.{IsAnsweredAt, IsShortAt, IsBrokenAt, IsAppliedAt}
 use Rattle.strat_memory.specs.Held.{Held, IsConsistent, StandsAt, StandsWith, position_at}
 use Rattle.strat_serve.proofs.BareLemmas.{step_bare}
-use Rattle.strat_serve.specs.Session.{IsAnswered, IsToldBy, ContinuesWith, StopsWith, FailsAsMet, fault_told}
+use Rattle.strat_serve.specs.Session.{IsAnswered, IsToldBy, ContinuesWith, StopsWith, FailsAsMet}
 
 -- what a reply tells of faults
 pub record Tells (r : Reply) : Type 0 where

@@ -11,13 +11,14 @@ use Rattle.def_bytes.specs.Damage.{Read, and_then}
 use Rattle.def_bytes.specs.SuperBlock.{Super, newest_in}
 use Rattle.def_recovery.specs.Head.{Head}
 use Rattle.def_recovery.specs.Opening.{recover, recover_head, recover_slot}
+use Rattle.strat_model.specs.Faults.{broken_by}
 use Rattle.strat_model.specs.declared.ended.Ended.{Ended}
 use Rattle.strat_model.specs.declared.ended.Ended.TheVariants as ended
 use Rattle.strat_open.specs.declared.attach_fault.AttachFault.{AttachFault}
 use Rattle.strat_open.specs.declared.attach_fault.AttachFault.TheVariants as fault
 use Rattle.strat_open.specs.Causes.{ended_for}
 use Rattle.strat_open.specs.Following.{IsUnchanged, LeavesOpening}
-use Rattle.strat_serve.specs.Session.{IsGivenUp, GaveUp, RefusesFor, EndHasCause, EndsFor, Served, IsEarlyEnd, broken_by}
+use Rattle.strat_serve.specs.Session.{IsGivenUp, GaveUp, RefusesFor, EndHasCause, EndsFor, Served, IsEarlyEnd}
 use Rattle.strat_serve.specs.World.{World}
 
 -- an opening that gave up ends a run so

@@ -20,6 +20,7 @@ use Rattle.def_bytes.specs.Layout.{region_at, other_region}
 use Rattle.def_bytes.specs.SuperBlock.{Super}
 use Rattle.strat_io.specs.Streams.{Appends, Gives}
 use Rattle.strat_io.proofs.StreamLemmas.{appends_then}
+use Rattle.strat_model.specs.Faults.{fault_told}
 use Rattle.strat_model.specs.declared.replies.Refusal.TheVariants as why
 use Rattle.strat_model.specs.declared.replies.Reply.{Reply}
 use Rattle.strat_model.specs.declared.replies.Reply.TheVariants as reply
@@ -42,7 +43,7 @@ use Rattle.strat_memory.specs.Paying.{IsPaidIn, ArePaidSince}
 use Rattle.strat_publish.proofs.LaidLemmas.{kept_on}
 use Rattle.strat_memory.proofs.OnDiskLemmas.{read_on}
 use Rattle.strat_memory.proofs.PayingLemmas.{paid_now, paid_reads, paid_then, stored_since}
-use Rattle.strat_serve.specs.Session.{Took, IsAtEnd, Begins, RespondsTo, AreAnsweredBy, AreCalm, WritesNothing, IsAnswered, ContinuesWith, StopsWith, FailsAsMet, WaitsForNone, WasPublished, fault_told}
+use Rattle.strat_serve.specs.Session.{Took, IsAtEnd, Begins, RespondsTo, AreAnsweredBy, AreCalm, WritesNothing, IsAnswered, ContinuesWith, StopsWith, FailsAsMet, WaitsForNone, WasPublished}
 use Rattle.strat_serve.specs.World.{World}
 use Rattle.strat_serve.proofs.AnswerLemmas.{told_damaged}
 use Rattle.strat_serve.proofs.BeginLemmas.{opens_begins, stands_bare}

@@ -13,6 +13,7 @@ use Rattle.def_crash.specs.Image.{Image}
 use Rattle.def_crash.specs.Moments.{DiskView, Passes}
 use Rattle.strat_io.specs.Streams.{Appends}
 use Rattle.strat_io.proofs.StreamLemmas.{appends_then}
+use Rattle.strat_model.specs.Faults.{broken_by, fault_told}
 use Rattle.strat_model.specs.declared.ended.Ended.{Ended}
 use Rattle.strat_model.specs.declared.ended.Ended.TheVariants as ended
 use Rattle.strat_model.specs.Stream.{frame, IsBody, is_partial, is_too_long, Splits, Whole, Rest, Long, ending_of}
@@ -25,7 +26,7 @@ use Rattle.def_publish.specs.Standing.{ShowsTable}
 use Rattle.strat_open.specs.Following.{FollowsFrom}
 use Rattle.strat_memory.specs.Held.{Held, IsConsistent, IsOnDisk, head_held, position_at}
 use Rattle.strat_memory.proofs.PayingLemmas.{paid_now}
-use Rattle.strat_serve.specs.Session.{Took, IsAtEnd, SendsPrefix, too_long_bytes, AreAnsweredBy, AreCalm, ContinuesWith, StopsWith, fault_told, broken_by, Session, IsSession, AnswersAll, all_responses, output, last_output, Sends, EndsFor, FollowsRun, Served, WaitsForNone}
+use Rattle.strat_serve.specs.Session.{Took, IsAtEnd, SendsPrefix, too_long_bytes, AreAnsweredBy, AreCalm, ContinuesWith, StopsWith, Session, IsSession, AnswersAll, all_responses, output, last_output, Sends, EndsFor, FollowsRun, Served, WaitsForNone}
 use Rattle.strat_serve.specs.World.{World}
 use Rattle.strat_serve.proofs.ProgressLemmas.{Progress, RunSoFar, Answered, few_all, few_held, follows_more, text_more, ahead_more, ahead_within, answered_more, step_responds, step_damaged, step_paid, step_reads, gate_still, calm_front, calm_parts, answers}
 use Rattle.strat_serve.proofs.PublishedLemmas.{published_still}

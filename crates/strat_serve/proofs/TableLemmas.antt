@@ -11,6 +11,7 @@ use Rattle.def_crash.specs.Image.{Image}
 use Rattle.def_crash.specs.Moments.{DiskView, Since}
 use Rattle.def_crash.specs.Trail.{At, Trail}
 use Rattle.strat_io.specs.Streams.{Appends}
+use Rattle.strat_model.specs.Faults.{fault_told}
 use Rattle.strat_model.specs.declared.ended.Ended.{Ended}
 use Rattle.strat_model.specs.declared.ended.Ended.TheVariants as ended
 use Rattle.strat_model.specs.declared.replies.Refusal.TheVariants as why
@@ -24,7 +25,7 @@ use Rattle.def_state.specs.Level.{Level, IsStratified, is_dense}
 use Rattle.def_state.specs.State.{State, stored, updates_of, versions_of}
 use Rattle.strat_open.specs.Following.{FollowsFrom}
 use Rattle.strat_memory.specs.Paying.{IsPaidIn}
-use Rattle.strat_serve.specs.Session.{AreAnsweredBy, Begins, RespondsTo, Session, SendsAllButLast, AnswersAll, WaitsForNone, Served, FollowsRun, all_responses, listed_response, last_output, output, too_long_bytes, EndsWithFault, EndsFor, fault_told}
+use Rattle.strat_serve.specs.Session.{AreAnsweredBy, Begins, RespondsTo, Session, SendsAllButLast, AnswersAll, WaitsForNone, Served, FollowsRun, all_responses, listed_response, last_output, output, too_long_bytes, EndsWithFault, EndsFor}
 use Rattle.strat_serve.specs.Tables.{AnswersAllTaken, AnswersUntilFault, AnswersUntilCut, RefusesNext, AnswersUntil, AnswersAsTable, GoesThroughTables, IsThrifty, KeepsSpace, begins_at}
 use Rattle.strat_serve.proofs.StreamLemmas.{partial_short}
 use Rattle.strat_serve.specs.World.{Streams, beside}

@@ -13,6 +13,7 @@ use Rattle.def_crash.specs.Trail.{Trail}
 use Rattle.def_bytes.specs.Chained.{Chained, manifest_at}
 use Rattle.def_bytes.specs.SuperBlock.{Super, newest_in}
 use Rattle.strat_io.specs.Streams.{Appends}
+use Rattle.strat_model.specs.Faults.{fault_told}
 use Rattle.strat_model.specs.declared.ended.Ended.{Ended}
 use Rattle.strat_model.specs.declared.ended.Ended.TheVariants as ended
 use Rattle.strat_model.specs.declared.replies.Refusal.{Refusal}

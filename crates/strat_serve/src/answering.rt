@@ -9,7 +9,7 @@ ghost use Rattle.def_crash.specs.Moments.{Exposes, Passes};
 ghost use Rattle.strat_frame.specs.Faults.{refusal_for};
 ghost use Rattle.strat_io.specs.Streams.{Appends};
 ghost use Rattle.strat_promote.specs.Job.{blocks_listed};
-ghost use Rattle.strat_serve.specs.Session.{IsAnswered, FailsAsMet, fault_told, SendsPrefix, too_long_bytes};
+ghost use Rattle.strat_serve.specs.Session.{IsAnswered, FailsAsMet, SendsPrefix, too_long_bytes};
 ghost use Rattle.strat_publish.specs.Outcomes.{IsDamagedIn};
 ghost use Rattle.strat_memory.specs.Held.{IsConsistent, arrays_held};
 
@@ -54,17 +54,6 @@ fn refusal_of(fault: BodyFault) -> Refusal
     }
 }
 
-/// The fault that a reply tells of, if it tells of one.
-fn fault_told(reply: Reply) -> Option<Fault>
-    ensures { result ≡ fault_told reply }
-{
-    match reply {
-        Reply::Refused(Refusal::DeviceFault) => Some(Fault::Device),
-        Reply::Refused(Refusal::Damaged { block }) => Some(Fault::Damaged { block }),
-        _ => None,
-    }
-}
-
 /// Answers a body, in the buffer for replies, and says which fault the store met, if it met one:
 /// then it is not to be used again. A change that is answered otherwise is durable: its cost is
 /// that of `Store::apply`.
@@ -94,7 +83,7 @@ pub fn answer_frame<D: Disk>(
         Ok((tag, command)) => {
             let reply = store.apply(disk, &command, pairs);
             write_reply(tag, &reply, pairs, out);
-            fault_told(reply)
+            reply.fault()
         }
         Err((tag, fault)) => {
             pairs.clear();

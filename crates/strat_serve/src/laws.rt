@@ -11,6 +11,7 @@ ghost use Rattle.def_crash.specs.Moments.{Exposes, Images, Since};
 ghost use Rattle.def_crash.specs.Trail.{At};
 ghost use Rattle.def_bytes.specs.Layout.{region_at, other_region};
 ghost use Rattle.def_bytes.specs.SuperBlock.{Super, newest_in};
+ghost use Rattle.strat_model.specs.Faults.{fault_told};
 ghost use Rattle.strat_model.specs.declared.ended.Ended.{Ended};
 ghost use Rattle.strat_model.specs.declared.ended.Ended.TheVariants as ended;
 ghost use Rattle.strat_model.specs.declared.replies.Refusal.{Refusal};
@@ -34,7 +35,7 @@ ghost use Rattle.strat_store.specs.Applying.{is_fault};
 ghost use Rattle.strat_open.specs.Following.{IsOpenedAs, LeavesOpening};
 ghost use Rattle.strat_memory.specs.Held.{Held, IsConsistent, IsOnDisk, arrays_held};
 ghost use Rattle.strat_store.specs.Ranging.{HasPairsFor};
-ghost use Rattle.strat_serve.specs.Session.{Begins, AreCalm, FollowsContinued, FollowsRun, IsSession, IsTaggedFor, RespondsTo, SendsAllButBatch, SendsAllButLast, Served, Session, WasPublished, all_responses, fault_told};
+ghost use Rattle.strat_serve.specs.Session.{Begins, AreCalm, FollowsContinued, FollowsRun, IsSession, IsTaggedFor, RespondsTo, SendsAllButBatch, SendsAllButLast, Served, Session, WasPublished, all_responses};
 ghost use Rattle.strat_serve.specs.Tables.{AnswersAsTable, EndsAtTables, GoesThroughTables, KeepsSpace, begins_at};
 ghost use Rattle.strat_serve.specs.World.{Streams, beside};
 

@@ -4,44 +4,21 @@ ghost use Rattle.std.specs.Prelude.{◌≡◌, ◌≢◌, ◌<◌, ◌≤◌, �
 ghost use Rattle.def_crash.specs.Faults.{CountsFaults};
 ghost use Rattle.def_crash.specs.Moments.{Passes};
 ghost use Rattle.strat_io.specs.Streams.{Appends};
-ghost use Rattle.strat_open.specs.Causes.{ended_for};
 ghost use Rattle.strat_memory.specs.Held.{IsConsistent};
-ghost use Rattle.strat_serve.specs.Session.{Took, IsAtEnd, SendsPrefix, RunOutcome, RefusesFor, IsEarlyEnd, EndHasCause, HasOpened, Served, broken_by};
+ghost use Rattle.strat_serve.specs.Session.{Took, IsAtEnd, SendsPrefix, RunOutcome, RefusesFor, IsEarlyEnd, EndHasCause, HasOpened, Served};
 ghost use Rattle.strat_serve.specs.World.{world};
 
 use crate::answering::{Buffers, answer_frame, refuse_long};
 use std::alloc::Global;
-use strat_base::{Failed, Fault};
+use strat_base::Failed;
 use strat_disk::Disk;
 use strat_frame::{Next, OutBuf};
 use strat_io::{Sink, Source, put_all};
 use strat_model::Ended;
-use strat_store::{AttachFault, Store};
+use strat_store::Store;
 
 /// Most bytes that are read at a time.
 const PIECE: usize = 4096;
-
-/// How a run ends whose opening gave up.
-fn ended_for(fault: AttachFault) -> Ended
-    ensures { result ≡ ended_for fault }
-{
-    match fault {
-        AttachFault::NotAStore => Ended::NotAStore,
-        AttachFault::Device => Ended::Device,
-        AttachFault::Damaged { block } => Ended::Damaged { block },
-        AttachFault::NoMemory => Ended::NoMemory,
-    }
-}
-
-/// How a run ends whose store met a fault.
-fn broken_by(fault: Fault) -> Ended
-    ensures { result ≡ broken_by fault }
-{
-    match fault {
-        Fault::Device => Ended::Device,
-        Fault::Damaged { block } => Ended::Damaged { block },
-    }
-}
 
 /// Reads at most so many bytes into the front of a piece.
 fn read_piece<S: Source>(source: &mut S, piece: &mut [u8], most: usize) -> Result<usize, Failed>
@@ -135,7 +112,7 @@ fn serve_frames<S: Source, K: Sink, D: Disk>(
                     return Ended::Sink;
                 };
                 if let Some(fault) = met {
-                    return broken_by(fault);
+                    return Ended::from(fault);
                 }
             }
             Next::NotYet => {
@@ -194,7 +171,7 @@ pub fn serve<S: Source, K: Sink, D: Disk>(
     };
     let mut store = match Store::attach(alloc, disk) {
         Ok(store) => store,
-        Err(fault) => return ended_for(fault),
+        Err(fault) => return Ended::from(fault),
     };
     serve_frames(&mut store, &mut buffers, source, sink, disk, budget)
 }

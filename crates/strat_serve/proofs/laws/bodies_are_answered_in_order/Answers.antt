@@ -1,8 +1,9 @@
 use Rattle.std.proofs.Common.{◌≡◌, Option, subst}
 use Rattle.std.specs.Prelude.{IfSome, IsSome}
+use Rattle.strat_model.specs.Faults.{fault_told}
 use Rattle.strat_model.specs.Run.{Response}
 use Rattle.strat_serve.proofs.TableLemmas.{calm_at, fits_at, fits_few}
-use Rattle.strat_serve.specs.Session.{all_responses, fault_told}
+use Rattle.strat_serve.specs.Session.{all_responses}
 use Rattle.strat_serve.proofs.laws.bodies_are_answered_in_order.Goals as goal
 
 pub returns-clause-each : goal.returns-clause-each

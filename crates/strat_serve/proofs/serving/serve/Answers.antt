@@ -13,12 +13,12 @@ shown g source sink disk = world (g.S.Source.left source) (g.S.Source.faults sou
 
 pub returns-in-Err-clause-ok : goal.returns-in-Err-clause-ok
 returns-in-Err-clause-ok g c =
-    inl (gave_up c.ended_for.result c.in-Err.fault (shown g c.args.source.now c.args.sink.now c.args.disk.now) (g.D.Disk.view c.attach.new.disk) (g.D.Disk.faults c.attach.new.disk)
-    c.ended_for.ensures (λ e. c.in-Err.ensures.err (ap (λ (x : AttachFault). Err x) e)) c.in-Err.ensures.same (λ b e. c.in-Err.ensures.damaged b (ap (λ (x : AttachFault). Err x) e)))
+    inl (gave_up c.from.result c.in-Err.fault (shown g c.args.source.now c.args.sink.now c.args.disk.now) (g.D.Disk.view c.attach.new.disk) (g.D.Disk.faults c.attach.new.disk)
+    c.from.ensures (λ e. c.in-Err.ensures.err (ap (λ (x : AttachFault). Err x) e)) c.in-Err.ensures.same (λ b e. c.in-Err.ensures.damaged b (ap (λ (x : AttachFault). Err x) e)))
 
 pub returns-in-Err-clause-found : goal.returns-in-Err-clause-found
 returns-in-Err-clause-found g c =
-    gave_up_for c.ended_for.result c.in-Err.fault (g.D.Disk.view c.args.disk.now) (g.D.Disk.view c.attach.new.disk) c.ended_for.ensures
+    gave_up_for c.from.result c.in-Err.fault (g.D.Disk.view c.args.disk.now) (g.D.Disk.view c.attach.new.disk) c.from.ensures
     (λ e. c.in-Err.ensures.none (ap (λ (x : AttachFault). Err x) e)) (λ b e. c.in-Err.ensures.damaged b (ap (λ (x : AttachFault). Err x) e))
 
 -- what was served after the opening

@@ -62,13 +62,13 @@ returns-in-Some-clause-ok g c = λ d has.
     ends_broken c.args.store.now s.store c.answer_frame-met.new.store s.taken c.args.budget s.buffers.frames.held c.next.new.self.held c.next.new.self.body c.answer_frame-met.result c.answer_frame-met.new.out
     (shown g c.args.source.now c.args.sink.now d) (shown g s.source s.sink s.disk) (shown g s.source c.send.new.sink c.answer_frame-met.new.disk)
     (s.invariant.progress d has) s.invariant.within (answered g sent) c.in-Frame.ensures.ok.0 c.in-Frame.ensures.ok.1 c.in-Frame.ensures.fits
-    c.in-Some.fault c.in-Some.is (passes_trans has.passes s.invariant.time) c.in-Ok.ensures.ok c.broken_by.result c.broken_by.ensures
+    c.in-Some.fault c.in-Some.is (passes_trans has.passes s.invariant.time) c.in-Ok.ensures.ok c.from.result c.from.ensures
 
 pub returns-in-Some-clause-cause : goal.returns-in-Some-clause-cause
 returns-in-Some-clause-cause g c =
     let s = c.loop-store in
     let cause = c.answer_frame-met.ensures.cause in
-    caused_by_fault c.broken_by.result c.in-Some.fault (shown g c.args.source.now c.args.sink.now c.args.disk.now) (shown g s.source c.send.new.sink c.answer_frame-met.new.disk) c.broken_by.ensures
+    caused_by_fault c.from.result c.in-Some.fault (shown g c.args.source.now c.args.sink.now c.args.disk.now) (shown g s.source c.send.new.sink c.answer_frame-met.new.disk) c.from.ensures
     (λ e. subst (λ (n : ℕ). Rose n (g.D.Disk.faults c.answer_frame-met.new.disk)) s.invariant.disk_same (cause.rose (c.in-Some.is ∙ ap (λ (x : Fault). Some x) e)))
     (λ other. cause.same (λ e. other (let same : Some c.in-Some.fault ≡ Some fault.Device = sym c.in-Some.is ∙ e in cc)) ∙ s.invariant.disk_same)
     s.invariant.source_same (c.in-Ok.ensures.cause.ok ∙ s.invariant.sink_same)
