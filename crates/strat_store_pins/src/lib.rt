@@ -3,6 +3,7 @@
 
 #![tactic(auto)]
 
+pub mod answering;
 pub mod asking;
 pub mod cursors;
 pub mod keeping;
