@@ -1,7 +1,7 @@
 //! What a run over a disk that shows a table is said to have answered, and what a store is said to tell on any disk: each
 //! fact of these, used once. Each is the contract of a function that does nothing.
 
-ghost use Rattle.std.specs.Prelude.{◌≡◌, ◌≢◌, ◌≤◌, ◌<◌, ◌++◌, ℕ, List, [], Option, length, Bool, true, false, None};
+ghost use Rattle.std.specs.Prelude.{◌≡◌, ◌≢◌, ◌≤◌, ◌<◌, ◌++◌, ℕ, List, [], Option, length, Bool, true, false, Some, None};
 ghost use Rattle.def_crash.specs.Image.{Image};
 ghost use Rattle.strat_cursor.specs.Cursors.{is_opened};
 ghost use Rattle.strat_base.specs.Tree.{is_known};
@@ -16,8 +16,11 @@ ghost use Rattle.strat_model.specs.declared.ended.Ended.TheVariants as ended;
 ghost use Rattle.strat_model.specs.declared.replies.Refusal.TheVariants as why;
 ghost use Rattle.strat_model.specs.declared.replies.Reply.TheVariants as reply;
 ghost use Rattle.def_publish.specs.Standing.{ShowsTable};
+ghost use Rattle.def_recovery.specs.Opening.{reads_as};
+ghost use Rattle.def_state.specs.State.{State, IsPaid};
 ghost use Rattle.strat_memory.specs.Held.{Held};
 ghost use Rattle.strat_memory.specs.Memory.{info_told, stat_told};
+ghost use Rattle.strat_memory.specs.Paying.{IsPaidIn};
 ghost use Rattle.strat_serve.specs.Session.{Took, IsAtEnd, too_long_bytes};
 ghost use Rattle.strat_serve.specs.Tables.{AnswersAllTaken, AnswersAsTable, AnswersNothing, AnswersUntil, AnswersUntilCut, AnswersUntilFault, RefusesNext, begins_at};
 ghost use Rattle.strat_serve.specs.World.{Streams};
@@ -68,6 +71,13 @@ pub fn each_end_says_what_was_answered()
         × AnswersAllTaken run taken rest sent [] × (ending_of rest ≢ Long))
         × (AnswersUntil ended.NoMemory budget run taken left sent
         → AnswersNothing run taken sent) }
+{}
+
+/// A state that is read from bytes which are paid for is paid for. What a source leaves stays unknown if it was.
+pub fn bytes_that_are_paid_for_and_sources_that_hide()
+    ensures paid { (c : Image) (s : State) → IsPaidIn c → reads_as c ≡ Some s → IsPaid s }
+    ensures none { (before now : Option (List ℕ)) (taken : List ℕ) → Took before now taken
+        → before ≡ None → now ≡ None }
 {}
 
 /// What memory decides is told on any disk, whatever its arrays are: that a version or a cursor is not there, its place in
