@@ -129,16 +129,20 @@ pub fn runs_that_use_one_region_stay_below_it()
         ≡ x.at ∷ after ∷ h.done ∷ [] }
 {}
 
-/// A batch of two changes that fails leaves the tables before it, between them and behind both; the second body is one that was
-/// carried out as the table says, and at most fifteen follow the first.
-pub fn batches_go_through_the_tables_between()
-    ensures tables { (x y : Exchange) (after end : Position) (h : Interruption)
-        → tables_continued (record { exchanges = x ∷ []; after = after; interruption = Some h })
-        (y ∷ []) end
-        ≡ bare x.at.table ∷ bare after.table ∷ bare y.at.table ∷ bare end.table ∷ [] }
-    ensures none { (x y : Exchange) (after end : Position)
-        → tables_continued (record { exchanges = x ∷ []; after = after; interruption = None })
-        (y ∷ []) end ≡ bare x.at.table ∷ bare after.table ∷ [] }
+/// A batch of changes that fails leaves the table before it or the one after all of it, and none between. The second body is one
+/// that was carried out as the table says, at most fifteen follow the first, and that one asked for a change.
+pub fn batches_leave_all_or_nothing()
+    ensures tables { (x : Exchange) (after end : Position) (h : Interruption)
+        → tables_continued (record { exchanges = x ∷ []; after = after; interruption = Some h }) end
+        ≡ bare x.at.table ∷ bare after.table ∷ bare end.table ∷ [] }
+    ensures none { (x : Exchange) (after end : Position)
+        → tables_continued (record { exchanges = x ∷ []; after = after; interruption = None }) end
+        ≡ bare x.at.table ∷ bare after.table ∷ [] }
+    ensures change { (mem : ℕ) (xs : List Exchange) (after : Position) (h : Interruption)
+        (y : Exchange)
+        (c : Continuation mem (record { exchanges = xs; after = after; interruption = Some h }))
+        → c.more ≡ y ∷ [] → (r : Request) × Spells h.body h.response.tag r
+        × (is_carried_out after r ≡ true) }
     ensures next { (mem : ℕ) (xs : List Exchange) (after : Position) (h : Interruption)
         (y : Exchange)
         (c : Continuation mem (record { exchanges = xs; after = after; interruption = Some h }))

@@ -176,16 +176,16 @@ pub fn one_region_leaves_one_fill()
 {}
 
 /// A run may be continued over nothing, and has its own tables then, as each run has that was not interrupted. A continued run goes
-/// through its own tables up to its interruption, and then through sixteen at most.
+/// through its own tables up to its interruption, and then to that after the whole batch at once.
 pub fn continued_runs_begin_with_their_own_tables()
     ensures none { (mem : ℕ) (t : Transcript)
         → (c : Continuation mem t) × (c.more ≡ [])
-        × (tables_continued t c.more c.end ≡ tables_of t) }
-    ensures same { (t : Transcript) (more : List Exchange) (end : Position)
-        → t.interruption ≡ None → tables_continued t more end ≡ tables_of t }
-    ensures front { (t : Transcript) (more : List Exchange) (end : Position)
-        → take (length t.exchanges + 1) (tables_continued t more end)
+        × (tables_continued t c.end ≡ tables_of t) }
+    ensures same { (t : Transcript) (end : Position)
+        → t.interruption ≡ None → tables_continued t end ≡ tables_of t }
+    ensures front { (t : Transcript) (end : Position)
+        → take (length t.exchanges + 1) (tables_continued t end)
         ≡ take (length t.exchanges + 1) (tables_of t) }
-    ensures few { (mem : ℕ) (t : Transcript) (c : Continuation mem t)
-        → length (tables_continued t c.more c.end) ≤ length t.exchanges + 17 }
+    ensures few { (t : Transcript) (end : Position)
+        → length (tables_continued t end) ≤ length t.exchanges + 2 }
 {}

@@ -334,7 +334,7 @@ pub record FollowsContinued (before now : DiskView) (f : Image) (mem : ℕ) (s :
   pub continued : Continuation mem transcript
   pub next : take (length (bodies_of transcript) + length continued.more) s.bodies
       ≡ bodies_of transcript ++ map (λ x. x.body) continued.more
-  pub follows : FollowsFrom before now f (tables_continued transcript continued.more continued.end)
+  pub follows : FollowsFrom before now f (tables_continued transcript continued.end)
       (length transcript.exchanges)
 
 -- a serving run opened the store, and ended so

@@ -198,5 +198,5 @@ pub fn a_run_of_single_changes_is_one_of_batches<D: Viewed>()
     ensures left { (d e : D) (f image : Image) (mem : ℕ) (s : Session) (run : Transcript)
         (c : FollowsContinued (D.view d) (D.view e) f mem s run) → Images (D.view e) image
         → (i : ℕ) × (length run.exchanges ≤ i)
-        × At (tables_continued run c.continued.more c.continued.end) i (ShowsTable image) }
+        × At (tables_continued run c.continued.end) i (ShowsTable image) }
 {}
