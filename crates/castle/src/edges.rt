@@ -8,6 +8,7 @@ use std::fmt::Display;
 use std::fs::{Metadata, OpenFile, OpenOptions};
 use std::io;
 use std::io::{BufRead, ErrorKind, Lines, Read, Seek, SeekFrom, Write};
+use std::os::unix::fs::FileExt;
 use std::path::PathBuf;
 use std::rt::{Env, Files};
 
@@ -153,29 +154,36 @@ struct Opened<'a> {
     account: &'a Account,
 }
 
+impl FileExt for Opened<'_> {
+    fn read_at(&self, _buf: &mut [u8], _offset: u64) -> io::Result<usize> {
+        Ok(0)
+    }
+
+    fn write_at(&self, buf: &[u8], _offset: u64) -> io::Result<usize> {
+        self.account.add(b'w');
+        Ok(buf.len())
+    }
+}
+
 impl Read for Opened<'_> {
     fn read(&mut self, _buf: &mut [u8]) -> io::Result<usize> {
-        Ok(0)
+        Err(ErrorKind::Unsupported.into())
     }
 }
 
 impl Write for Opened<'_> {
-    fn write(&mut self, buf: &[u8]) -> io::Result<usize> {
-        self.account.add(b'w');
-        Ok(buf.len())
+    fn write(&mut self, _buf: &[u8]) -> io::Result<usize> {
+        Err(ErrorKind::Unsupported.into())
     }
 
     fn flush(&mut self) -> io::Result<()> {
-        Ok(())
+        Err(ErrorKind::Unsupported.into())
     }
 }
 
 impl Seek for Opened<'_> {
-    fn seek(&mut self, to: SeekFrom) -> io::Result<u64> {
-        match to {
-            SeekFrom::Start(at) => Ok(at),
-            _ => Err(ErrorKind::Unsupported.into()),
-        }
+    fn seek(&mut self, _to: SeekFrom) -> io::Result<u64> {
+        Err(ErrorKind::Unsupported.into())
     }
 }
 

@@ -14,6 +14,7 @@ use links::file_of;
 use program::{run, status_text};
 use std::fs::OpenOptions;
 use std::io::{Eprint, ErrorKind, Input, Print};
+use std::os::unix::fs::FileExt;
 use std::process::ExitCode;
 use std::rt::{Env, Files};
 use std::{env, io};
@@ -45,7 +46,10 @@ fn open_folder<R: Files>(rt: &R) -> io::Result<R::File> {
 }
 
 /// Runs the program over the standard streams and the file at a path.
-fn run_over<R: Input + Print + Files + AllocGlobal>(rt: &R, words: &[String], path: &str) -> u8 {
+fn run_over<R: Input + Print + Files + AllocGlobal>(rt: &R, words: &[String], path: &str) -> u8
+where
+    R::File: FileExt,
+{
     run(
         rt.alloc(),
         words,
@@ -56,7 +60,10 @@ fn run_over<R: Input + Print + Files + AllocGlobal>(rt: &R, words: &[String], pa
 }
 
 /// Runs the program over the standard streams and the file that its arguments name.
-fn start<R: Env + Input + Print + Files + AllocGlobal>(rt: &R) -> u8 {
+fn start<R: Env + Input + Print + Files + AllocGlobal>(rt: &R) -> u8
+where
+    R::File: FileExt,
+{
     let words = match program_arguments(rt) {
         Ok(words) => words,
         Err(ended) => return ended.status(),

@@ -8,12 +8,13 @@ use crate::faults::fault;
 use crate::one_file::OneFile;
 use std::io;
 use std::marker::Model;
+use std::os::unix::fs::FileExt;
 use std::rt::Files;
 use strat_base::Failed;
 
 /// One file, by its path, that is opened at the first call and created where it is absent.
 ///
-/// A read or a write is a seek and a transfer. The first sync also syncs the folder that names the file, so that a
+/// A read or a write is one transfer at its offset. The first sync also syncs the folder that names the file, so that a
 /// new file is still there after a power loss, and fails where the path is a symbolic link, which does not name that
 /// folder; after a sync that failed each one fails. It exposes no content, and is seen as its count of faults.
 #[derive(Drop)]
@@ -30,7 +31,10 @@ impl<'a, R: Files> Model for FileDisk<'a, R> {
     ghost view = { λ d. d.faults };
 }
 
-impl<'a, R: Files> FileDisk<'a, R> {
+impl<'a, R: Files> FileDisk<'a, R>
+where
+    R::File: FileExt,
+{
     /// The file of this path, which has not failed. Nothing is touched yet.
     pub fn new(rt: &'a R, path: &'a str) -> FileDisk<'a, R>
         ensures { result ≡ 0 }
@@ -53,7 +57,10 @@ fn counted(done: io::Result<()>, faults: &mut u64) -> Result<(), Failed>
     }
 }
 
-impl<R: Files> Disk for FileDisk<'_, R> {
+impl<R: Files> Disk for FileDisk<'_, R>
+where
+    R::File: FileExt,
+{
     ghost view = { λ d. hidden };
 
     ghost faults = { λ d. d };

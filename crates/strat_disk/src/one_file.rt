@@ -1,7 +1,8 @@
 //! One file, opened when it is first used.
 use std::fs::{OpenFile, OpenOptions};
 use std::io;
-use std::io::{ErrorKind, Read, Seek, SeekFrom, Write};
+use std::io::ErrorKind;
+use std::os::unix::fs::FileExt;
 use std::path::Path;
 use std::rt::Files;
 
@@ -15,7 +16,11 @@ pub struct OneFile<'a, R: Files> {
     sync_failed: bool,
 }
 
-impl<'a, R: Files> OneFile<'a, R> {
+impl<'a, R: Files> OneFile<'a, R>
+where
+    R::File: FileExt,
+{
+    /// The file of this path. Nothing is touched yet.
     pub fn new(rt: &'a R, path: &'a str) -> OneFile<'a, R> {
         OneFile {
             rt,
@@ -29,19 +34,17 @@ impl<'a, R: Files> OneFile<'a, R> {
     /// Fills `into` from this offset on, and what lies after the file's end with zeros.
     pub fn read(&mut self, at: u64, into: &mut [u8]) -> io::Result<()> {
         self.open()?;
-        match &mut self.file {
+        match &self.file {
             Some(file) => read_from(file, at, into),
             None => Err(ErrorKind::NotFound.into()),
         }
     }
 
+    /// Writes all of these bytes from this offset on.
     pub fn write(&mut self, at: u64, bytes: &[u8]) -> io::Result<()> {
         self.open()?;
-        match &mut self.file {
-            Some(file) => {
-                file.seek(SeekFrom::Start(at))?;
-                file.write_all(bytes)
-            }
+        match &self.file {
+            Some(file) => file.write_all_at(bytes, at),
             None => Err(ErrorKind::NotFound.into()),
         }
     }
@@ -94,14 +97,13 @@ fn create<R: Files>(rt: &R, path: &str) -> io::Result<R::File> {
         .open(rt, path)
 }
 
-fn read_from<F: Read + Seek>(file: &mut F, at: u64, into: &mut [u8]) -> io::Result<()> {
-    file.seek(SeekFrom::Start(at))?;
+fn read_from<F: FileExt>(file: &F, at: u64, into: &mut [u8]) -> io::Result<()> {
     let mut done = 0;
     for _ in 0..u64::MAX {
         if done == into.len() {
             break;
         }
-        match file.read(&mut into[done..]) {
+        match file.read_at(&mut into[done..], at.saturating_add(done as u64)) {
             Ok(0) => break,
             Ok(n) => done += n,
             Err(e) if e.kind() == ErrorKind::Interrupted => {}

@@ -3,6 +3,7 @@
 ghost use Rattle.std.specs.Prelude.{◌≤◌};
 
 use std::fs;
+use std::os::unix::fs::FileExt;
 use std::rt::Files;
 use std::test::Fail;
 use strat_base::Failed;
@@ -143,12 +144,18 @@ fn a_fuse_passes_its_calls(rt: HostRuntime) -> Result<(), Fail> {
 }
 
 /// Whether a new file takes bytes.
-fn is_made<R: Files>(rt: &R, name: &str) -> bool {
+fn is_made<R: Files>(rt: &R, name: &str) -> bool
+where
+    R::File: FileExt,
+{
     stores(&mut FileDisk::new(rt, name), 4, &[1, 2, 3])
 }
 
 /// Whether a second opening reads what the first wrote, and zeros far behind it, and writes over it.
-fn is_opened_again<R: Files>(rt: &R, name: &str) -> bool {
+fn is_opened_again<R: Files>(rt: &R, name: &str) -> bool
+where
+    R::File: FileExt,
+{
     let mut disk = FileDisk::new(rt, name);
     gives(&mut disk, 2, [0, 0, 1, 2, 3])
         && gives(&mut disk, 90, [0; 5])

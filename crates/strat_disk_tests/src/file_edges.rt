@@ -5,6 +5,7 @@ use std::cell::Cell;
 use std::fs::{Metadata, OpenFile, OpenOptions};
 use std::io;
 use std::io::{ErrorKind, Read, Seek, SeekFrom, Write};
+use std::os::unix::fs::FileExt;
 use std::rt::Files;
 use strat_disk::{Disk, FileDisk};
 
@@ -56,54 +57,54 @@ fn rise(count: &Cell<u64>) {
     count.set(count.get().saturating_add(1));
 }
 
-/// An open file, or an open folder, of a made-up system. A read or a write moves one byte.
+/// An open file, or an open folder, of a made-up system. A read or a write moves one byte, and has to name its offset.
 #[derive(Drop)]
 struct Opened<'a> {
     system: &'a System,
-    at: usize,
+}
+
+impl FileExt for Opened<'_> {
+    fn read_at(&self, buf: &mut [u8], offset: u64) -> io::Result<usize> {
+        self.system.call()?;
+        let bytes = self.system.bytes.get();
+        if buf.is_empty() || offset >= bytes.len() as u64 {
+            return Ok(0);
+        }
+        buf[0] = bytes[offset as usize];
+        Ok(1)
+    }
+
+    fn write_at(&self, buf: &[u8], offset: u64) -> io::Result<usize> {
+        self.system.call()?;
+        let mut bytes = self.system.bytes.get();
+        if buf.is_empty() || offset >= bytes.len() as u64 {
+            return Ok(0);
+        }
+        bytes[offset as usize] = buf[0];
+        self.system.bytes.set(bytes);
+        Ok(1)
+    }
 }
 
 impl Read for Opened<'_> {
-    fn read(&mut self, buf: &mut [u8]) -> io::Result<usize> {
-        self.system.call()?;
-        let bytes = self.system.bytes.get();
-        if buf.is_empty() || self.at >= bytes.len() {
-            return Ok(0);
-        }
-        buf[0] = bytes[self.at];
-        self.at += 1;
-        Ok(1)
+    fn read(&mut self, _buf: &mut [u8]) -> io::Result<usize> {
+        Err(ErrorKind::Unsupported.into())
     }
 }
 
 impl Write for Opened<'_> {
-    fn write(&mut self, buf: &[u8]) -> io::Result<usize> {
-        self.system.call()?;
-        let mut bytes = self.system.bytes.get();
-        if buf.is_empty() || self.at >= bytes.len() {
-            return Ok(0);
-        }
-        bytes[self.at] = buf[0];
-        self.system.bytes.set(bytes);
-        self.at += 1;
-        Ok(1)
+    fn write(&mut self, _buf: &[u8]) -> io::Result<usize> {
+        Err(ErrorKind::Unsupported.into())
     }
 
     fn flush(&mut self) -> io::Result<()> {
-        Ok(())
+        Err(ErrorKind::Unsupported.into())
     }
 }
 
 impl Seek for Opened<'_> {
-    fn seek(&mut self, to: SeekFrom) -> io::Result<u64> {
-        self.system.call()?;
-        match to {
-            SeekFrom::Start(at) => {
-                self.at = at as usize;
-                Ok(at)
-            }
-            _ => Err(ErrorKind::Unsupported.into()),
-        }
+    fn seek(&mut self, _to: SeekFrom) -> io::Result<u64> {
+        Err(ErrorKind::Unsupported.into())
     }
 }
 
@@ -157,7 +158,6 @@ impl<'a> Files for Handle<'a> {
         self.system.call()?;
         Ok(Opened {
             system: self.system,
-            at: 0,
         })
     }
 
@@ -244,23 +244,23 @@ fn each_sync_reaches_the_file_and_the_first_its_folder(rt: HostRuntime) {
 }
 
 /// What succeeds where one call of the system fails, and how many syncs of the file and of the folder are asked for.
-/// The calls are: open, seek, three writes; seek, three reads, a read at the end; a sync, a look at the path, open the
-/// folder, its sync; a sync; a sync.
+/// The calls are: open, three writes; three reads, a read at the end; a sync, a look at the path, open the folder, its
+/// sync; a sync; a sync.
 fn wanted(failing: u64) -> ([bool; 5], u64, u64) {
     match failing {
-        1..=5 => ([false, true, true, true, true], 3, 1),
-        6..=10 => ([true, false, true, true, true], 3, 1),
-        11..=13 => (NO_SYNC, 1, 0),
-        14 => (NO_SYNC, 1, 1),
-        15 => ([true, true, true, false, false], 2, 1),
-        16 => ([true, true, true, true, false], 3, 1),
+        1..=4 => ([false, true, true, true, true], 3, 1),
+        5..=8 => ([true, false, true, true, true], 3, 1),
+        9..=11 => (NO_SYNC, 1, 0),
+        12 => (NO_SYNC, 1, 1),
+        13 => ([true, true, true, false, false], 2, 1),
+        14 => ([true, true, true, true, false], 3, 1),
         _ => (ALL, 3, 1),
     }
 }
 
 #[test]
 fn one_call_that_fails_is_one_fault_and_after_a_sync_it_lasts(rt: HostRuntime) {
-    for failing in 1..=17 {
+    for failing in 1..=15 {
         let (want, file_syncs, folder_syncs) = wanted(failing);
         assert!(rt; goes(Manner { failing, ..SOUND }, want, file_syncs, folder_syncs));
     }
@@ -269,13 +269,13 @@ fn one_call_that_fails_is_one_fault_and_after_a_sync_it_lasts(rt: HostRuntime) {
 #[test]
 fn a_transfer_or_a_sync_that_is_interrupted_is_done_again(rt: HostRuntime) {
     for (failing, file_syncs, folder_syncs) in [
-        (3, 3, 1),
+        (2, 3, 1),
+        (4, 3, 1),
         (5, 3, 1),
-        (7, 3, 1),
-        (10, 3, 1),
-        (11, 4, 1),
-        (14, 3, 2),
-        (16, 4, 1),
+        (8, 3, 1),
+        (9, 4, 1),
+        (12, 3, 2),
+        (14, 4, 1),
     ] {
         let manner = Manner {
             failing,
