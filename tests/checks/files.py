@@ -96,7 +96,7 @@ def a_served_store_takes_the_memory_that_is_said(folder):
     mem, versions = 4096, 16384
     store = StoreFile(folder, mem, 2 ** 24, versions)
     puts = b"".join(put(i, struct.pack(">I", i) + bytes(251), bytes(1024)) for i in range(mem))
-    said = 1_300_000 + 5_300 * mem
+    said = 1_800_000 + 5_300 * mem
     serving = peak_of(store.path, puts, mem)
     if serving > said:
         raise Wrong(f"a store takes {serving:,} bytes while it is filled, said are {said:,}")

@@ -9,6 +9,7 @@ pub mod HoldLemmas
 pub mod JoinLemmas
 pub mod KeptLemmas
 pub mod LawLemmas
+pub mod LyingLemmas
 pub mod NumberLemmas
 pub mod OrderLemmas
 pub mod PlaceLemmas

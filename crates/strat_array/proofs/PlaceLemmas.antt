@@ -1,5 +1,5 @@
 -- The place that a search ends with.
-use Rattle.std.proofs.Common.{◌≡◌, ◌<◌, ◌≤◌, ◌+◌, ◌-◌, ◌*◌, ℕ, zero, suc, true, get_or, inl, inr, List, [], ◌∷◌, length, Option, Some, None, refl, sym, ap, ◌∙◌, subst, arith, true≢false}
+use Rattle.std.proofs.Common.{◌≡◌, ◌<◌, ◌≤◌, ◌+◌, ◌-◌, ◌*◌, ℕ, zero, suc, true, get_or, inl, inr, List, [], ◌∷◌, length, Some, refl, sym, ap, ◌∙◌, subst, arith, true≢false}
 use Rattle.std.specs.List.{filter, list_all, slice_get}
 use Rattle.std.proofs.lemmas.Bool.{and_parts, and_from, cases_lt}
 use Rattle.strat_base.specs.declared.limits.TheConstants.{BLOCK}
@@ -8,7 +8,8 @@ use Rattle.def_crash.specs.Image.{Image, window}
 use Rattle.strat_array.specs.declared.place.Place.{Place}
 use Rattle.strat_array.specs.Blocks.{lists_on}
 use Rattle.strat_array.specs.Left.{all_in, left_at, has_entry, is_from, starts_below, Bound}
-use Rattle.strat_array.specs.Steps.{left_from, FirstIn, IsPlaceFrom, IsSettled}
+use Rattle.strat_block.specs.Places.{IsFirstFrom}
+use Rattle.strat_array.specs.Steps.{left_from, IsSettled}
 use Rattle.strat_array.proofs.BlockFacts.{block_filled}
 use Rattle.strat_array.proofs.KeptLemmas.{listed_parts}
 use Rattle.strat_array.proofs.SeekLemmas.{none_dropped, sought_left}
@@ -57,27 +58,23 @@ module _ (key : List ℕ) (lists : List (List Entry)) (filled : list_all has_ent
     again : Bound key (n - 1 + 1) lists
     again = subst (λ (i : ℕ). Bound key i lists) one bound
 
-    pub sought_behind : is_ascending (all_in lists) ≡ true → (r : Option ℕ) (place : Place) → FirstIn key (get_or lists (n - 1) []) r → IsPlaceFrom n r place → left_from lists place ≡ filter (is_from key) (all_in lists)
-    sought_behind up None place first is =
+    -- the place at the start of the block after the last that begins below a key, where that ends below it
+    pub sought_past : is_ascending (all_in lists) ≡ true → (place : Place) → IsFirstFrom key (get_or lists (n - 1) []) (length (get_or lists (n - 1) [])) → place.block ≡ n → place.index ≡ 0 → left_from lists place ≡ filter (is_from key) (all_in lists)
+    sought_past up place first block index =
         let within : n - 1 < length lists = omega (arith, bound.within) in
-        (λ j. left_at lists (block_is j) (is.1 j))
+        (λ j. left_at lists (block_is j) (index j))
         ∙ sym (left_past lists (n - 1) (length (get_or lists (n - 1) [])) (get_or lists (n - 1) []) (get_of lists (n - 1) [] within) (omega arith))
         ∙ sought_left key (n - 1) (length (get_or lists (n - 1) [])) lists up filled within again first
       where
         block_is : place.block ≡ n - 1 + 1
-        block_is = is.0 ∙ one
-    sought_behind up (Some i) place first is =
+        block_is = block ∙ one
+
+    -- the place within the last block that begins below a key
+    pub sought_inside : is_ascending (all_in lists) ≡ true → (i : ℕ) (place : Place) → IsFirstFrom key (get_or lists (n - 1) []) i → place.block + 1 ≡ n → place.index ≡ i → left_from lists place ≡ filter (is_from key) (all_in lists)
+    sought_inside up i place first block index =
         let within : n - 1 < length lists = omega (arith, bound.within) in
-        (λ j. left_at lists (block_is j) (is.1 j))
-        ∙ sought_left key (n - 1) i lists up filled within again first.0
+        (λ j. left_at lists (block_is j) (index j))
+        ∙ sought_left key (n - 1) i lists up filled within again first
       where
         block_is : place.block ≡ n - 1
-        block_is = let e : place.block + 1 ≡ n = is.0 in omega (arith, e)
-
-    pub settled_behind : (r : Option ℕ) (place : Place) → FirstIn key (get_or lists (n - 1) []) r → IsPlaceFrom n r place → IsSettled lists place
-    settled_behind None place first is = settled_at_start n bound.within place is.0 is.1
-    settled_behind (Some i) place first is =
-        let e : place.block + 1 ≡ n = is.0 in
-        let block_is : place.block ≡ n - 1 = omega (arith, e) in
-        let same = ap (λ (k : ℕ). length (get_or lists k [])) block_is in
-        inl (omega (arith, same, is.1, first.1))
+        block_is = omega (arith, block)

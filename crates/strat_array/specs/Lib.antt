@@ -1,6 +1,7 @@
 pub mod Blocks
 pub mod Kept
 pub mod Left
+pub mod Lying
 pub mod NumberFields
 pub mod Progress
 pub mod Pushed

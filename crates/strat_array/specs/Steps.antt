@@ -1,7 +1,6 @@
 -- Places of entries, as a walk over an array steps from one to the next.
 use Rattle.std.specs.Prelude.{◌≡◌, ◌<◌, ℕ, ◌+◌, ◌-◌, if◌then◌else◌, is_some, ◌⊎◌, List, [], ◌∷◌, length, slice_index_or, Option, Some, None}
 use Rattle.strat_base.specs.Entries.{Entry}
-use Rattle.strat_block.specs.Places.{IsFirstFrom}
 use Rattle.strat_array.specs.Kept.{Kept, held_block}
 use Rattle.strat_array.specs.Left.{left_at}
 use Rattle.strat_array.specs.declared.place.Place.{Place}
@@ -31,16 +30,6 @@ GoesOn old new =
 abbrev pub Settles : List (List Entry) → Place → Option Place → Type 0
 Settles lists place None = left_from lists place ≡ []
 Settles lists place (Some at) = left_from lists place ≡ left_from lists at
-
--- the index of the first entry of a block from a key on
-abbrev pub FirstIn : List ℕ → List Entry → Option ℕ → Type 0
-FirstIn key entries None = IsFirstFrom key entries (length entries)
-FirstIn key entries (Some i) = IsFirstFrom key entries i × (i < length entries)
-
--- the place of an index in the last of n blocks, or else at the start of the block after them
-abbrev pub IsPlaceFrom : ℕ → Option ℕ → Place → Type 0
-IsPlaceFrom n None place = (place.block ≡ n) × (place.index ≡ 0)
-IsPlaceFrom n (Some i) place = (place.block + 1 ≡ n) × (place.index ≡ i)
 
 -- a place is that of an entry, or the end: past the last block
 abbrev pub IsSettled : List (List Entry) → Place → Type 0

@@ -3,6 +3,7 @@
 
 mod blocks;
 mod cache;
+mod hints;
 pub mod laws;
 mod lookup;
 mod numbers;

@@ -145,7 +145,7 @@ pub fn find<D: Disk>(
         → IsNoBlock (D.view disk.old).content (blocks_of desc.now.extents) b }
     ensures cause { HasCause Device (D.faults disk.old) (D.faults disk.new) result }
     ensures reads { (n : ℕ) → length (blocks_of desc.now.extents) < 2 ^ n
-        → ReadsAtMost (n + 1 + length (blocks_of desc.now.extents))
+        → ReadsAtMost (n + 4 + length (blocks_of desc.now.extents))
         (D.reads disk.old) (D.reads disk.new) }
 {
     let _versions = tree.count();

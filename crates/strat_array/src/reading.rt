@@ -21,35 +21,35 @@ use strat_block::BlockView;
 use strat_disk::Disk;
 
 /// Sees to it that a block of an array is kept. Where it isn't yet, that is one read, one pass over its bytes and a
-/// copy into the cache.
+/// copy into the cache, which remembers how the block begins.
 pub(crate) fn ensure_block<D: Disk>(
     disk: &mut D,
     cache: &mut Cache,
-    array: u64,
+    desc: &ArrayDesc,
     index: u32,
     block: u32,
     scratch: &mut Scratch,
 ) -> Result<(), Fault>
-    requires fits { block < 2 ^ 32 - 1 }
-    ensures found { OnOk result (IsSome (kept_block cache.new scratch.new array index)) }
-    ensures none { IsSome (kept_block cache.old scratch.old array index)
+    requires fits { (block < 2 ^ 32 - 1) × AreWithin desc.now.extents }
+    ensures found { OnOk result (IsSome (kept_block cache.new scratch.new desc.now.id index)) }
+    ensures none { IsSome (kept_block cache.old scratch.old desc.now.id index)
         → OnOk result (D.reads disk.new ≡ D.reads disk.old) }
     ensures same { (blocks : List ℕ) → slice_get blocks index ≡ Some block
-        → Looks (D.view disk.old) (D.view disk.new) array blocks
+        → Looks (D.view disk.old) (D.view disk.new) desc.now.id blocks
         cache.old cache.new scratch.old scratch.new }
     ensures damaged { (b : ℕ) → IsErrOf result (Damaged b) → (b ≡ block)
         × ((f : Image) → Exposes (D.view disk.old) f → block_on f block ≡ None) }
     ensures cause { HasCause Device (D.faults disk.old) (D.faults disk.new) result }
     ensures reads { ReadsAtMost 1 (D.reads disk.old) (D.reads disk.new) }
 {
-    if scratch.is_held(array, index) {
+    if scratch.is_held(desc.id, index) {
         return Ok(());
     }
-    if cache.touch(array, index) {
+    if cache.touch(desc.id, index) {
         return Ok(());
     }
-    scratch.fetch(disk, array, index, block)?;
-    cache.insert(array, index, &scratch.block());
+    scratch.fetch(disk, desc.id, index, block)?;
+    cache.insert(desc, index, &scratch.block());
     Ok(())
 }
 
@@ -92,5 +92,5 @@ pub(crate) fn ensure_block_at<D: Disk>(
     ensures reads { ReadsAtMost 1 (D.reads disk.old) (D.reads disk.new) }
 {
     let block = block_at(desc.extents.as_slice(), index).unwrap();
-    ensure_block(disk, cache, desc.id, index, block, scratch)
+    ensure_block(disk, cache, desc, index, block, scratch)
 }

@@ -63,7 +63,7 @@ fn load_scratch<D: Disk>(
     let Some(block) = block_at(desc.extents.as_slice(), index) else {
         return Ok(false);
     };
-    ensure_block(disk, cache, desc.id, index, block, scratch)?;
+    ensure_block(disk, cache, desc, index, block, scratch)?;
     copy_from_cache(cache, desc.id, index, scratch);
     Ok(true)
 }

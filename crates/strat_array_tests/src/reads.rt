@@ -289,7 +289,8 @@ fn places_are_those_of_keys(rt: HostRuntime) -> Result<(), Fail> {
     Ok(())
 }
 
-/// Whether look-ups of many entries, each with a new cache, read seven blocks at most, and none again.
+/// Whether look-ups of many entries, each with a new cache, read seven blocks at most, and none again: of fewer than 2^6
+/// blocks halving looks at six, and the key may go on in one more. A new cache has no hints.
 fn reads_few(
     alloc: Global,
     disk: &mut MemDisk,
@@ -324,6 +325,48 @@ fn a_look_up_reads_few_blocks_and_none_again(rt: HostRuntime) -> Result<(), Fail
             &mut s.out
         )?
     );
+    Ok(())
+}
+
+/// Whether a look-up of an entry in the midst of each block finds it.
+fn finds_in_each(
+    disk: &mut MemDisk,
+    cache: &mut Cache,
+    desc: &ArrayDesc,
+    tree: &Tree,
+    scratch: &mut Scratch,
+    out: &mut PairBuf,
+) -> bool
+    requires fits { AreWithin desc.now.extents }
+    requires kept { 7 ≤ length tree.now.parents }
+{
+    for index in 0..40 {
+        let n = live_number(FULL * index / 3 + 12, 0);
+        if !finds(disk, cache, desc, tree, 0, scratch, out, Shape::Many, n) {
+            return false;
+        }
+    }
+    true
+}
+
+#[test]
+fn hints_lead_to_the_block(rt: HostRuntime) -> Result<(), Fail> {
+    let mut s = many(rt.alloc())?;
+    // The walk reads each of the 40 blocks, and one stays.
+    let mut cache = Cache::new(rt.alloc(), 1)?;
+    assert!(rt; walks(&mut s.disk, &mut cache, &s.desc, &mut s.scratch));
+    assert!(rt;
+        finds_in_each(
+            &mut s.disk,
+            &mut cache,
+            &s.desc,
+            &s.tree,
+            &mut s.scratch,
+            &mut s.out
+        )
+    );
+    // Then each look-up reads one.
+    assert!(rt; s.disk.reads() == 40 + 40);
     Ok(())
 }
 

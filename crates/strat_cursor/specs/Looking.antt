@@ -105,13 +105,13 @@ abbrev pub HaveFewBlocks : ℕ → List ArrayDesc → Type 0
 HaveFewBlocks n arrays =
     (a : ArrayDesc) → Contains arrays a → length (blocks_of a.extents) < 2 ^ n
 
--- how many blocks of arrays are read at most, each of fewer than 2^n: n + 1 by a search, and each once more
+-- how many blocks of arrays are read at most, each of fewer than 2^n: n + 4 by a search, and each once more
 abbrev pub reads_of_arrays : ℕ → List ArrayDesc → ℕ
 reads_of_arrays n [] = 0
 reads_of_arrays n (a ∷ arrays) =
-    n + 1 + length (blocks_of a.extents) + reads_of_arrays n arrays
+    n + 4 + length (blocks_of a.extents) + reads_of_arrays n arrays
 
--- of these arrays no more is read: in each a search, n + 1 of its blocks where it has fewer than 2^n, and each block once more
+-- of these arrays no more is read: in each a search, n + 4 of its blocks where it has fewer than 2^n, and each block once more
 abbrev pub ReadsArrays : List ArrayDesc → ℕ → ℕ → Type 0
 ReadsArrays arrays before now =
     (n : ℕ) → HaveFewBlocks n arrays → ReadsAtMost (reads_of_arrays n arrays) before now

@@ -153,4 +153,4 @@ reads_left (source.Array a) position =
 abbrev pub reads_of_source : ℕ → Source → ℕ
 reads_of_source n source.None = 0
 reads_of_source n (source.Zero list) = 0
-reads_of_source n (source.Array a) = n + 1 + length (blocks_of a.now.extents)
+reads_of_source n (source.Array a) = n + 4 + length (blocks_of a.now.extents)

@@ -145,7 +145,7 @@ fn scan_sources<D: Disk>(
 
 /// The first pairs of a version from `lo` on and below `hi`, or without an upper bound where `hi` is empty: at most
 /// `limit` of them are put into `out`. Answers whether there are others in the range. Of each level one array is read at
-/// most: in one of fewer than 2^n blocks a search reads n + 1 of them, and each block is read once more.
+/// most: in one of fewer than 2^n blocks a search reads n + 4 of them at most, and each block is read once more.
 pub fn scan<D: Disk>(
     disk: &mut D,
     cache: &mut Cache,

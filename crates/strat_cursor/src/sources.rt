@@ -205,12 +205,12 @@ fn begin_place<D: Disk>(
         → IsNoBlock (D.view disk.old).content (blocks_of desc.now.extents) b }
     ensures cause { HasCause Device (D.faults disk.old) (D.faults disk.new) result }
     ensures reads { (n : ℕ) → length (blocks_of desc.now.extents) < 2 ^ n
-        → ReadsAtMost (n + 1 + length (blocks_of desc.now.extents))
+        → ReadsAtMost (n + 4 + length (blocks_of desc.now.extents))
         (D.reads disk.old) (D.reads disk.new) }
     ensures room { IfOk result (λ r. (n : ℕ) → length (blocks_of desc.now.extents) < 2 ^ n
         → D.reads disk.new
         + blocks_behind scratch.new desc.now.id (length (blocks_of desc.now.extents)) r
-        ≤ D.reads disk.old + (n + 1 + length (blocks_of desc.now.extents))) }
+        ≤ D.reads disk.old + (n + 4 + length (blocks_of desc.now.extents))) }
 {
     let place = seek(disk, cache, desc, query.lo, scratch)?;
     stand_place(disk, cache, desc, query, &[], place, scratch)

@@ -139,7 +139,7 @@ few_asked n parents levels number v few = by (asked_of_level parents levels numb
     by (Some b) is a there = few a (subst (λ (x : ArrayDesc). Contains (arrays_asked parents levels v) x) (sym (only b a there)) (asked_among parents levels number v b is))
 
 -- and is read no more than it may be
-pub one_read : (n : ℕ) (a : ArrayDesc) (before now : ℕ) → ReadsAtMost (n + 1 + length (blocks_of a.extents)) before now → ReadsAtMost (reads_of_arrays n (a ∷ [])) before now
+pub one_read : (n : ℕ) (a : ArrayDesc) (before now : ℕ) → ReadsAtMost (n + 4 + length (blocks_of a.extents)) before now → ReadsAtMost (reads_of_arrays n (a ∷ [])) before now
 one_read n a before now reads = record { later = reads.later; bound = omega (arith, reads.bound) }
 
 -- where the whole of the levels was passed, nothing is found

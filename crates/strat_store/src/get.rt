@@ -41,7 +41,7 @@ fn reply_of_get(found: Result<Seen, Fault>) -> Reply
 
 /// What a store says of a key at a version; a value's pair is put into `out`, which has none. Level 0 is asked first,
 /// and then the levels, of each one array at most, until one says something: in an array of fewer than 2^n blocks a search
-/// reads n + 1 of them, and each block is read once more at most. It takes no memory but for blocks that are cached.
+/// reads n + 4 of them at most, and each block is read once more at most. It takes no memory but for blocks that are cached.
 /// UnknownVersion: there is no such version, and nothing was read. DeviceFault: the disk counted a fault. Damaged: this
 /// block of one of the arrays is no block of entries.
 pub(crate) fn get<D: Disk>(

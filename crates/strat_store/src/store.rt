@@ -252,7 +252,7 @@ impl Store {
     /// are merged are read twice, the new arrays and the manifest are written once, and there are five syncs at most. That takes
     /// memory before anything of the store is replaced, and where there is none the answer is `NoMemory`, and the store is as it
     /// was. A get asks level 0, and then in each level one array at most, by a binary search of its blocks; a scan goes through
-    /// level 0 and one array of each level, pair by pair. Either reads in an array of fewer than 2^n blocks n + 1 of them to search,
+    /// level 0 and one array of each level, pair by pair. Either reads in an array of fewer than 2^n blocks n + 4 at most to search,
     /// and each once more at most, and of an array that is not asked at the version none. These take no memory but for blocks that
     /// are cached. An opening of a cursor copies where level 0's pairs stand, 12 bytes an item, and at most 22 descriptors, and
     /// reads no block: `NoMemory` where there is none. The pairs it shares: a level 0 that was emptied keeps its memory while a

@@ -28,8 +28,7 @@ pub fn the_map_of_a_version_is_asked()
         → answer ≡ as_told (reply.Pairs false) ((97 ∷ [], 49 ∷ []) ∷ []) }
 {}
 
-/// A get and a scan read the array of their version, a page those of its cursor, and each block of them twice at most, in one
-/// of fewer than two.
+/// A get and a scan read the array of their version, a page those of its cursor, and of an array of one block six at most.
 #[tactic(auto, unfolding(strat_base::specs::Tree::climb))]
 pub fn look_ups_read_their_arrays()
     ensures ok { (arrays_wanted children_apart (Get 1 []) ≡ array_in 5 1 7 ∷ [])
@@ -39,7 +38,7 @@ pub fn look_ups_read_their_arrays()
         × (arrays_wanted children_apart (Get 3 []) ≡ [])
         × (arrays_wanted children_apart (NextPairs 4 1) ≡ [])
         × (arrays_wanted children_apart Stat ≡ []) }
-    ensures reads { reads_of_arrays 1 (array_in 5 1 7 ∷ array_in 6 2 8 ∷ []) ≡ 6 }
+    ensures reads { reads_of_arrays 1 (array_in 5 1 7 ∷ array_in 6 2 8 ∷ []) ≡ 12 }
 {}
 
 /// Fewer than a power of two is less than it.

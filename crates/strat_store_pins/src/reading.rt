@@ -17,11 +17,11 @@ pub fn a_wrong_cached_block_bars_its_own_versions_alone()
     ensures none { ¬ AreReadAs one_block (with_cached 5 children_apart) 1 }
 {}
 
-/// A search in an array of one block reads two, and the look-up one once more; of no array nothing is read. The count never
-/// falls.
-pub fn an_array_of_one_block_takes_three_reads()
+/// A search in an array of one block reads five at most, and the look-up one once more; of no array nothing is read. The
+/// count never falls.
+pub fn an_array_of_one_block_takes_six_reads()
     ensures ok { (before now : ℕ) → ReadsArrays (array_in 5 1 7 ∷ []) before now
-        → (before ≤ now) × (now ≤ before + 3) }
+        → (before ≤ now) × (now ≤ before + 6) }
     ensures none { (before now : ℕ) → ReadsArrays [] before now → now ≤ before }
 {}
 

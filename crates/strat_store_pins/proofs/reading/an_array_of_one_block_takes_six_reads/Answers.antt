@@ -3,7 +3,7 @@ use Rattle.strat_base.specs.declared.descriptors.ArrayDesc.{ArrayDesc}
 use Rattle.strat_cursor.proofs.PickLemmas.{only}
 use Rattle.def_bytes.specs.Arrays.{blocks_of}
 use Rattle.strat_store_pins.specs.Examples.{array_in}
-use Rattle.strat_store_pins.proofs.reading.an_array_of_one_block_takes_three_reads.Goals as goal
+use Rattle.strat_store_pins.proofs.reading.an_array_of_one_block_takes_six_reads.Goals as goal
 
 one_block_each : (a : ArrayDesc) → Contains (array_in 5 1 7 ∷ []) a → length (blocks_of a.extents) < 2 ^ 1
 one_block_each a among = subst (λ (b : ArrayDesc). length (blocks_of b.extents) < 2 ^ 1) (sym (only (array_in 5 1 7) a among)) (let less : 1 < 2 = omega arith in less)
