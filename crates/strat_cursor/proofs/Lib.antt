@@ -21,3 +21,4 @@ pub mod RetiredLemmas
 pub mod RowLemmas
 pub mod StartLemmas
 pub mod TableRows
+pub mod ThereLemmas

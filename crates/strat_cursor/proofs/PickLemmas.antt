@@ -258,7 +258,7 @@ IsNumbered view v i s = IsOfView view v s × ((f : Image) → content_of f view.
 pub sources_of : (view : View) (v : ℕ) (sources : List Source) → HaveNumbers view.levels → length sources ≡ 24 → ((i : ℕ) (s : Source) → slice_get sources i ≡ Some s → IsNumbered view v i s) → AreSourcesOf view v sources
 unfolding all_places all_arrays
 sources_of view v sources have count each = record {
-  count = count;
+  few = omega (arith, count);
   each = λ i s at. (each i s at).0;
   arrays = joined_same sources (all_arrays view v) same ∙ joined_picks view.tree.now.parents view.levels v;
   seen = λ f key. first_same view.tree.now.parents v key (map (content_of f view.pool.now) sources) (all_places f view v) (λ i. alike f i) ∙ seen_places f view v key;

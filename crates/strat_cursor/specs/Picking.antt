@@ -58,10 +58,10 @@ pub record IsOfView (view : View) (v : ℕ) (s : Source) : Type 0 where
   pub read : MayBeRead view.pool.now s
   pub there : (a : ArrayDesc) → Contains (arrays_at s) a → Contains (arrays_read view v) a
 
--- these are the sources of a view at a version: each is of the view, they have the arrays that are read,
--- and look-ups through them find what look-ups through the view do
+-- these are the sources of a view at a version, as many as there is room for at most: each is of the view, they
+-- have the arrays that are read, and look-ups through them find what look-ups through the view do
 pub record AreSourcesOf (view : View) (v : ℕ) (sources : List Source) : Type 0 where
-  pub count : length sources ≡ 24
+  pub few : length sources ≤ 24
   pub each : (i : ℕ) (s : Source) → slice_get sources i ≡ Some s → IsOfView view v s
   pub arrays : flat_map arrays_at sources ≡ arrays_read view v
   pub seen : (f : Image) (key : List ℕ)

@@ -1,5 +1,5 @@
 -- The places that a range is read from, each with the entries that it has left.
-use Rattle.std.specs.Prelude.{◌≡◌, ◌<◌, ℕ, ◌+◌, ◌-◌, ◌*◌, ◌^◌, ⊤, Bool, false, if◌then◌else◌, List, [], ◌∷◌, length, drop, find, slice_get, Option, None, Some, option_and_then, unwrap_or, IfSome, IsTrue}
+use Rattle.std.specs.Prelude.{◌≡◌, ◌<◌, ℕ, ◌+◌, ◌-◌, ◌*◌, ◌^◌, ⊤, Bool, true, false, if◌then◌else◌, List, [], ◌∷◌, length, drop, find, slice_get, Option, None, Some, option_and_then, unwrap_or, IfSome, IsTrue}
 use Rattle.std.specs.List.{list_all}
 use Rattle.strat_arena.specs.declared.pool.PoolEntry.{PoolEntry}
 use Rattle.strat_array.specs.Blocks.{lists_on}
@@ -37,6 +37,12 @@ is_due parents v last e = if is_after last e.key then is_ancestor parents e.vers
 -- the lists of an array's blocks in an image, or none where a block is no block of entries
 abbrev pub lists_of : Image → ArrayDesc → List (List Entry)
 lists_of f a = unwrap_or (lists_on f (blocks_of a.extents)) []
+
+-- a source is a place, which the one that stands for none is not
+abbrev pub is_place : Source → Bool
+is_place source.None = false
+is_place (source.Zero list) = true
+is_place (source.Array a) = true
 
 -- the arrays of a source: one, or none
 abbrev pub arrays_at : Source → List ArrayDesc

@@ -1,7 +1,7 @@
 //! The sources of a view at a version.
 
 ghost use Rattle.std.specs.Option.{option_copied};
-ghost use Rattle.std.specs.Prelude.{◌≡◌, ◌<◌, ◌+◌, length};
+ghost use Rattle.std.specs.Prelude.{◌≡◌, ◌≤◌, ◌<◌, ◌+◌, length, take};
 ghost use Rattle.def_crash.specs.Image.{Image};
 ghost use Rattle.strat_cursor.specs.Picking.{array_picked, arrays_numbered, HaveNumbers, content_at, IsOfView, AreSourcesOf};
 ghost use Rattle.strat_cursor.specs.Sources.{arrays_at, content_of};
@@ -11,7 +11,7 @@ use crate::sources::Source;
 use crate::view::{Picked, View};
 use strat_base::{ArrayDesc, Version};
 
-/// How many sources a range has: level 0, the sealed one, and an array of each level.
+/// How many sources a range may have: level 0, the sealed one, and an array of each level.
 pub(crate) const SOURCES: usize = 24;
 
 /// The array that is asked at a version in the level of a number, counted from 0, or of a cursor's arrays the one of
@@ -58,17 +58,30 @@ fn source_at<'a>(view: &View<'a>, v: Version, i: usize) -> Source<'a>
     }
 }
 
-/// The sources of a view at a version. O(log versions_max) for each level.
-pub(crate) fn pick<'a>(view: &View<'a>, v: Version) -> [Source<'a>; SOURCES]
+/// The sources that a view has at a version: the first `count` of these places.
+#[derive(Clone, Copy)]
+pub(crate) struct Sources<'a> {
+    pub(crate) places: [Source<'a>; SOURCES],
+    pub(crate) count: usize,
+}
+
+/// The sources that a view has at a version. O(log versions_max) for each level.
+pub(crate) fn pick<'a>(view: &View<'a>, v: Version) -> Sources<'a>
     requires kept { ViewStands view.now }
     requires fits { v < length view.now.tree.now.parents }
-    ensures ok { AreSourcesOf view.now v result }
+    ensures ok { AreSourcesOf view.now v (take result.count result.places) }
+    ensures fits { (result.count ≤ 24) × (length result.places ≡ 24) }
 {
     // How many levels there are is known where one is asked for an array.
     let _first = array_at(view, v, 0);
-    let mut sources = [Source::None; SOURCES];
+    let mut places = [Source::None; SOURCES];
+    let mut count = 0;
     for i in 0..SOURCES {
-        sources[i] = source_at(view, v, i);
+        let source = source_at(view, v, i);
+        if source.is_place() {
+            places[count] = source;
+            count += 1;
+        }
     }
-    sources
+    Sources { places, count }
 }

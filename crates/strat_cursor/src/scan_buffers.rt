@@ -51,7 +51,7 @@ impl SourcePosition {
 }
 
 /// Room for a scan, which takes no memory itself: for each place that a range may be read from a position, on which one
-/// block is at hand, a tournament of these places, and the key that was handled last. 98,304 bytes for blocks, and
+/// block is at hand, the nodes of a tournament, and the key that was handled last. 98,304 bytes for blocks, and
 /// less than 4,096 for the rest.
 #[derive(Drop)]
 pub struct ScanBuffers {

@@ -21,7 +21,7 @@ use crate::picking::pick;
 use crate::query::Query;
 use crate::scan_buffers::{ScanBuffers, SourcePosition};
 use crate::sources::begin;
-use crate::tournament::Heads;
+use crate::tournament::{Heads, seat};
 use crate::view::View;
 use strat_array::Cache;
 use strat_base::{Fault, PairBuf, Version};
@@ -137,8 +137,12 @@ fn scan_sources<D: Disk>(
         → ReadsAtMost (sum_by (reads_of_source n) query.now.sources.now)
         (D.reads disk.old) (D.reads disk.new) }
 {
+    let count = query.sources.len();
+    let positions = &mut positions[..count];
+    let winners = &mut winners[..2 * count];
     last.clear();
     begin_all(disk, cache, query, positions)?;
+    seat(winners, count);
     play_all(&Heads { query, positions }, winners);
     tell_all(disk, cache, query, last, positions, winners, out)
 }
@@ -174,13 +178,13 @@ pub fn scan<D: Disk>(
     ensures reads { ReadsArrays (arrays_read view.now version)
         (D.reads disk.old) (D.reads disk.new) }
 {
-    let sources = pick(view, version);
+    let picked = pick(view, version);
     let told = scan_sources(
         disk,
         cache,
         &Query {
             view,
-            sources: &sources,
+            sources: &picked.places[..picked.count],
             version,
             lo,
             hi,

@@ -19,7 +19,7 @@ ghost use Rattle.strat_level.specs.Memtable.{ListStands, entries_held};
 ghost use Rattle.strat_array.specs.Steps.{blocks_ahead, left_from, HoldsPlace};
 ghost use Rattle.strat_cursor.specs.Ahead.{is_after};
 ghost use Rattle.strat_cursor.specs.Queries.{pool_asked, tree_asked};
-ghost use Rattle.strat_cursor.specs.Sources.{MayBeRead, HasHead, first_at_source, entry_held, is_due, arrays_at, left_at_source, steps_left, reads_left, reads_of_source, IsSettledAt, IsUpTo, IsSpent, MayBeBegun, StandsIn, left_behind, places_ahead, blocks_behind, PassesUndue};
+ghost use Rattle.strat_cursor.specs.Sources.{is_place, MayBeRead, HasHead, first_at_source, entry_held, is_due, arrays_at, left_at_source, steps_left, reads_left, reads_of_source, IsSettledAt, IsUpTo, IsSpent, MayBeBegun, StandsIn, left_behind, places_ahead, blocks_behind, PassesUndue};
 
 use crate::query::Query;
 use crate::scan_buffers::SourcePosition;
@@ -38,6 +38,15 @@ pub enum Source<'a> {
     Zero(&'a ZeroView),
     /// An array.
     Array(&'a ArrayDesc),
+}
+
+impl Source<'_> {
+    /// Whether it is a place. O(1).
+    pub(crate) fn is_place(&self) -> bool
+        ensures ok { result ≡ is_place self.now }
+    {
+        !matches!(self, Source::None)
+    }
 }
 
 /// The item at a place of level 0, if there is one. O(1).

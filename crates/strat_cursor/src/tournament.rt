@@ -1,9 +1,9 @@
 //! The sources of a query in a tournament: the one whose first key is least wins, and of equal keys the first source.
 
-ghost use Rattle.std.specs.Prelude.{◌≡◌, ◌<◌, length, option_map, IfSome, Some, IsTrue};
+ghost use Rattle.std.specs.Prelude.{◌≡◌, ◌<◌, ◌*◌, length, option_map, IfSome, Some, IsTrue};
 ghost use Rattle.strat_base.specs.EntryBytes.{fits_fields};
 ghost use Rattle.strat_base.specs.EntryView.{entry_of};
-ghost use Rattle.strat_merge.specs.Bracket.{is_ahead};
+ghost use Rattle.strat_merge.specs.Bracket.{is_ahead, IsBracket};
 ghost use Rattle.strat_cursor.specs.Contenders.{head_in, keyed, AreAtHand};
 ghost use Rattle.strat_cursor.specs.Queries.{pool_asked};
 
@@ -37,6 +37,16 @@ fn is_before(e: &Entry<'_>, a: usize, f: &Entry<'_>, b: usize) -> bool
         (Some (keyed (entry_of f.now))) b }
 {
     key_order(e.key, f.key).then(a.cmp(&b)).is_lt()
+}
+
+/// Seats so many contenders in a tournament: no node but the leaves is played yet. O(contenders).
+pub(crate) fn seat(winners: &mut [usize], contenders: usize)
+    requires room { length winners.old ≡ 2 * contenders }
+    ensures ok { IsBracket contenders winners.new }
+{
+    for k in 0..winners.len() {
+        winners[k] = k.saturating_sub(contenders);
+    }
 }
 
 /// The sources of a query as they contend: each by the first entry that it has left.

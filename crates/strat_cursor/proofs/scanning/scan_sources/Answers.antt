@@ -1,6 +1,5 @@
 use Rattle.std.proofs.Common.{List, ℕ, sym, subst, ◌∙◌}
 use Rattle.strat_base.proofs.ResultFacts.{if_ok_then}
-use Rattle.strat_merge.specs.Bracket.{IsBracket}
 use Rattle.strat_cursor.specs.Emitting.{AreUpTo}
 use Rattle.strat_cursor.proofs.TournamentLemmas.{contenders_bracket}
 use Rattle.strat_cursor.proofs.ThroughLemmas.{through_trans}
@@ -13,8 +12,7 @@ play_all-requires-clause-kept g c = at_hand _ _ _ _ _ c.in_ok-begin_all.ensures.
 
 pub play_all-requires-clause-found : goal.play_all-requires-clause-found
 play_all-requires-clause-found g c =
-    contenders_bracket _ _ _ c.args.winners.now c.in_ok-begin_all.ensures.kept.same
-    (subst (λ n. IsBracket n c.args.winners.now) (sym c.requires.same.count) c.requires.kept.1)
+    contenders_bracket _ _ _ c.seat.new.winners c.in_ok-begin_all.ensures.kept.same c.seat.ensures.ok
 
 pub returns-clause-ok : goal.returns-clause-ok
 returns-clause-ok g c =
