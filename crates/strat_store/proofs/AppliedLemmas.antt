@@ -15,6 +15,7 @@ use Rattle.strat_cursor.specs.Held.{AreRowsOf, HeldCursor, HeldCursors}
 use Rattle.def_bytes.specs.Arrays.{blocks_of}
 use Rattle.def_bytes.specs.Chained.{Chained}
 use Rattle.def_bytes.specs.Manifest.{Manifest}
+use Rattle.strat_promote.specs.Job.{blocks_listed}
 use Rattle.strat_model.specs.Answer.{Answer, accepts, plain}
 use Rattle.strat_model.specs.Pairs.{Pairs, set, unset}
 use Rattle.strat_model.specs.Run.{Position, is_carried_out, is_change, takes_memory}
@@ -34,11 +35,11 @@ use Rattle.strat_publish.specs.Settling.{HasPublished, KeepsPublished, LeavesPub
 use Rattle.strat_store.proofs.LeavingLemmas.{wanted_of}
 
 -- a table with other cursors
-abbrev beside : Table → List Cursor → ℕ → Table
+abbrev pub beside : Table → List Cursor → ℕ → Table
 beside t rows next = record t { cursors = rows; next_cursor = next }
 
 -- an outcome with other cursors
-abbrev outcome_beside : Outcome → List Cursor → ℕ → Outcome
+abbrev pub outcome_beside : Outcome → List Cursor → ℕ → Outcome
 outcome_beside o rows next = record { answer = o.answer; table = beside o.table rows next }
 
 update_beside : (t : Table) (rows : List Cursor) (next v : ℕ) (pairs : Pairs) → update (beside t rows next) v pairs ≡ outcome_beside (update t v pairs) rows next
@@ -78,7 +79,7 @@ clone_beside t rows next v = by (has_row t v) (eqb (length t.rows) t.versions_ma
     by true false false = refl
 
 -- a change does the same beside any cursors
-change_beside : (t : Table) (rows : List Cursor) (next : ℕ) (c : Change) → step (beside t rows next) (request_for c) ≡ outcome_beside (step t (request_for c)) rows next
+pub change_beside : (t : Table) (rows : List Cursor) (next : ℕ) (c : Change) → step (beside t rows next) (request_for c) ≡ outcome_beside (step t (request_for c)) rows next
 change_beside t rows next (change.Put v key value) = update_beside t rows next v (set key value (pairs_at t v))
 change_beside t rows next (change.Delete v key) = update_beside t rows next v (unset key (pairs_at t v))
 change_beside t rows next (change.Clone v) = clone_beside t rows next v
@@ -105,6 +106,17 @@ next_later s new (inl same) = let e : new.chained.manifest.next_array ≡ s.chai
 next_later s new (inr has) =
     let e : new.chained.manifest.next_array ≡ s.chained.manifest.next_array + length (arrays_made has.after.are.made) = ap (λ (k : Manifest). k.next_array) has.after.are.manifest_is in
     omega (arith, e)
+
+-- where the blocks of its arrays stay, what the cursors of a store had left stays, and they may go on
+module _ (f g : Image) (s : Held) (whole : IsConsistent s) (agree : AgreeOn (blocks_listed (arrays_held s.memory s.levels)) f g) where
+  named_agree : (a : ArrayDesc) → Contains (arrays_named s.memory.cursors.opened) a → AgreeOn (blocks_of a.extents) f g
+  named_agree a of = agree_of (arrays_held s.memory s.levels) f g a (whole.kept.named a of) agree
+
+  pub rows_kept : (rows : List Cursor) → AreRowsOf f s.memory.parents s.memory.cursors.opened rows → AreRowsOf g s.memory.parents s.memory.cursors.opened rows
+  rows_kept rows are = image_rows f g s.memory.parents s.memory.cursors.opened rows named_agree are
+
+  pub going_kept : (c : HeldCursor) → Contains s.memory.cursors.opened c → MayGoOn f s.chained.manifest.next_array c s.cached → MayGoOn g s.chained.manifest.next_array c s.cached
+  going_kept c of goes = goes_on_in f g s.chained.manifest.next_array c s.cached (λ a one. named_agree a (cursor_names s.memory.cursors.opened c a of one)) goes
 
 -- a store that stands after a change has the cursors that it had
 module _ (v now : DiskView) (s new : Held) (x : Contents) (rows : List Cursor) (c : Change) (answer : Answer) (carried : Bool) (whole : IsConsistent s) (at : StandsAt v s x rows)

@@ -46,16 +46,16 @@ use Rattle.def_state.specs.Level.{Level}
 use Rattle.def_state.specs.Sound.{is_accepted, are_accepted, accepts_change, Takes}
 use Rattle.def_state.specs.State.{tree_after, marks_after}
 use Rattle.strat_store.specs.Applying.{IsAppliedTo, FollowsStep, is_fault, ran_short, table_left}
-use Rattle.strat_memory.specs.Held.{AreKept, head_held, contents_held, IsConsistent, StandsWith, position_with}
+use Rattle.strat_memory.specs.Held.{AreKept, Held, head_held, contents_held, IsConsistent, StandsWith, position_with}
 use Rattle.strat_cursor.specs.Looking.{AreCachedFrom}
-use Rattle.strat_memory.specs.Memory.{KeepsRows, Memory, refusal_of_change, memory_after, reply_to, IsMemoryOf}
+use Rattle.strat_memory.specs.Memory.{HasRoomFor, KeepsRows, Memory, refusal_of_change, memory_after, reply_to, IsMemoryOf}
 use Rattle.strat_publish.specs.Publishing.{is_in_front}
 use Rattle.strat_memory.specs.Admitting.{chained_of}
 use Rattle.strat_memory.specs.RecoveredFields.{held_of}
 use Rattle.strat_store.specs.Applying.{held_after}
 use Rattle.strat_memory.specs.declared.open_store.OpenStore.{OpenStore}
 use Rattle.strat_publish.proofs.KeptLemmas.{named_behind}
-use Rattle.strat_memory.proofs.MemoryLawLemmas.{accepted_same, change_answered, change_taken, memory_follows}
+use Rattle.strat_memory.proofs.MemoryLawLemmas.{accepted_same, change_answered, change_taken, memory_follows, room_for}
 use Rattle.strat_base.specs.Marks.{Marks}
 
 -- a command that asks for a change reaches the disk, and is one
@@ -72,7 +72,7 @@ changes_it (change.Clone v) = refl
 changes_it (change.DropVersion v) = refl
 
 -- what is told of a change that is accepted is no refusal
-told_well : (m : Memory) (c : Change) → (accepts (reply_to m c) ≡ true) × (is_fault (reply_to m c) ≡ false) × (ran_short (reply_to m c) ≡ false)
+pub told_well : (m : Memory) (c : Change) → (accepts (reply_to m c) ≡ true) × (is_fault (reply_to m c) ≡ false) × (ran_short (reply_to m c) ≡ false)
 told_well m (change.Put v key value) = (refl, refl, refl)
 told_well m (change.Delete v key) = (refl, refl, refl)
 told_well m (change.Clone v) = (refl, refl, refl)
@@ -125,6 +125,15 @@ cached_still f g chained c agree was = record {
       let keeps : KeepsBlock block f g = agree block (among_contained _ block (among_right chained.blocks _ block named)) in
       ap block_in (window_same f g (4096 * block) 4096 keeps) ∙ was.same a index block x among there at;
 }
+
+-- so they are where the blocks behind the journal do
+pub cached_behind : (f g : Image) (s : Held) → IsConsistent s → KeepsTaken (is_in_front s.sb.mem) f g → AreCachedFrom f s.chained.manifest.next_array (descriptors s.chained.manifest) s.cached
+    → AreCachedFrom g s.chained.manifest.next_array (descriptors s.chained.manifest) s.cached
+cached_behind f g s whole keeps was = cached_still f g s.chained s.cached (λ b of. keeps b (le-ltb b (first_free s.sb.mem) (named_behind s whole b of))) was
+
+-- level 0 has room for a change where the journal has
+pub room_kept : (s : Held) → IsConsistent s → (c : Change) → length s.log.list < s.sb.mem → HasRoomFor s.memory c
+room_kept s whole c room = room_for (head_held s) s.memory whole.memory c room
 
 module _ (r : OpenStore) (cached : Blocks) (kept : IsConsistent (held_of r cached)) where
   -- the journal is that of the contents that the store holds
@@ -247,11 +256,8 @@ module _ (r : OpenStore) (cached : Blocks) (kept : IsConsistent (held_of r cache
           stands = record {
             stands = now;
             held = more_held j grown;
-            cached = cached_still stands.stands.content now.content (chained_of r.published) cached
-                (λ b named.
-                let behind = named_behind (held_of r cached) kept b named in
-                keeps stands.stands.content now.content stands.stands.exposed now.exposed b
-                (le-ltb b (first_free r.journal.mem) (omega (arith, behind, ap first_free kept.log.mem)))) stands.cached;
+            cached = cached_behind stands.stands.content now.content (held_of r cached) kept
+                (subst (λ (n : ℕ). KeepsTaken (is_in_front n) stands.stands.content now.content) kept.log.mem (keeps stands.stands.content now.content stands.stands.exposed now.exposed)) stands.cached;
           };
           place = record {
             table = sym (steps_to (contents_state x) c takes);

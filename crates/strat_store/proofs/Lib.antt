@@ -11,3 +11,5 @@ pub mod LoggingLemmas
 pub mod ChangingLemmas
 pub mod RenewingLemmas
 pub mod LeavingLemmas
+pub mod StagingLemmas
+pub mod CommitLemmas

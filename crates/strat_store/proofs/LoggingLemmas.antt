@@ -1,9 +1,9 @@
--- A change that joins the journal of contents.
-use Rattle.std.proofs.Common.{◌≡◌, ◌≤◌, ◌<◌, ◌+◌, true, inl, inr, List, [], ◌∷◌, ◌++◌, length, Some, sym, ap, ◌∙◌, subst, arith, length-append}
+-- Changes that join the journal of contents.
+use Rattle.std.proofs.Common.{◌≡◌, ◌≤◌, ◌<◌, ◌+◌, ℕ, true, inl, inr, List, [], ◌∷◌, ◌++◌, length, Some, refl, sym, ap, ◌∙◌, subst, arith, length-append}
 use Rattle.std.specs.List.{list_all}
-use Rattle.std.proofs.lemmas.Bool.{ltb-false}
-use Rattle.strat_base.specs.Change.{Change, change_bytes, is_lawful}
-use Rattle.strat_base.proofs.ChangeLemmas.{length-change_bytes}
+use Rattle.std.proofs.lemmas.Bool.{and_from, and_parts, ltb-false}
+use Rattle.std.proofs.lemmas.List.Folds.{list_all-append}
+use Rattle.strat_base.specs.Change.{Change, is_lawful}
 use Rattle.def_crash.specs.Blocks.{KeepsTaken}
 use Rattle.def_crash.specs.Image.{Image, patch}
 use Rattle.def_crash.specs.Moments.{DiskView, Exposes}
@@ -13,6 +13,7 @@ use Rattle.def_bytes.specs.Layout.{first_free}
 use Rattle.def_bytes.specs.Records.{records_bytes}
 use Rattle.strat_journal.specs.Log.{Log, Stands, HoldsBatch, batch_joined, gate_of}
 use Rattle.strat_journal.proofs.LaidLemmas.{length-records_bytes, region_takes}
+use Rattle.strat_model.specs.Table.{Table}
 use Rattle.def_meaning.specs.StateTable.{table_of}
 use Rattle.def_meaning.proofs.StateTableLemmas.{stays_sound}
 use Rattle.def_publish.specs.Appending.{IsLogOf, with_batch, AppendsBatch}
@@ -22,33 +23,51 @@ use Rattle.def_publish.proofs.AppendLemmas.{stands_journal, either_reads, either
 use Rattle.def_publish.proofs.PlaceLemmas.{places}
 use Rattle.def_state.specs.Sound.{IsSound, Takes}
 use Rattle.def_state.specs.State.{IsPaid}
-use Rattle.strat_memory.proofs.PayingLemmas.{paid_as, paid_appended}
-use Rattle.strat_memory.specs.Paying.{ArePaidSince}
+use Rattle.strat_memory.proofs.PayingLemmas.{paid_as, paid_appended, stored_since}
+use Rattle.strat_memory.specs.Paying.{ArePaidSince, StoreTwoSince}
 use Rattle.strat_publish.specs.Publishing.{is_in_front}
 
--- the record of a change behind the journal leaves alone the blocks behind the regions
-record_behind : (log : Log) (change : Change) (f : Image) → is_lawful change ≡ true → list_all is_lawful log.list ≡ true → length log.list < log.mem → log.active ≤ 1
-    → KeepsTaken (is_in_front log.mem) f (patch f (gate_of log) (records_bytes (change ∷ []) ++ 0 ∷ []))
-record_behind log change f lawful all room few b taken =
-    let p = places log.mem log.active few in
+-- the records of a batch behind the journal leave alone the blocks behind the regions
+batch_behind : (log : Log) (batch : List Change) (f : Image) → list_all is_lawful (log.list ++ batch) ≡ true → length log.list + length batch ≤ log.mem → log.active ≤ 1
+    → KeepsTaken (is_in_front log.mem) f (patch f (gate_of log) (records_bytes batch ++ 0 ∷ []))
+batch_behind log batch f lawful few active b taken =
+    let p = places log.mem log.active active in
     let far = ltb-false b (first_free log.mem) taken in
-    let out = outside_patch f (gate_of log) (records_bytes (change ∷ []) ++ 0 ∷ []) in
-    let text : length (records_bytes (change ∷ []) ++ 0 ∷ []) ≡ length (records_bytes (change ∷ [])) + 1 = length-append (records_bytes (change ∷ [])) (0 ∷ []) in
-    let bytes : length (records_bytes (change ∷ [])) ≡ length (change_bytes change) + 1 = omega (arith, length-append (change_bytes change) []) in
-    let short = length-records_bytes log.list all in
-    let most = length-change_bytes change lawful in
+    let out = outside_patch f (gate_of log) (records_bytes batch ++ 0 ∷ []) in
+    let text : length (records_bytes batch ++ 0 ∷ []) ≡ length (records_bytes batch) + 1 = length-append (records_bytes batch) (0 ∷ []) in
+    let both = and_parts (list_all is_lawful log.list) (list_all is_lawful batch) (sym (list_all-append is_lawful log.list batch) ∙ lawful) in
+    let one = length-records_bytes log.list both.0 in
+    let two = length-records_bytes batch both.1 in
     let takes = region_takes log.mem in
-    record { byte = λ i low high. out.above i (omega (arith, text, bytes, short, room, most, takes, p.in_front, far, low)) }
+    record { byte = λ i low high. out.above i (omega (arith, text, one, two, few, takes, p.in_front, far, low)) }
 
--- so does one that was appended
+-- so do those that were appended
+pub appended_behind : (old new : DiskView) (log : Log) → list_all is_lawful (log.list ++ log.batch) ≡ true → length log.list + length log.batch ≤ log.mem → log.active ≤ 1 → HoldsBatch old new log
+    → (f g : Image) → Exposes old f → Exposes new g → KeepsTaken (is_in_front log.mem) f g
+appended_behind old new log lawful few active holds f g told now =
+    let there : Some (patch f (gate_of log) (records_bytes log.batch ++ 0 ∷ [])) ≡ Some g = sym (holds.content f told) ∙ now in
+    let written : patch f (gate_of log) (records_bytes log.batch ++ 0 ∷ []) ≡ g = cc in
+    subst (λ (c : Image). KeepsTaken (is_in_front log.mem) f c) written (batch_behind log log.batch f lawful few active)
+
+-- what each image leaves is paid for while a batch is appended, and stores at most two entries for each update
+pub batch_paid : (old new : DiskView) (x : Contents) (log : Log) → ContentsStand old x → IsLogOf x log → AppendsBatch old new log → IsSound (contents_state (with_batch x log.batch)) → IsPaid (contents_state x)
+    → ArePaidSince new old.moment
+batch_paid old new x log s l appends sound paid c since = elim (either_reads old new x log s l appends sound c since) [
+  | inl none ↦ paid_as c x none paid
+  | inr all ↦ paid_as c (with_batch x log.batch) all (paid_appended x log.batch paid)
+]
+
+pub batch_stored : (v : DiskView) (start : ℕ) (tables : List Table) (n : ℕ) → Trail ShowsTable v start tables n → StoreTwoSince v start
+batch_stored = stored_since
+
+-- and one change
 pub logged_behind : (old new : DiskView) (log added : Log) (change : Change) → log.batch ≡ [] → added ≡ record log { batch = log.batch ++ change ∷ [] } → is_lawful change ≡ true
     → list_all is_lawful log.list ≡ true → length log.list < log.mem → log.active ≤ 1 → HoldsBatch old new added → (f g : Image) → Exposes old f → Exposes new g → KeepsTaken (is_in_front log.mem) f g
-logged_behind old new log added change none is lawful all room few holds f g told now =
-    let one : HoldsBatch old new (record log { batch = log.batch ++ change ∷ [] }) = subst (λ (j : Log). HoldsBatch old new j) is holds in
-    let there : Some (patch f (gate_of log) (records_bytes (log.batch ++ change ∷ []) ++ 0 ∷ [])) ≡ Some g = sym (one.content f told) ∙ now in
-    let written : patch f (gate_of log) (records_bytes (log.batch ++ change ∷ []) ++ 0 ∷ []) ≡ g = cc in
-    let same = ap (λ (cs : List Change). patch f (gate_of log) (records_bytes (cs ++ change ∷ []) ++ 0 ∷ [])) (sym none) ∙ written in
-    subst (λ (c : Image). KeepsTaken (is_in_front log.mem) f c) same (record_behind log change f lawful all room few)
+logged_behind old new log added change none is lawful all room few holds =
+    let one : added ≡ record log { batch = change ∷ [] } = is ∙ ap (λ (cs : List Change). record log { batch = cs ++ change ∷ [] }) none in
+    let each : list_all is_lawful (log.list ++ change ∷ []) ≡ true =
+    list_all-append is_lawful log.list (change ∷ []) ∙ and_from (list_all is_lawful log.list) (list_all is_lawful (change ∷ [])) all (and_from (is_lawful change) true lawful refl) in
+    appended_behind old new (record log { batch = change ∷ [] }) each (omega (arith, room)) few (subst (λ (j : Log). HoldsBatch old new j) one holds)
 
 module _ (old new : DiskView) (x : Contents) (log added : Log) (change : Change) (s : ContentsStand old x) (l : IsLogOf x log) (none : log.batch ≡ [])
     (is : added ≡ record log { batch = log.batch ++ change ∷ [] }) where
@@ -74,10 +93,7 @@ module _ (old new : DiskView) (x : Contents) (log added : Log) (change : Change)
 
     -- what each of them leaves is paid for
     pub logged_paid : IsPaid (contents_state x) → ArePaidSince new old.moment
-    logged_paid paid c since = elim (either_reads old new x added s added_of appends sound_added c since) [
-      | inl none ↦ paid_as c x none paid
-      | inr all ↦ paid_as c (with_batch x added.batch) all (paid_appended x added.batch paid)
-    ]
+    logged_paid = batch_paid old new x added s added_of appends sound_added
 
     -- and in the end the contents with the change stand
     pub logged_stands : (joined : Log) → joined ≡ batch_joined added → ((f : Image) → Exposes old f → Stands old added → Stands new joined) → LeavesContent new

@@ -1,5 +1,6 @@
 pub mod Getting
 pub mod Ranging
+pub mod Staging
 pub mod StoreFields
 pub mod Applying
 pub mod Cursoring

@@ -8,6 +8,8 @@ mod get;
 mod level_lookup;
 pub mod looking_laws;
 mod scan;
+mod staging;
+pub mod staging_laws;
 mod store;
 
 pub use store::Store;

@@ -1,11 +1,12 @@
 //! An open store: what it holds in memory of a disk, and how it carries out commands.
 
-ghost use Rattle.std.specs.Prelude.{◌≡◌, ◌≢◌, ◌≤◌, ◌+◌, ℕ, List, [], length, Some, None, Ok, Err, IfOk, IfErr, IsErrOf, true, false};
+ghost use Rattle.std.specs.Prelude.{◌≡◌, ◌≢◌, ◌<◌, ◌≤◌, ◌+◌, ℕ, List, [], length, Some, None, Ok, Err, IfOk, IfErr, IsErrOf, OnErr, OnOk, is_ok, true, false, slice_get};
 ghost use Rattle.strat_array.specs.Kept.{Blocks};
+ghost use Rattle.strat_base.specs.Change.{Change as TheChange};
 ghost use Rattle.strat_base.specs.ChangeView.{change_of};
 ghost use Rattle.strat_base.specs.Finds.{Finds};
 ghost use Rattle.strat_base.specs.Tree.{is_known};
-ghost use Rattle.def_crash.specs.Faults.{HasCause, ReadsAtMost};
+ghost use Rattle.def_crash.specs.Faults.{CountsFaults, HasCause, ReadsAtMost};
 ghost use Rattle.def_crash.specs.Image.{Image};
 ghost use Rattle.def_crash.specs.Moments.{Exposes, Passes};
 ghost use Rattle.def_bytes.specs.Chain.{chain_length};
@@ -17,16 +18,18 @@ ghost use Rattle.strat_model.specs.Table.{Cursor};
 ghost use Rattle.strat_model.specs.declared.replies.Refusal.TheVariants as why;
 ghost use Rattle.strat_model.specs.declared.replies.Reply.TheVariants as reply;
 ghost use Rattle.def_recovery.specs.Opening.{recover};
+ghost use Rattle.def_publish.specs.Appending.{with_batch};
 ghost use Rattle.def_publish.specs.Contents.{Contents};
 ghost use Rattle.strat_store.specs.Applying.{FollowsStep, FailsAsTold, IsUntouched, TellsTroubleOf, change_wanted, is_fault};
 ghost use Rattle.strat_publish.specs.Outcomes.{IsDamagedIn};
 ghost use Rattle.strat_store.specs.Cursoring.{IsAppliedAt, LeavesCursors, cursors_after};
 ghost use Rattle.strat_open.specs.Following.{IsOpenedAs, IsUnchanged, LeavesOpening};
 ghost use Rattle.strat_memory.specs.Held.{IsConsistent, StandsAt, StandsWith, arrays_held};
-ghost use Rattle.strat_memory.specs.Memory.{info_told};
+ghost use Rattle.strat_memory.specs.Memory.{KeepsRows, info_told};
 ghost use Rattle.strat_cursor.specs.Looking.{AreOfOldArrays, LooksThrough, ReadsArrays};
 ghost use Rattle.strat_memory.specs.Paying.{StoreTwoSince};
 ghost use Rattle.strat_store.specs.Ranging.{HasPairsFor, ReadsForLook, TellsFrom, arrays_wanted};
+ghost use Rattle.strat_store.specs.Staging.{FollowsBatch, IsStaged, held_joined, may_stage, replies_staged, reply_of_commit, with_staged};
 ghost use Rattle.strat_memory.specs.RecoveredFields.{held_of, empty_cache};
 ghost use Rattle.strat_store.specs.Applying.{held_after};
 ghost use Rattle.strat_publish.specs.Settling.{LeavesPublished, carries_out};
@@ -36,11 +39,12 @@ use crate::changing::change;
 use crate::cursors::{reply_to_close_cursor, reply_to_next_pairs, reply_to_open_cursor};
 use crate::get::get;
 use crate::scan::scan_range;
+use crate::staging::{Replies, append_staged, stage_change};
 use std::alloc::Global;
 use std::marker::Model;
 use strat_array::{Cache, Scratch};
 use strat_base::limits::CACHED_BLOCKS;
-use strat_base::{Change, NoMemory, PairBuf, Version};
+use strat_base::{Change, Failed, NoMemory, PairBuf, Version};
 use strat_cursor::ScanBuffers;
 use strat_disk::Disk;
 use strat_memory::memory::Memory;
@@ -58,6 +62,7 @@ pub struct Store {
     cache: Cache,
     scratch: Scratch,
     buffers: ScanBuffers,
+    replies: Replies,
     spent: bool,
 }
 
@@ -267,7 +272,7 @@ impl Store {
         command: &Command<'_>,
         out: &mut PairBuf,
     ) -> Reply
-        requires kept { self.old.spent ≡ false }
+        requires kept { (self.old.spent ≡ false) × (self.old.log.batch ≡ []) }
         requires fits { has_lawful_sizes (request_of command.now) ≡ true }
         ensures ok { (x : Contents) (rows : List Cursor)
             → StandsAt (D.view disk.old) self.old x rows
@@ -317,6 +322,81 @@ impl Store {
         told
     }
 
+    /// Stages a change, where it is one that the table accepts after the staged changes, fewer than sixteen are staged and
+    /// the journal has room for one more behind these, and answers whether it did. Memory takes it at once: one insertion
+    /// into level 0, or O(log versions_max) for a clone. Where it answers false nothing has changed. No memory is taken, and
+    /// the disk is not reached: the change is not to be acknowledged before `commit`.
+    pub fn stage(&mut self, command: &Command<'_>) -> bool
+        requires kept { self.old.spent ≡ false }
+        requires fits { has_lawful_sizes (request_of command.now) ≡ true }
+        ensures ok { result ≡ may_stage self.old (request_of command.now) }
+        ensures state { result ≡ true → (c : TheChange)
+            → change_wanted (request_of command.now) ≡ Some c
+            → self.new ≡ with_staged self.old c }
+        ensures none { result ≡ false → self.new ≡ self.old }
+        ensures kept { IsStaged self.old × IsStaged self.new
+            × KeepsRows self.old.memory self.new.memory }
+    {
+        let staged = self.replies.len();
+        let Some(asked) = change_asked(command) else {
+            return false;
+        };
+        let Some(told) = stage_change(&mut self.held, staged, &asked) else {
+            return false;
+        };
+        self.replies.push(told);
+        true
+    }
+
+    /// How many changes are staged. O(1).
+    pub fn staged(&self) -> usize
+        ensures ok { self.now.spent ≡ false → result ≡ length self.now.log.batch }
+        ensures none { self.now.spent ≡ false → result ≡ 0 → self.now.log.batch ≡ [] }
+    {
+        self.replies.len()
+    }
+
+    /// What is told of a staged change, in the order of staging: that it is done, or the version that it makes. O(1).
+    pub fn staged_reply(&self, i: usize) -> Reply
+        requires found { i < length self.now.log.batch }
+        ensures ok { self.now.spent ≡ false
+            → slice_get (replies_staged self.now) i ≡ Some result }
+    {
+        // A store that is not spent has a reply to each.
+        self.replies.get(i).unwrap_or(Reply::Done)
+    }
+
+    /// Makes the staged changes durable, all of them or none at any crash: two writes and two syncs, whatever their number,
+    /// and no memory. Then none is staged. `Failed`: the disk counted a fault, and the store is spent.
+    pub fn commit<D: Disk>(&mut self, disk: &mut D) -> Result<(), Failed>
+        requires kept { self.old.spent ≡ false }
+        requires len { 0 < length self.old.log.batch }
+        ensures ok { OnOk result (self.new ≡ held_joined self.old) }
+        ensures kept { OnOk result (IsConsistent self.new
+            × AreOfOldArrays self.new.chained.manifest.next_array self.new.cached) }
+        ensures err { OnErr result (self.new ≡ record self.old { spent = true }) }
+        ensures state { OnOk result ((x : Contents) (rows : List Cursor)
+            → StandsAt (D.view disk.old) self.old x rows
+            → StandsAt (D.view disk.new) self.new (with_batch x self.old.log.batch) rows) }
+        ensures trail { (x : Contents) → StandsWith (D.view disk.old) self.old x
+            → FollowsBatch (D.view disk.old) (D.view disk.new) x self.old.log.batch
+            (is_ok result)
+            × StoreTwoSince (D.view disk.new) (D.view disk.old).moment }
+        ensures same { LeavesPublished (D.view disk.old) (D.view disk.new) self.old
+            (is_ok result) (reply_of_commit (is_ok result)) self.new }
+        ensures time { Passes (D.view disk.old) (D.view disk.new) }
+        ensures cause { CountsFaults (D.faults disk.old) (D.faults disk.new) result }
+        ensures reads { D.reads disk.new ≡ D.reads disk.old }
+    {
+        self.spent = true;
+        let Ok(()) = append_staged(&mut self.held, disk) else {
+            return Err(Failed);
+        };
+        self.spent = false;
+        self.replies.clear();
+        Ok(())
+    }
+
     /// Opens the store on a disk. It syncs, reads the two superblock slots, each block of the manifest's chain, the active journal
     /// region up to its first closed gate, and one gate of the other region, each once, and no block of an array. It shuts that
     /// gate where it reads open while the active region has room (a run that was killed in a publication leaves it so): one
@@ -351,6 +431,7 @@ impl Store {
                 cache,
                 scratch,
                 buffers,
+                replies: Replies::new(),
                 spent: false,
             }),
             Err(fault) => Err(fault),

@@ -1,10 +1,8 @@
 use Rattle.std.proofs.Common.{refl, ap, ◌∙◌, subst, arith, ℕ}
 use Rattle.def_crash.specs.Blocks.{KeepsTaken}
 use Rattle.strat_memory.specs.RecoveredFields.{held_of, empty_cache}
-use Rattle.strat_store.proofs.ChangingLemmas.{cursors_stay, log_of, kept_more, breaks, takes, step_trail, told_trail, carries, finds_none}
+use Rattle.strat_store.proofs.ChangingLemmas.{cursors_stay, log_of, kept_more, breaks, takes, step_trail, told_trail, carries, finds_none, room_kept}
 use Rattle.strat_store.proofs.LeavingLemmas.{logged_leaves, taken_calm, taken_well}
-use Rattle.strat_memory.proofs.MemoryLawLemmas.{room_for}
-use Rattle.strat_memory.specs.Held.{head_held}
 use Rattle.strat_memory.specs.Memory.{Memory}
 use Rattle.strat_publish.specs.Publishing.{is_in_front}
 use Rattle.strat_store.proofs.changing.carry_out.Goals as goal
@@ -35,8 +33,7 @@ returns-in_default-clause-trail g c x cached stands =
 
 pub take-requires-clause-room : goal.take-requires-clause-room
 take-requires-clause-room g c =
-    let kept = c.requires.kept (empty_cache 0) in
-    room_for (head_held (held_of c.args.held.now (empty_cache 0))) c.args.held.now.memory kept.memory _ c.requires.room
+    room_kept (held_of c.args.held.now (empty_cache 0)) (c.requires.kept (empty_cache 0)) _ c.requires.room
 
 pub returns-clause-ok : goal.returns-clause-ok
 returns-clause-ok g c x cached stands =

@@ -5,29 +5,36 @@ use Rattle.strat_store.specs.Cursoring.{IsAppliedAt}
 use Rattle.strat_memory.specs.RecoveredFields.{held_of}
 use Rattle.strat_store.proofs.ApplyLemmas.{old_after, spent_at, spent_consistent, spent_reads, spent_tells}
 use Rattle.strat_memory.proofs.PayingLemmas.{stored_since}
+use Rattle.strat_store.proofs.StagingLemmas.{as_ever, ever_joined, replies_none}
 use Rattle.strat_store.proofs.store.Store.apply.Goals as goal
 
 pub answer-told-requires-clause-kept : goal.answer-told-requires-clause-kept
 answer-told-requires-clause-kept g c =
     let going = rw (← c.self.view_is) at c.requires.kept in
-    (c.self.invariant going).0
+    as_ever c.self.inside.held going.1 (c.self.invariant going.0).0
 
 pub invariant_of-self : goal.invariant_of-self
 invariant_of-self g c calm =
     let going = rw (← c.self.view_is) at c.requires.kept in
-    let whole = c.self.invariant going in
+    let whole = c.self.invariant going.0 in
+    let ever = as_ever c.self.inside.held going.1 whole.0 in
     let kept = c.answer-told.ensures.kept (sym c.is_fault-self-inside.ensures.ok ∙ calm) in
-    (kept, old_after _ _ _ _ (whole.0 c.self.inside.cache) whole.1 c.answer-told.ensures.same.0 c.answer-told.ensures.same.1)
+    let none = (kept c.answer-told.new.cache).log.batch in (
+      ever_joined c.answer-told.new.held kept,
+      old_after _ _ _ _ (ever c.self.inside.cache) whole.1 c.answer-told.ensures.same.0 c.answer-told.ensures.same.1,
+      whole.2 ∙ replies_none (held_of c.self.inside.held c.self.inside.cache) going.1 ∙ sym (replies_none (held_of c.answer-told.new.held c.answer-told.new.cache) none),
+    )
 
 pub returns-clause-kept : goal.returns-clause-kept
 returns-clause-kept g c =
     let going = rw (← c.self.view_is) at c.requires.kept in
-    let whole = c.self.invariant going in (
+    let whole = c.self.invariant going.0 in
+    let ever = as_ever c.self.inside.held going.1 whole.0 in (
       c.is_fault-self-inside.ensures.ok,
       λ calm. (
         spent_consistent (held_of c.answer-told.new.held c.answer-told.new.cache) c.is_fault-self-inside.result
             (c.answer-told.ensures.kept (sym c.is_fault-self-inside.ensures.ok ∙ calm) c.answer-told.new.cache),
-        old_after _ _ _ _ (whole.0 c.self.inside.cache) whole.1 c.answer-told.ensures.same.0 c.answer-told.ensures.same.1,
+        old_after _ _ _ _ (ever c.self.inside.cache) whole.1 c.answer-told.ensures.same.0 c.answer-told.ensures.same.1,
       ),
     )
 
@@ -43,14 +50,14 @@ returns-clause-ok g c =
     let asked = request_of c.args.command.now in
     let told = as_told c.answer-told.result c.answer-told.new.out in
     rw (← c.self.view_is) (λ x rows at.
-    subst (λ (b : Bool). IsAppliedAt now (record s { spent = b }) x rows asked told (record t { spent = c.is_fault-self-inside.result })) (sym going)
+    subst (λ (b : Bool). IsAppliedAt now (record s { spent = b }) x rows asked told (record t { spent = c.is_fault-self-inside.result })) (sym going.0)
     (subst (λ (b : Bool). IsAppliedAt now s x rows asked told (record t { spent = b })) (sym c.is_fault-self-inside.ensures.ok)
     (c.answer-told.ensures.ok x rows (spent_at (g.D.Disk.view c.args.disk.now) s x rows c.self.inside.spent at))))
 
 pub returns-clause-found : goal.returns-clause-found
 returns-clause-found g c =
     let going = rw (← c.self.view_is) at c.requires.kept in
-    let whole = c.self.invariant going in
+    let whole = c.self.invariant going.0 in
     rw (← c.self.view_is) (λ f exposed calm. spent_tells _ _ _ _ _ (c.answer-told.ensures.found whole.1 f exposed calm))
 
 pub returns-clause-trail : goal.returns-clause-trail

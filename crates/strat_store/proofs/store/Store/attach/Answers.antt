@@ -1,7 +1,10 @@
-use Rattle.std.proofs.Common.{sym, subst}
+use Rattle.std.proofs.Common.{sym, subst, ◌∙◌, arith}
 use Rattle.strat_array.specs.Kept.{Blocks}
 use Rattle.strat_open.specs.Following.{IsOpenedAs}
+use Rattle.strat_cursor.specs.Looking.{AreOfOldArrays}
+use Rattle.strat_memory.specs.Admitting.{chained_of}
 use Rattle.strat_memory.specs.RecoveredFields.{held_of}
+use Rattle.strat_store.proofs.StagingLemmas.{ever_joined, replies_none}
 use Rattle.strat_store.proofs.store.Store.attach.Goals as goal
 
 pub returns-in-Ok-clause-ok : goal.returns-in-Ok-clause-ok
@@ -9,4 +12,11 @@ returns-in-Ok-clause-ok g c = (
   subst (λ (cached : Blocks). IsOpenedAs (g.D.Disk.view c.args.disk.now) (g.D.Disk.view c.open.new.disk) (held_of c.in-Ok.held cached)) (sym c.in_ok-cache.ensures.ok) (c.in-Ok.ensures.ok 256),
   c.in_ok-cache.ensures.ok,
   c.in-Ok.ensures.kept c.in_ok-cache.cache,
+)
+
+pub invariant_of-result : goal.invariant_of-result
+invariant_of-result g c calm = (
+  ever_joined c.in-Ok.held c.in-Ok.ensures.kept,
+  subst (λ (cached : Blocks). AreOfOldArrays (chained_of c.in-Ok.held.published).manifest.next_array cached) (sym c.in_ok-cache.ensures.ok) (λ k x there. absurd (omega (arith, there.1))),
+  c.new.ensures.ok ∙ sym (replies_none (held_of c.in-Ok.held c.in_ok-cache.cache) (c.in-Ok.ensures.kept c.in_ok-cache.cache).log.batch),
 )
