@@ -1,5 +1,5 @@
 -- What a run comes to, by its status.
-use Rattle.std.proofs.Common.{◌≡◌, ◌≢◌, ◌≤◌, ◌<◌, ◌⊎◌, ℕ, ◌*◌, List, [], ◌∷◌, ◌++◌, length, Option, Some, None, refl, sym, ap, subst, ◌∙◌, inl, inr, append-nil, arith}
+use Rattle.std.proofs.Common.{◌≡◌, ◌≢◌, ◌⊎◌, ℕ, List, [], ◌∷◌, Option, Some, None, refl, sym, ap, subst, ◌∙◌, inl, inr, append-nil, arith}
 use Rattle.std.specs.Prelude.{◌==◌, if◌then◌else◌, Ok, Err}
 use Rattle.def_crash.specs.Image.{Image, Outside}
 use Rattle.def_crash.specs.Moments.{DiskView, Exposes, Images, Since, KeepsImages}
@@ -11,13 +11,14 @@ use Rattle.strat_io.specs.Streams.{Appends}
 use Rattle.strat_model.specs.declared.ended.Ended.{Ended}
 use Rattle.strat_model.specs.declared.ended.Ended.TheVariants as ended
 use Rattle.strat_model.specs.Ended.{status_of}
-use Rattle.strat_model.specs.Run.{Transcript, tables_of}
+use Rattle.strat_model.specs.Run.{Exchange, Transcript}
+use Rattle.strat_model.proofs.BatchLemmas.{over_nothing}
 use Rattle.strat_model.specs.Table.{Table, bare}
 use Rattle.def_recovery.specs.Head.{Head}
 use Rattle.def_recovery.specs.Opening.{recover}
 use Rattle.def_publish.specs.Standing.{ShowsTable}
 use Rattle.strat_open.specs.Following.{FollowsFrom, LeavesOpening}
-use Rattle.strat_serve.specs.Session.{Took, GaveUp, Served, RunOutcome, RefusesFor, EndHasCause, EndsFor}
+use Rattle.strat_serve.specs.Session.{Took, AreNextIn, GaveUp, Served, RunOutcome, RefusesFor, EndsFor}
 use Rattle.strat_serve.specs.Tables.{AnswersAsTable, AnswersNothing, AnswersUntil, EndsAtTables, GoesThroughTables, KeepsSpace, begins_at}
 use Rattle.strat_serve.specs.World.{Streams, beside}
 use Rattle.strat_serve.proofs.TableLemmas.{answers_as_table, goes_through, keeps_space}
@@ -101,8 +102,8 @@ module _ (x y : Streams) (v w : DiskView) (f : Image) (t : Table) (shows : Shows
 
   pub record AsTable (how : Ended) : Type 0 where
     pub answers : AnswersAsTable 1099511627776 shows.state.mem (begins_at f t shows) (status_of how) x y
-    pub left : EndsAtTables answers.run w ⊎ HasNotBegun (status_of how) answers.run v w
-    pub trail : GoesThroughTables answers.run f v w ⊎ HasNotBegun (status_of how) answers.run v w
+    pub left : EndsAtTables answers.run answers.continued.end w ⊎ HasNotBegun (status_of how) answers.run v w
+    pub trail : GoesThroughTables answers.run answers.continued.end f v w ⊎ HasNotBegun (status_of how) answers.run v w
     pub space : KeepsSpace f v w
 
   -- a run that gave up answered nothing
@@ -120,6 +121,13 @@ module _ (x y : Streams) (v w : DiskView) (f : Image) (t : Table) (shows : Shows
     sent = [];
     adds = sent_nothing x.held y.held gave.sink;
     until = until;
+    continued = (over_nothing shows.state.mem nothing).0;
+    next = record {
+      bodies = [];
+      rest = [];
+      splits = record { whole = refl; each = tt; last = refl };
+      next = subst (λ (xs : List Exchange). AreNextIn [] nothing xs) (sym (over_nothing shows.state.mem nothing).1) refl;
+    };
   }
 
   gave_kept : (how : Ended) → (status_of how ≡ 5) ⊎ (status_of how ≡ 8) → GaveUp how (beside x v) (beside y w) → AnswersUntil how 1099511627776 nothing [] y.left [] → KeepsImages v w → AsTable how
@@ -138,7 +146,7 @@ module _ (x y : Streams) (v w : DiskView) (f : Image) (t : Table) (shows : Shows
       record {
         answers = gave_answers how gave until;
         left = inl (λ c image. let found = follows.left c image in (found.0, found.1, subst (λ (ts : List Table). At ts found.0 (ShowsTable c)) same found.2));
-        trail = inl (goes_through v w f (t ∷ []) 0 follows nothing same refl);
+        trail = inl (goes_through v w f (t ∷ []) 0 follows nothing (over_nothing shows.state.mem nothing).0.end same refl);
         space = keeps_space v w f (t ∷ []) 0 follows;
       }
 
@@ -169,9 +177,9 @@ module _ (x y : Streams) (v w : DiskView) (f : Image) (t : Table) (shows : Shows
       let a = answers_as_table 1099511627776 x y v w f t shows how served run in
       record {
         answers = a.0;
-        left = inl (subst (λ (tr : Transcript). EndsAtTables tr w) (sym a.1) run.follows.left);
-        trail = inl (subst (λ (tr : Transcript). GoesThroughTables tr f v w) (sym a.1) (goes_through v w f (tables_of run.transcript) (length run.transcript.exchanges) run.follows run.transcript refl refl));
-        space = keeps_space v w f (tables_of run.transcript) (length run.transcript.exchanges) run.follows;
+        left = inl a.1;
+        trail = inl a.2;
+        space = keeps_space v w f _ _ run.follows;
       }
 
   -- a serving run over a disk that shows a table
@@ -187,11 +195,11 @@ module _ (x y : Streams) (v w : DiskView) (f : Image) (t : Table) (shows : Shows
   pub answered_by : With status
   answered_by = subst With (sym is) a.answers
 
-  pub left_by : (b : With status) × (EndsAtTables b.run w ⊎ HasNotBegun status b.run v w)
-  left_by = subst (λ (n : ℕ). (b : With n) × (EndsAtTables b.run w ⊎ HasNotBegun n b.run v w)) (sym is) (a.answers, a.left)
+  pub left_by : (b : With status) × (EndsAtTables b.run b.continued.end w ⊎ HasNotBegun status b.run v w)
+  left_by = subst (λ (n : ℕ). (b : With n) × (EndsAtTables b.run b.continued.end w ⊎ HasNotBegun n b.run v w)) (sym is) (a.answers, a.left)
 
-  pub trail_by : (b : With status) × (GoesThroughTables b.run f v w ⊎ HasNotBegun status b.run v w)
-  trail_by = subst (λ (n : ℕ). (b : With n) × (GoesThroughTables b.run f v w ⊎ HasNotBegun n b.run v w)) (sym is) (a.answers, a.trail)
+  pub trail_by : (b : With status) × (GoesThroughTables b.run b.continued.end f v w ⊎ HasNotBegun status b.run v w)
+  trail_by = subst (λ (n : ℕ). (b : With n) × (GoesThroughTables b.run b.continued.end f v w ⊎ HasNotBegun n b.run v w)) (sym is) (a.answers, a.trail)
 
 -- the ends of a run over a store, one by one
 pub found_flat : (status : ℕ) → EndsAsInput status ⊎ (status ≡ 9) → (status ≡ 0) ⊎ (status ≡ 3) ⊎ (status ≡ 4) ⊎ (status ≡ 8) ⊎ (status ≡ 10) ⊎ (status ≡ 9)

@@ -1,5 +1,5 @@
 -- What runs that format, report and carry out a workload come to, by how they ended.
-use Rattle.std.proofs.Common.{◌≡◌, ◌≢◌, ◌≤◌, ◌<◌, ◌⊎◌, ◌*◌, ℕ, List, [], ◌∷◌, length, take, Option, Some, None, refl, sym, ap, subst, ◌∙◌, inl, inr, arith}
+use Rattle.std.proofs.Common.{◌≡◌, ◌≢◌, ◌≤◌, ◌⊎◌, ◌*◌, ℕ, List, [], ◌∷◌, length, Option, Some, None, refl, sym, ap, subst, ◌∙◌, inl, inr, arith}
 use Rattle.std.specs.Prelude.{Ok, Err}
 use Rattle.std.proofs.lemmas.Bool.{cases_lt}
 use Rattle.def_crash.specs.Faults.{Rose}
@@ -10,7 +10,8 @@ use Rattle.strat_io.specs.Streams.{Appends}
 use Rattle.strat_model.specs.declared.ended.Ended.{Ended}
 use Rattle.strat_model.specs.declared.ended.Ended.TheVariants as ended
 use Rattle.strat_model.specs.Ended.{status_of}
-use Rattle.strat_model.specs.Run.{Transcript, tables_of}
+use Rattle.strat_model.specs.Batch.{tables_continued}
+use Rattle.strat_model.specs.Run.{Position, Transcript}
 use Rattle.strat_model.specs.Table.{fresh}
 use Rattle.def_recovery.specs.Head.{Head}
 use Rattle.def_recovery.specs.Opening.{recover}
@@ -204,8 +205,8 @@ module _ (status : ℕ) (how : Ended) (is : status ≡ status_of how) where
   ]
 
 -- what crashes leave of a run of a workload
-module _ (v w : DiskView) (run : Transcript) (follows : FollowsNew v w (tables_of run) (length run.exchanges)) where
-  pub goes_new : GoesThroughNewTables run v w
+module _ (v w : DiskView) (run : Transcript) (end : Position) (follows : FollowsNew v w (tables_continued run end) (length run.exchanges)) where
+  pub goes_new : GoesThroughNewTables run end v w
   goes_new = record {
     made = follows.made;
     synced = follows.synced;
@@ -220,7 +221,7 @@ module _ (v w : DiskView) (run : Transcript) (follows : FollowsNew v w (tables_o
   thrifty_since : (c : Image) → Since w follows.synced c → IsNoneOrThrifty c
   thrifty_since c since =
       let found = follows.trail.each 0 since.at c (omega arith) (omega (arith, follows.trail.first, since.from)) since.till since.left in
-      let shown = at_some (tables_of run) found.0 (ShowsTable c) found.2 in
+      let shown = at_some (tables_continued run end) found.0 (ShowsTable c) found.2 in
       inr (
         thrifty_of c shown.0 shown.1 (follows.stored c since shown.1.state shown.1.reads),
         follows.paid c since,

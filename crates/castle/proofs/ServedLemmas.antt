@@ -1,5 +1,5 @@
 -- What a serving run over a workload leaves of a new store.
-use Rattle.std.proofs.Common.{◌≡◌, ◌≢◌, ◌≤◌, ◌<◌, ◌^◌, ℕ, zero, suc, min, List, [], ◌∷◌, ◌++◌, length, take, map, Option, Some, None, refl, sym, ap, subst, ◌∙◌, inl, inr, append-nil, length-append, length-take, arith}
+use Rattle.std.proofs.Common.{◌≡◌, ◌≢◌, ◌≤◌, ◌<◌, ◌+◌, ◌^◌, ℕ, zero, suc, min, List, [], ◌∷◌, ◌++◌, length, take, map, Option, Some, None, refl, sym, ap, subst, ◌∙◌, inl, inr, append-nil, length-append, length-take, arith}
 use Rattle.std.specs.Prelude.{Ok, Err, option_map}
 use Rattle.std.proofs.lemmas.List.{take_all, length-map}
 use Rattle.def_crash.specs.Image.{Image}
@@ -10,7 +10,8 @@ use Rattle.def_crash.proofs.TrailLemmas.{trail_of_one, at_either, at_below}
 use Rattle.def_bytes.specs.Damage.{Read}
 use Rattle.strat_model.specs.declared.ended.Ended.{Ended}
 use Rattle.strat_model.specs.declared.ended.Ended.TheVariants as ended
-use Rattle.strat_model.specs.Run.{Position, Response, Exchange, Interruption, IsTranscript, UsesOneRegion, bodies_of, tables_of, of_interruption}
+use Rattle.strat_model.specs.Batch.{Continuation, tables_behind, tables_continued}
+use Rattle.strat_model.specs.Run.{Position, Response, Exchange, Interruption, IsTranscript, Transcript, UsesOneRegion, bodies_of, of_interruption}
 use Rattle.strat_model.specs.Stream.{Splits, Whole, Rest, ending_of}
 use Rattle.strat_model.specs.Table.{Table, fresh, bare}
 use Rattle.def_recovery.specs.Head.{Head}
@@ -20,7 +21,8 @@ use Rattle.strat_memory.proofs.PayingLemmas.{stored_since}
 use Rattle.strat_open.specs.Following.{FollowsFrom, IsUnchanged, LeavesOpening}
 use Rattle.strat_open.specs.Format.{IsBlank, IsNewDisk, IsNewStore, IsNoneOrNew, head_for}
 use Rattle.strat_serve.specs.Generated.{workload_bytes, workload_bodies}
-use Rattle.strat_serve.specs.Session.{Took, IsAtEnd, Session, EndsFor, FollowsRun, GaveUp, Served, RunOutcome, RefusesFor, EndHasCause}
+use Rattle.strat_model.proofs.BatchLemmas.{over_nothing}
+use Rattle.strat_serve.specs.Session.{Took, AreNextIn, IsAtEnd, Session, EndsFor, FollowsRun, GaveUp, Served, RunOutcome, RefusesFor, EndHasCause}
 use Rattle.strat_serve.specs.World.{World, world}
 use Rattle.strat_serve.proofs.StreamedLemmas.{few_bytes, front_of, all_of_it}
 use Rattle.castle.specs.Working.{EndsWorkload, EndsAfterAll, workload_start, FollowsNew, CarriesOutWorkload, LeavesWorkload}
@@ -39,6 +41,13 @@ front_of_front all bodies some first second =
     let len : length some ≡ min (length some) (length bodies) = sym (ap length second) ∙ length-take (length some) bodies in
     let few : length some ≤ length bodies = grind (arith, len) in
     sym (take_less (length some) (length bodies) all few) ∙ ap (take (length some)) first ∙ second
+
+-- so are the bodies of a run and those over which it is continued
+next_of_front : (all bodies : List (List ℕ)) (run : Transcript) (more : List Exchange) → take (length bodies) all ≡ bodies → AreNextIn bodies run more → AreNextIn all run more
+next_of_front all bodies run more front next =
+    let some : List (List ℕ) = bodies_of run ++ map (λ (x : Exchange). x.body) more in
+    let len : length some ≡ length (bodies_of run) + length more = length-append (bodies_of run) (map (λ (x : Exchange). x.body) more) ∙ ap (λ (n : ℕ). length (bodies_of run) + n) (length-map more (λ (x : Exchange). x.body)) in
+    ap (λ (n : ℕ). take n all) (sym len) ∙ front_of_front all bodies some front (ap (λ (n : ℕ). take n bodies) len ∙ next)
 
 some_is : {A : Type 0} (x y : A) → ◌≡◌ {A = Option A} (Some x) (Some y) → x ≡ y
 some_is x y e = cc
@@ -170,15 +179,20 @@ module _ (d0 d1 d2 : DiskView) (later : Passes d0 d1) (passes : Passes d1 d2)
 
   -- nothing was carried out
   none_carried : (seed count : ℕ) (how : Ended) → (EndsAfterAll how → ⊥) → FollowsNew d0 d2 (fresh 16777216 16384 ∷ []) 0 → CarriesOutWorkload seed count how d0 d2
-  none_carried seed count how early follows = record {
-    transcript = record { exchanges = []; after = workload_start; interruption = None };
-    run = record { run = refl; interrupted = tt };
-    region = inl refl;
-    front = refl;
-    all = λ is. absurd (early is);
-    follows = follows;
-    shows = λ is. absurd (early is);
-  }
+  none_carried seed count how early follows =
+      let nothing : Transcript = record { exchanges = []; after = workload_start; interruption = None } in
+      let c = over_nothing 64 nothing in
+      record {
+        transcript = nothing;
+        run = record { run = refl; interrupted = tt };
+        region = inl refl;
+        front = refl;
+        all = λ is. absurd (early is);
+        continued = c.0;
+        next = subst (λ (xs : List Exchange). AreNextIn (workload_bodies seed count) nothing xs) (sym c.1) refl;
+        follows = follows;
+        shows = λ is. absurd (early is);
+      }
 
   follows_opening : LeavesOpening d1 d2 content → FollowsNew d0 d2 (fresh 16777216 16384 ∷ []) 0
   follows_opening (inl same) = from_still same.1
@@ -247,7 +261,7 @@ module _ (d0 d1 d2 : DiskView) (later : Passes d0 d1) (passes : Passes d1 d2)
         shows_last c image =
             let tr = run.transcript in
             let fronts : List Table = map (λ (e : Exchange). bare e.at.table) tr.exchanges in
-            let tables : tables_of tr ≡ fronts ++ bare tr.after.table ∷ [] = ap (λ (h : Option Interruption). fronts ++ (bare tr.after.table ∷ of_interruption (λ i. bare i.done.table) h)) unbroken in
+            let tables : tables_continued tr run.continued.end ≡ fronts ++ bare tr.after.table ∷ [] = ap (λ (h : Option Interruption). fronts ++ (bare tr.after.table ∷ tables_behind h run.continued.end)) unbroken in
             let found = run.follows.left c image in
             last_at fronts (bare tr.after.table) found.0 (ShowsTable c) (omega (arith, found.1, length-map tr.exchanges (λ (e : Exchange). bare e.at.table)))
             (subst (λ (ts : List Table). At ts found.0 (ShowsTable c)) tables found.2)
@@ -258,13 +272,18 @@ module _ (d0 d1 d2 : DiskView) (later : Passes d0 d1) (passes : Passes d1 d2)
           let mem_is : run.mem ≡ 64 = run.begins.mem_is ∙ ap (λ (z : State). z.mem) state_is in
           let fill_is : run.start.fill ≡ 0 = run.begins.fill ∙ ap (λ (z : State). length z.journal) state_is in
           let start_is : run.start ≡ workload_start = λ j. record { table = run.table j; fill = fill_is j } in
+          let continues : (k : Continuation 64 run.transcript) × AreNextIn s.bodies run.transcript k.more × FollowsNew d0 d2 (tables_continued run.transcript k.end) (length run.transcript.exchanges) =
+          subst (λ (m : ℕ). (k : Continuation m run.transcript) × AreNextIn s.bodies run.transcript k.more × FollowsNew d0 d2 (tables_continued run.transcript k.end) (length run.transcript.exchanges)) mem_is
+          (run.continued, run.next, from_follows (tables_continued run.transcript run.continued.end) (length run.transcript.exchanges) run.follows) in
           record {
             transcript = run.transcript;
             run = subst (λ (m : ℕ). IsTranscript m workload_start run.transcript) mem_is (subst (λ (p : Position). IsTranscript run.mem p run.transcript) start_is run.is);
             region = subst (λ (m : ℕ). UsesOneRegion m run.transcript) mem_is run.region;
             front = front_of_front (workload_bodies seed count) s.bodies (bodies_of run.transcript) (front_of seed count s.taken gave.rest s.bodies s.rest few gave.parts served.is.splits).0 run.front;
             all = λ is. (bodies_are (done is), unbroken (done is));
-            follows = from_follows (tables_of run.transcript) (length run.transcript.exchanges) run.follows;
+            continued = continues.0;
+            next = next_of_front (workload_bodies seed count) s.bodies run.transcript continues.0.more (front_of seed count s.taken gave.rest s.bodies s.rest few gave.parts served.is.splits).0 continues.1;
+            follows = continues.2;
             shows = λ is. shows_last (done is);
           }
 

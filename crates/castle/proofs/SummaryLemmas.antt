@@ -14,7 +14,8 @@ use Rattle.strat_io.specs.Streams.{Appends}
 use Rattle.strat_model.specs.declared.ended.Ended.{Ended}
 use Rattle.strat_model.specs.declared.ended.Ended.TheVariants as ended
 use Rattle.strat_model.specs.Ended.{status_of}
-use Rattle.strat_model.specs.Run.{Exchange, Interruption, Transcript, tables_of, of_interruption}
+use Rattle.strat_model.specs.Batch.{tables_behind, tables_continued}
+use Rattle.strat_model.specs.Run.{Exchange, Interruption, Position, Transcript}
 use Rattle.strat_model.specs.Table.{Table, bare}
 use Rattle.def_recovery.specs.Head.{Head}
 use Rattle.def_recovery.specs.Opening.{recover, recover_slot, recover_head}
@@ -31,15 +32,15 @@ module _ (seed count : ℕ) (d0 d2 d3 : DiskView) (reads : OnlyReads d2 d3) wher
   was : (c : Image) → Images d3 c → Images d2 c
   was c image = reads.images.each c (now_since_start d2 d3 c reads.time image)
 
-  follows_on : (tr : Transcript) → tr.interruption ≡ None → FollowsNew d0 d2 (tables_of tr) (length tr.exchanges) → FollowsNew d0 d3 (tables_of tr) (length tr.exchanges)
-  follows_on tr unbroken f =
+  follows_on : (tr : Transcript) (end : Position) → tr.interruption ≡ None → FollowsNew d0 d2 (tables_continued tr end) (length tr.exchanges) → FollowsNew d0 d3 (tables_continued tr end) (length tr.exchanges)
+  follows_on tr end unbroken f =
       let fronts : List Table = map (λ (e : Exchange). bare e.at.table) tr.exchanges in
-      let tables : tables_of tr ≡ fronts ++ bare tr.after.table ∷ [] = ap (λ (h : Option Interruption). fronts ++ (bare tr.after.table ∷ of_interruption (λ i. bare i.done.table) h)) unbroken in
+      let tables : tables_continued tr end ≡ fronts ++ bare tr.after.table ∷ [] = ap (λ (h : Option Interruption). fronts ++ (bare tr.after.table ∷ tables_behind h end)) unbroken in
       let many : length fronts ≡ length tr.exchanges = length-map tr.exchanges (λ (e : Exchange). bare e.at.table) in
       let short : Trail ShowsTable d2 f.synced (fronts ++ bare tr.after.table ∷ []) (length fronts) =
       subst (λ (n : ℕ). Trail ShowsTable d2 f.synced (fronts ++ bare tr.after.table ∷ []) n) (sym many) (subst (λ (ts : List Table). Trail ShowsTable d2 f.synced ts (length tr.exchanges)) tables f.trail) in
       let long = trail_read ShowsTable d2 d3 f.synced fronts (bare tr.after.table) reads short in
-      let trail : Trail ShowsTable d3 f.synced (tables_of tr) (length tr.exchanges) =
+      let trail : Trail ShowsTable d3 f.synced (tables_continued tr end) (length tr.exchanges) =
       subst (λ (ts : List Table). Trail ShowsTable d3 f.synced ts (length tr.exchanges)) (sym tables) (subst (λ (n : ℕ). Trail ShowsTable d3 f.synced (fronts ++ bare tr.after.table ∷ []) n) many long) in
       record {
         made = f.made;
@@ -51,7 +52,7 @@ module _ (seed count : ℕ) (d0 d2 d3 : DiskView) (reads : OnlyReads d2 d3) wher
         new = λ m c low high image. f.new m c low high (reads.time.past m c (omega (arith, high, f.till)) image);
         trail = trail;
         left = λ c image. f.left c (was c image);
-        stored = stored_since d3 f.synced (tables_of tr) (length tr.exchanges) trail;
+        stored = stored_since d3 f.synced (tables_continued tr end) (length tr.exchanges) trail;
         paid = paid_then d2 d3 f.synced reads.time f.paid (λ c since. f.paid c (record { at = d2.moment; from = f.till; till = omega arith; left = reads.images.each c since }));
       }
 
@@ -62,7 +63,9 @@ module _ (seed count : ℕ) (d0 d2 d3 : DiskView) (reads : OnlyReads d2 d3) wher
     region = c.region;
     front = c.front;
     all = λ is. c.all tt;
-    follows = follows_on c.transcript (c.all tt).1 c.follows;
+    continued = c.continued;
+    next = c.next;
+    follows = follows_on c.transcript c.continued.end (c.all tt).1 c.follows;
     shows = λ is f image. c.shows tt f (was f image);
   }
 

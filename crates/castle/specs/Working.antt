@@ -6,7 +6,8 @@ use Rattle.def_crash.specs.Trail.{At, Trail}
 use Rattle.strat_io.specs.Streams.{Appends}
 use Rattle.strat_model.specs.declared.ended.Ended.{Ended}
 use Rattle.strat_model.specs.declared.ended.Ended.TheVariants as ended
-use Rattle.strat_model.specs.Run.{Position, Transcript, IsTranscript, UsesOneRegion, bodies_of, tables_of}
+use Rattle.strat_model.specs.Batch.{Continuation, tables_continued}
+use Rattle.strat_model.specs.Run.{Position, Transcript, IsTranscript, UsesOneRegion, bodies_of}
 use Rattle.strat_model.specs.Table.{Table, fresh, bare}
 use Rattle.def_recovery.specs.Head.{Head}
 use Rattle.def_texts.specs.Texts as texts
@@ -15,6 +16,7 @@ use Rattle.def_publish.specs.Standing.{ShowsTable}
 use Rattle.strat_open.specs.Format.{IsBlank, IsNewStore, IsNoneOrNew}
 use Rattle.strat_memory.specs.Paying.{ArePaidSince, StoreTwoSince}
 use Rattle.strat_serve.specs.Generated.{workload_bodies}
+use Rattle.strat_serve.specs.Session.{AreNextIn}
 
 -- the ends of a run of a workload; its frames are whole, short and few, so that none of them ends it
 abbrev pub EndsWorkload : Ended → Type 0
@@ -75,7 +77,11 @@ pub record CarriesOutWorkload (seed count : ℕ) (how : Ended) (before now : Dis
       ≡ bodies_of transcript
   pub all : EndsAfterAll how → (bodies_of transcript ≡ workload_bodies seed count)
       × (transcript.interruption ≡ None)
-  pub follows : FollowsNew before now (tables_of transcript) (length transcript.exchanges)
+  -- and behind a fault the run is continued over those of the next ones that became durable with the last or not at all
+  pub continued : Continuation 64 transcript
+  pub next : AreNextIn (workload_bodies seed count) transcript continued.more
+  pub follows : FollowsNew before now (tables_continued transcript continued.end)
+      (length transcript.exchanges)
   -- which then all images show the table after
   pub shows : EndsAfterAll how → (c : Image) → Images now c
       → ShowsTable c (bare transcript.after.table)

@@ -21,10 +21,11 @@ ghost use Rattle.castle.specs.Outcomes.{Runs};
 use def_crash::laws::Viewed;
 
 /// The headline. Over a disk that shows a table, a run that is asked to serve a file answers what it takes as a run of that
-/// table does. At its end a crash leaves the table after all that was acknowledged, or after one command more; on
-/// the way it leaves what it might have left before, and from some moment on the run's tables in order. What it
-/// leaves then is sound, each array a third live in each of its versions, and stores at most two entries for
-/// each update. The run ends for a cause, and where nothing failed, as its input does or for want of memory.
+/// table does. At its end a crash leaves the table after all that was acknowledged, or after one command more and the
+/// whole rest of its batch: up to fifteen changes that no reply tells of. On the way it leaves what it might have left
+/// before, and from some moment on the run's tables in order. What it leaves then is sound, each array a third live in
+/// each of its versions, and stores at most two entries for each update. The run ends for a cause, and where nothing
+/// failed, as its input does or for want of memory.
 pub fn a_serving_run_is_a_run_of_its_table<D: Viewed>()
     ensures answers { (path : List ℕ) (status : ℕ) (x y : Streams) (d e : D) (f : Image) (t : Table)
         (shows : ShowsTable f t) → Exposes (D.view d) f
@@ -34,13 +35,13 @@ pub fn a_serving_run_is_a_run_of_its_table<D: Viewed>()
         (shows : ShowsTable f t) → Exposes (D.view d) f
         → Runs (Some (Serve path)) 1099511627776 status (beside x (D.view d)) (beside y (D.view e))
         → (a : AnswersAsTable 1099511627776 shows.state.mem (begins_at f t shows) status x y)
-        × (EndsAtTables a.run (D.view e)
+        × (EndsAtTables a.run a.continued.end (D.view e)
         ⊎ HasNotBegun status a.run (D.view d) (D.view e)) }
     ensures trail { (path : List ℕ) (status : ℕ) (x y : Streams) (d e : D) (f : Image) (t : Table)
         (shows : ShowsTable f t) → Exposes (D.view d) f
         → Runs (Some (Serve path)) 1099511627776 status (beside x (D.view d)) (beside y (D.view e))
         → (a : AnswersAsTable 1099511627776 shows.state.mem (begins_at f t shows) status x y)
-        × (GoesThroughTables a.run f (D.view d) (D.view e)
+        × (GoesThroughTables a.run a.continued.end f (D.view d) (D.view e)
         ⊎ HasNotBegun status a.run (D.view d) (D.view e)) }
     ensures space { (path : List ℕ) (status : ℕ) (x y : Streams) (d e : D) (f : Image) (t : Table)
         → ShowsTable f t → Exposes (D.view d) f

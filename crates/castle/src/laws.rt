@@ -9,7 +9,8 @@ ghost use Rattle.def_crash.specs.Trail.{At, Trail};
 ghost use Rattle.def_bytes.specs.SuperBlock.{newest_in};
 ghost use Rattle.strat_io.specs.Streams.{Appends};
 ghost use Rattle.strat_model.specs.Ended.{status_of};
-ghost use Rattle.strat_model.specs.Run.{Transcript, IsTranscript, UsesOneRegion, bodies_of, tables_of};
+ghost use Rattle.strat_model.specs.Batch.{Continuation, tables_continued};
+ghost use Rattle.strat_model.specs.Run.{Position, Transcript, IsTranscript, UsesOneRegion, bodies_of};
 ghost use Rattle.strat_model.specs.Table.{fresh, bare};
 ghost use Rattle.def_recovery.specs.Head.{Head};
 ghost use Rattle.def_recovery.specs.Opening.{recover, reads_as};
@@ -20,7 +21,7 @@ ghost use Rattle.def_state.specs.State.{fresh_state};
 ghost use Rattle.strat_open.specs.Format.{IsBlank, IsFormatted};
 ghost use Rattle.strat_memory.specs.Paying.{IsPaidIn};
 ghost use Rattle.strat_serve.specs.Generated.{workload_bodies};
-ghost use Rattle.strat_serve.specs.Session.{ExposesDamage, SendsPrefix};
+ghost use Rattle.strat_serve.specs.Session.{AreNextIn, ExposesDamage, SendsPrefix};
 ghost use Rattle.strat_serve.specs.Tables.{EndsAtTables, IsThrifty};
 ghost use Rattle.strat_serve.specs.World.{Streams, beside};
 ghost use Rattle.castle.specs.Arguments.{Format, Levels, Serve, Workload};
@@ -136,7 +137,8 @@ pub fn a_run_of_a_workload_is_a_run_of_a_new_table<D: Viewed>()
         → (status ≡ 5) ⊎ (status ≡ 8)
         ⊎ ((run : Transcript) × IsTranscript 64 workload_start run × UsesOneRegion 64 run
         × (take (length (bodies_of run)) (workload_bodies seed count) ≡ bodies_of run)
-        × EndsAtTables run (D.view e)) }
+        × ((c : Continuation 64 run) × AreNextIn (workload_bodies seed count) run c.more
+        × EndsAtTables run c.end (D.view e))) }
     ensures trail { (path : List ℕ) (seed count status : ℕ) (x y : Streams) (d e : D) (f : Image)
         → Runs (Some (Workload path seed count)) 1099511627776 status
         (beside x (D.view d)) (beside y (D.view e)) → Exposes (D.view d) f
@@ -144,7 +146,8 @@ pub fn a_run_of_a_workload_is_a_run_of_a_new_table<D: Viewed>()
         × (IsBlank (D.view d) → (c : Image) → Since (D.view e) (D.view d).moment c
         → (newest_in c ≡ Ok None) ⊎ ShowsTable c (fresh 16777216 16384)))
         ⊎ ((run : Transcript) × IsTranscript 64 workload_start run × UsesOneRegion 64 run
-        × GoesThroughNewTables run (D.view d) (D.view e)) }
+        × ((c : Continuation 64 run) × AreNextIn (workload_bodies seed count) run c.more
+        × GoesThroughNewTables run c.end (D.view d) (D.view e))) }
     ensures space { (path : List ℕ) (seed count status : ℕ) (x y : Streams) (d e : D) (f c : Image)
         → Runs (Some (Workload path seed count)) 1099511627776 status
         (beside x (D.view d)) (beside y (D.view e)) → Exposes (D.view d) f → IsBlank (D.view d)
@@ -199,8 +202,8 @@ pub fn words_of_the_laws_say_so<D: Viewed>()
         → HasNotBegun status run (D.view d) (D.view e)
         → ((status ≡ 5) ⊎ (status ≡ 8)) × (bodies_of run ≡ [])
         × ((c : Image) → Since (D.view e) (D.view d).moment c → Images (D.view d) c) }
-    ensures moments { (run : Transcript) (d e : D)
-        (goes : GoesThroughNewTables run (D.view d) (D.view e))
+    ensures moments { (run : Transcript) (end : Position) (d e : D)
+        (goes : GoesThroughNewTables run end (D.view d) (D.view e))
         → ((D.view d).moment ≤ goes.made) × (goes.made ≤ goes.synced)
         × (goes.synced ≤ (D.view e).moment)
         × (IsBlank (D.view d) → (m : ℕ) (c : Image) → (D.view d).moment ≤ m → m ≤ goes.made
@@ -208,9 +211,10 @@ pub fn words_of_the_laws_say_so<D: Viewed>()
         → (newest_in c ≡ Ok None) ⊎ ShowsTable c (fresh 16777216 16384))
         × ((m : ℕ) (c : Image) → goes.made ≤ m → m ≤ goes.synced → (D.view e).images_at m c
         → ShowsTable c (fresh 16777216 16384)) }
-    ensures trail { (run : Transcript) (d e : D)
-        (goes : GoesThroughNewTables run (D.view d) (D.view e))
-        → Trail ShowsTable (D.view e) goes.synced (tables_of run) (length run.exchanges) }
+    ensures trail { (run : Transcript) (end : Position) (d e : D)
+        (goes : GoesThroughNewTables run end (D.view d) (D.view e))
+        → Trail ShowsTable (D.view e) goes.synced (tables_continued run end)
+        (length run.exchanges) }
     ensures space { (c : Image) → IsNoneOrThrifty c
         → (newest_in c ≡ Ok None) ⊎ (IsThrifty c × IsPaidIn c) }
 {}

@@ -1,5 +1,5 @@
 -- How a serving run ends.
-use Rattle.std.proofs.Common.{◌≡◌, ◌≢◌, ℕ, ◌+◌, ◌<◌, ◌≤◌, ◌-◌, true, false, cond, eqb, suc, List, [], ◌∷◌, ◌++◌, length, take, drop, map, Option, Some, None, refl, sym, ap, subst, ◌∙◌, ◌⊎◌, append_assoc, length-append, inl, inr, arith}
+use Rattle.std.proofs.Common.{◌≡◌, ◌≢◌, ℕ, ◌+◌, ◌<◌, ◌≤◌, ◌-◌, true, false, cond, eqb, suc, List, [], ◌∷◌, ◌++◌, length, take, map, Option, Some, None, refl, sym, ap, subst, ◌∙◌, ◌⊎◌, append_assoc, length-append, inl, inr, arith}
 use Rattle.std.specs.Prelude.{IsSome, is_some}
 use Rattle.std.specs.List.{flat_map, AllByRecursion}
 use Rattle.std.proofs.lemmas.Bool.{and_right, or_left, or_right, eq-eqb, ne_eqb, cases_eq}
@@ -28,6 +28,7 @@ use Rattle.strat_memory.specs.Held.{Held, IsConsistent, IsOnDisk, head_held, pos
 use Rattle.strat_memory.proofs.PayingLemmas.{paid_now}
 use Rattle.strat_serve.specs.Session.{Took, IsAtEnd, SendsPrefix, too_long_bytes, AreAnsweredBy, AreCalm, ContinuesWith, StopsWith, Session, IsSession, AnswersAll, all_responses, output, last_output, Sends, EndsFor, FollowsRun, Served, WaitsForNone}
 use Rattle.strat_serve.specs.World.{World}
+use Rattle.strat_serve.proofs.BatchedLemmas.{continues_over_nothing}
 use Rattle.strat_serve.proofs.ProgressLemmas.{Progress, RunSoFar, Answered, few_all, few_held, follows_more, text_more, ahead_more, ahead_within, answered_more, step_responds, step_damaged, step_paid, step_reads, gate_still, calm_front, calm_parts, answers}
 use Rattle.strat_serve.proofs.PublishedLemmas.{published_still}
 use Rattle.strat_serve.proofs.StreamLemmas.{partial_not_long, frames_of}
@@ -99,6 +100,8 @@ module _ (start current : Held) (count budget : ℕ) (held : List ℕ) (before n
       let so_far = p.runs f t exposed shows in
       let transcript : Transcript = record { exchanges = so_far.exchanges; after = position_at current so_far.contents so_far.rows; interruption = None } in
       let bodies_all : bodies_of transcript ≡ p.bodies = append-nil (map (λ (x : Exchange). x.body) so_far.exchanges) ∙ so_far.bodies_are in
+      let front : take (length (bodies_of transcript)) (p.bodies ++ others) ≡ bodies_of transcript = take_at p.bodies others (length (bodies_of transcript)) (sym (ap length bodies_all)) ∙ sym bodies_all in
+      let continues = continues_over_nothing before.disk now.disk f start.log.mem (p.bodies ++ others) transcript front so_far.follows in
       record {
         mem = start.log.mem;
         start = so_far.from;
@@ -107,11 +110,13 @@ module _ (start current : Held) (count budget : ℕ) (held : List ℕ) (before n
         transcript = transcript;
         is = record { run = so_far.run; interrupted = tt };
         region = inr (few_all start.log.mem so_far.exchanges (transcript.after ∷ []) so_far.region (few_held start current p.mem p.lawful, tt));
-        front = take_at p.bodies others (length (bodies_of transcript)) (sym (ap length bodies_all)) ∙ sym bodies_all;
+        front = front;
         answers_are = sym so_far.answers_are;
         broken_is = refl;
         device = tt;
-        follows = so_far.follows;
+        continued = continues.continued;
+        next = continues.next;
+        follows = continues.follows;
       }
 
   -- all that was said so far
@@ -351,6 +356,13 @@ module _ (start old new : Held) (count budget : ℕ) (held rest body : List ℕ)
         let transcript : Transcript = record { exchanges = so_far.exchanges; after = position_at old so_far.contents so_far.rows; interruption = Some interruption } in
         let bodies_all : bodies_of transcript ≡ p.bodies ++ body ∷ [] = ap (λ (l : List (List ℕ)). l ++ body ∷ []) so_far.bodies_are in
         let same : length so_far.exchanges + 0 ≡ length so_far.exchanges = omega arith in
+        let front : take (length (bodies_of transcript)) broken.bodies ≡ bodies_of transcript = take_at (p.bodies ++ body ∷ []) s.bodies (length (bodies_of transcript)) (sym (ap length bodies_all)) ∙ sym bodies_all in
+        let continues = continues_over_nothing before.disk now.disk g start.log.mem broken.bodies transcript front
+        (subst (λ (n : ℕ). FollowsFrom before.disk now.disk g (tables_before so_far.exchanges ++ table_of (contents_state so_far.contents) ∷ bare stops.done.table ∷ []) n) same
+        (follows_more before.disk mid.disk now.disk g so_far.exchanges (table_of (contents_state so_far.contents)) (bare stops.done.table) 0 done.passes so_far.follows stops.trail
+        (λ first.
+        step_paid mid.disk now.disk old body met new out done.is so_far.contents so_far.stands.stands
+        (paid_now mid.disk so_far.follows.synced so_far.contents so_far.stands.stands.stands so_far.follows.till (so_far.follows.paid first))))) in
         record {
           mem = start.log.mem;
           start = so_far.from;
@@ -359,15 +371,13 @@ module _ (start old new : Held) (count budget : ℕ) (held rest body : List ℕ)
           transcript = transcript;
           is = record { run = so_far.run; interrupted = subst (λ (m : ℕ). AnswersFault m (position_at old so_far.contents so_far.rows) body response stops.done) p.mem stops.fault };
           region = inr (few_all start.log.mem so_far.exchanges (transcript.after ∷ stops.done ∷ []) so_far.region (few_held start old p.mem p.lawful, (omega (arith, stops.few, p.mem), tt)));
-          front = take_at (p.bodies ++ body ∷ []) s.bodies (length (bodies_of transcript)) (sym (ap length bodies_all)) ∙ sym bodies_all;
+          front = front;
           answers_are = sym so_far.answers_are;
           broken_is = refl;
           device = stops.answer;
-          follows = subst (λ (n : ℕ). FollowsFrom before.disk now.disk g (tables_before so_far.exchanges ++ table_of (contents_state so_far.contents) ∷ bare stops.done.table ∷ []) n) same
-              (follows_more before.disk mid.disk now.disk g so_far.exchanges (table_of (contents_state so_far.contents)) (bare stops.done.table) 0 done.passes so_far.follows stops.trail
-              (λ first.
-              step_paid mid.disk now.disk old body met new out done.is so_far.contents so_far.stands.stands
-              (paid_now mid.disk so_far.follows.synced so_far.contents so_far.stands.stands.stands so_far.follows.till (so_far.follows.paid first))));
+          continued = continues.continued;
+          next = continues.next;
+          follows = continues.follows;
         }
 
     -- the superblock and the manifest of the store, unless the device failed

@@ -5,7 +5,8 @@ use Rattle.def_crash.specs.Image.{Image}
 use Rattle.def_crash.specs.Moments.{DiskView, Exposes, Images, Since}
 use Rattle.def_crash.specs.Trail.{At}
 use Rattle.def_crash.proofs.MomentLemmas.{at_told}
-use Rattle.strat_model.specs.Run.{Transcript, tables_of}
+use Rattle.strat_model.specs.Batch.{tables_continued}
+use Rattle.strat_model.specs.Run.{Position, Transcript}
 use Rattle.strat_model.specs.Table.{Table}
 use Rattle.def_publish.specs.Several.{EachShows, ShowOneOfSince, ShowsOneOf}
 use Rattle.def_publish.specs.Standing.{LeavesContent, ShowsTable}
@@ -51,8 +52,8 @@ module _ (before now : DiskView) (f : Image) (exposed : Exposes before f) (leave
   failed_whole (inr gate) = followed (gate.follows t shown)
 
   -- a run
-  pub goes_whole : (run : Transcript) → GoesThroughTables run f before now → (c : Image) → Since now before.moment c → ShowsOneOf before c ⊎ ((i : ℕ) × At (tables_of run) i (ShowsTable c))
-  goes_whole run goes c since = elim (cases_lt since.at goes.synced) [
+  pub goes_whole : (run : Transcript) (end : Position) → GoesThroughTables run end f before now → (c : Image) → Since now before.moment c → ShowsOneOf before c ⊎ ((i : ℕ) × At (tables_continued run end) i (ShowsTable c))
+  goes_whole run end goes c since = elim (cases_lt since.at goes.synced) [
     | inl early ↦ inl (was c (goes.until since.at c since.from (omega (arith, early)) since.left))
     | inr late ↦
         let one = goes.trail.each 0 since.at c (omega arith) (omega (arith, late, goes.trail.first)) since.till since.left in

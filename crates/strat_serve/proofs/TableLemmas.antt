@@ -1,5 +1,5 @@
 -- A serving run over a disk that shows a table, in words of tables and of crashes.
-use Rattle.std.proofs.Common.{◌≡◌, ◌≢◌, ◌≤◌, ◌<◌, ◌+◌, ◌*◌, ℕ, zero, suc, eqb, eqb-true, cond, Bool, true, false, List, [], ◌∷◌, ◌++◌, length, take, map, Option, Some, None, refl, sym, ap, subst, ◌∙◌, ◌⊎◌, inl, inr, append-nil, length-append, true≢false, arith}
+use Rattle.std.proofs.Common.{◌≡◌, ◌≢◌, ◌≤◌, ◌<◌, ◌+◌, ◌*◌, ℕ, zero, suc, eqb, eqb-true, cond, Bool, true, false, List, [], ◌∷◌, ◌++◌, length, take, map, Option, Some, None, refl, sym, ap, subst, ◌∙◌, inl, inr, append-nil, length-append, true≢false, arith}
 use Rattle.std.specs.Prelude.{option_map, slice_get, IfSome, IsSome}
 use Rattle.std.specs.List.{flat_map, list_all, AllByRecursion}
 use Rattle.std.proofs.lemmas.Bool.{and_from, cases_lt, eq-eqb}
@@ -16,8 +16,9 @@ use Rattle.strat_model.specs.declared.ended.Ended.{Ended}
 use Rattle.strat_model.specs.declared.ended.Ended.TheVariants as ended
 use Rattle.strat_model.specs.declared.replies.Refusal.TheVariants as why
 use Rattle.strat_model.specs.Answer.{Answer, refusal}
+use Rattle.strat_model.specs.Batch.{Continuation, tables_continued}
 use Rattle.strat_model.specs.Ended.{status_of}
-use Rattle.strat_model.specs.Run.{Position, Response, Exchange, Interruption, Transcript, IsTranscript, UsesOneRegion, bodies_of, responses_of, tables_of, of_interruption, sent_bytes}
+use Rattle.strat_model.specs.Run.{Position, Response, Exchange, Interruption, Transcript, IsTranscript, UsesOneRegion, bodies_of, responses_of, of_interruption, sent_bytes}
 use Rattle.strat_model.specs.Stream.{frame, Splits, Whole, Rest, Long, ending_of, is_too_long}
 use Rattle.strat_model.specs.Table.{Table}
 use Rattle.def_publish.specs.Standing.{ShowsTable}
@@ -25,8 +26,8 @@ use Rattle.def_state.specs.Level.{Level, IsStratified, is_dense}
 use Rattle.def_state.specs.State.{State, stored, updates_of, versions_of}
 use Rattle.strat_open.specs.Following.{FollowsFrom}
 use Rattle.strat_memory.specs.Paying.{IsPaidIn}
-use Rattle.strat_serve.specs.Session.{AreAnsweredBy, Begins, RespondsTo, Session, SendsAllButLast, AnswersAll, WaitsForNone, Served, FollowsRun, all_responses, listed_response, last_output, output, too_long_bytes, EndsWithFault, EndsFor}
-use Rattle.strat_serve.specs.Tables.{AnswersAllTaken, AnswersUntilFault, AnswersUntilCut, RefusesNext, AnswersUntil, AnswersAsTable, GoesThroughTables, IsThrifty, KeepsSpace, begins_at}
+use Rattle.strat_serve.specs.Session.{AreAnsweredBy, AreNextIn, Begins, RespondsTo, Session, SendsAllButBatch, AnswersAll, WaitsForNone, Served, FollowsRun, all_responses, listed_response, last_output, output, too_long_bytes, EndsWithFault, EndsFor}
+use Rattle.strat_serve.specs.Tables.{AnswersAllTaken, AnswersUntilFault, AnswersUntilCut, RefusesNext, AnswersUntil, AnswersAsTable, EndsAtTables, GoesThroughTables, IsThrifty, KeepsSpace, begins_at}
 use Rattle.strat_serve.proofs.StreamLemmas.{partial_short}
 use Rattle.strat_serve.specs.World.{Streams, beside}
 
@@ -106,15 +107,15 @@ module _ (before now : DiskView) (f : Image) (tables : List Table) (n : ℕ) (fo
     | inr late ↦ inr (keeps_since c (record { at = since.at; from = late; till = since.till; left = since.left }))
   ]
 
-  pub goes_through : (run : Transcript) → tables ≡ tables_of run → n ≡ length run.exchanges → GoesThroughTables run f before now
-  goes_through run tables_are n_is = record {
+  pub goes_through : (run : Transcript) (end : Position) → tables ≡ tables_continued run end → n ≡ length run.exchanges → GoesThroughTables run end f before now
+  goes_through run end tables_are n_is = record {
     synced = follows.synced;
     from = follows.from;
     till = follows.till;
     content = follows.content;
     one = follows.one;
     until = follows.until;
-    trail = subst (λ (k : ℕ). Trail ShowsTable now follows.synced (tables_of run) k) n_is (subst (λ (ts : List Table). Trail ShowsTable now follows.synced ts n) tables_are follows.trail);
+    trail = subst (λ (k : ℕ). Trail ShowsTable now follows.synced (tables_continued run end) k) n_is (subst (λ (ts : List Table). Trail ShowsTable now follows.synced ts n) tables_are follows.trail);
   }
 
 -- a run that begins where an image leads begins at the table that it shows
@@ -192,7 +193,7 @@ module _ (v w : DiskView) (f : Image) (t : Table) (s : Session) (run : FollowsRu
         inr (refl, next_long s.rest long, sym (bodies_are (record { all = eqb-true _ _ all; unbroken = is })), unbroken is)
 
     -- a session that was cut off
-    until_cut : (before now : Option (List ℕ)) (sends : SendsAllButLast before now s) → AnswersUntilCut 1 tr s.taken sends.cut.sent
+    until_cut : (before now : Option (List ℕ)) (sends : SendsAllButBatch before now s) → AnswersUntilCut 16 tr s.taken sends.cut.sent
     until_cut before now sends = record {
       bodies = s.bodies;
       rest = s.rest;
@@ -241,9 +242,22 @@ told_twice (Some r) block device ends =
     let f : ◌≡◌ {A = Option Fault} (Some fault.Device) (Some (fault.Damaged block)) = sym (ap (λ (a : Answer). fault_told a.reply) device) ∙ ends in cc
 
 module _ (budget : ℕ) (before now : Streams) (v w : DiskView) (f : Image) (t : Table) (shows : ShowsTable f t) where
+  -- a run with this status answers as one of the table, and the images follow its tables
+  abbrev pub IsTableRun : ℕ → Type 0
+  IsTableRun status =
+      (a : AnswersAsTable budget shows.state.mem (begins_at f t shows) status before now) × EndsAtTables a.run a.continued.end w × GoesThroughTables a.run a.continued.end f v w
+
   module _ (how : Ended) (served : Served budget how (beside before v) (beside now w)) (run : FollowsRun v w f t served.session) (sent : List ℕ) (adds : Appends before.held now.held sent)
       (until : AnswersUntil how budget run.transcript served.session.taken now.left sent) where
-    as_table : (a : AnswersAsTable budget shows.state.mem (begins_at f t shows) (status_of how) before now) × (a.run ≡ run.transcript)
+    -- it is continued over the same where a region takes as many changes
+    continued : (c : Continuation shows.state.mem run.transcript) × AreNextIn served.session.bodies run.transcript c.more
+        × EndsAtTables run.transcript c.end w × GoesThroughTables run.transcript c.end f v w
+    continued =
+        subst (λ (m : ℕ). (c : Continuation m run.transcript) × AreNextIn served.session.bodies run.transcript c.more × EndsAtTables run.transcript c.end w × GoesThroughTables run.transcript c.end f v w)
+        (mem_is f t shows run.mem run.start run.begins run.table)
+        (run.continued, run.next, run.follows.left, goes_through v w f _ _ run.follows run.transcript run.continued.end refl refl)
+
+    as_table : IsTableRun (status_of how)
     as_table = (
       record {
         how = how;
@@ -257,13 +271,21 @@ module _ (budget : ℕ) (before now : Streams) (v w : DiskView) (f : Image) (t :
         sent = sent;
         adds = adds;
         until = until;
+        continued = continued.0;
+        next = record {
+          bodies = served.session.bodies;
+          rest = served.session.rest;
+          splits = served.is.splits;
+          next = continued.1;
+        };
       },
-      refl,
+      continued.2,
+      continued.3,
     )
 
   -- a run that was served over a disk that shows a table answers as a run of it
   pub answers_as_table : (how : Ended) (served : Served budget how (beside before v) (beside now w)) (run : FollowsRun v w f t served.session)
-      → (a : AnswersAsTable budget shows.state.mem (begins_at f t shows) (status_of how) before now) × (a.run ≡ run.transcript)
+      → IsTableRun (status_of how)
   answers_as_table ended.Done served run =
       let s = served.session in
       let none = whole_none s.rest served.ends.1 in

@@ -1,6 +1,6 @@
 -- A serving run: what it took, what it answered, what it sent, what it left on the disk, and why
 -- it ended.
-use Rattle.std.specs.Prelude.{◌≡◌, ◌≢◌, ◌≤◌, ◌<◌, ◌⊎◌, ℕ, ◌+◌, ◌==◌, ◌&&◌, Bool, true, false, if◌then◌else◌, List, [], ◌∷◌, ◌++◌, ◌-◌, length, take, map, Contains, Option, Some, None, IfSome, IsSome, option_map, Ok, Err}
+use Rattle.std.specs.Prelude.{◌≡◌, ◌≢◌, ◌≤◌, ◌<◌, ◌⊎◌, ℕ, ◌+◌, ◌==◌, ◌&&◌, Bool, true, false, if◌then◌else◌, List, [], ◌∷◌, ◌++◌, length, take, map, Contains, Option, Some, None, IfSome, IsSome, option_map, Ok, Err}
 use Rattle.std.specs.List.{AllByRecursion, flat_map}
 use Rattle.strat_base.specs.declared.descriptors.ArrayDesc.{ArrayDesc}
 use Rattle.strat_base.specs.declared.failures.Fault.{Fault}
@@ -18,7 +18,6 @@ use Rattle.strat_model.specs.declared.ended.Ended.{Ended}
 use Rattle.strat_model.specs.declared.ended.Ended.TheVariants as ended
 use Rattle.strat_model.specs.declared.replies.Refusal.{Refusal}
 use Rattle.strat_model.specs.declared.replies.Refusal.TheVariants as why
-use Rattle.strat_model.specs.declared.replies.Reply.{Reply}
 use Rattle.strat_model.specs.declared.replies.Reply.TheVariants as reply
 use Rattle.strat_model.specs.Answer.{refusal}
 use Rattle.strat_model.specs.Request.{Request}
@@ -26,7 +25,7 @@ use Rattle.strat_model.specs.Spelling.{Spells, IsRefusedAs, reply_body}
 use Rattle.strat_model.specs.Stream.{frame, Splits, Whole, Rest, Long, ending_of, is_partial, is_too_long}
 use Rattle.strat_model.specs.Table.{Cursor, Table, bare}
 use Rattle.strat_model.specs.Batch.{Continuation, tables_continued}
-use Rattle.strat_model.specs.Run.{is_change, reaches_disk, takes_memory, Position, Response, response_bytes, Answers, AnswersFault, Transcript, IsTranscript, UsesOneRegion, bodies_of, tables_of, sent_bytes}
+use Rattle.strat_model.specs.Run.{is_change, reaches_disk, takes_memory, Position, Response, Exchange, response_bytes, Answers, AnswersFault, Transcript, IsTranscript, UsesOneRegion, bodies_of, sent_bytes}
 use Rattle.strat_promote.specs.Job.{blocks_listed}
 use Rattle.def_recovery.specs.Head.{Head, descriptors}
 use Rattle.def_recovery.specs.Opening.{recover}
@@ -273,17 +272,13 @@ pub record SendsAllBut (most : ℕ) (before now : Option (List ℕ)) (s : Sessio
   pub replied : cut.sent ≡ sent_bytes (take whole (all_responses s)) ++ part
   pub ahead : WaitsForNone s.taken s.bodies whole
 
--- it took all replies but the last, as the next body is answered once a reply was sent
-abbrev pub SendsAllButLast : Option (List ℕ) → Option (List ℕ) → Session → Type 0
-SendsAllButLast before now s = SendsAllBut 1 before now s
-
--- or, where changes become durable in batches whose replies wait, all but the last sixteen
+-- it took all replies but the last sixteen, as replies to changes that become durable together are sent together
 abbrev pub SendsAllButBatch : Option (List ℕ) → Option (List ℕ) → Session → Type 0
 SendsAllButBatch before now s = SendsAllBut 16 before now s
 
 -- what the sink took of what a session sends: all of it, where it did not fail
 abbrev pub Sends : Ended → Option (List ℕ) → Option (List ℕ) → Session → Type 0
-Sends ended.Sink before now s = SendsAllButLast before now s
+Sends ended.Sink before now s = SendsAllButBatch before now s
 Sends _ before now s = Appends before now (output s)
 
 -- there is a response, and it tells of this fault
@@ -306,6 +301,11 @@ EndsFor ended.Device budget s left = EndsWithFault s.broken fault.Device
 EndsFor (ended.Damaged block) budget s left = EndsWithFault s.broken (fault.Damaged block)
 EndsFor _ budget s left = ⊥
 
+-- the bodies of a run, and behind them those over which it is continued, are the first of these
+abbrev pub AreNextIn : List (List ℕ) → Transcript → List Exchange → Type 0
+AreNextIn bodies run more =
+    take (length (bodies_of run) + length more) bodies ≡ bodies_of run ++ map (λ x. x.body) more
+
 -- the responses of a session are those of a run of the table that a content shows, and the disk
 -- followed the run's tables up to all that was answered otherwise than by a fault
 pub record FollowsRun (before now : DiskView) (f : Image) (t : Table) (s : Session)
@@ -325,15 +325,10 @@ pub record FollowsRun (before now : DiskView) (f : Image) (t : Table) (s : Sessi
   pub answers_are : s.answers ≡ map (λ x. x.response) transcript.exchanges
   pub broken_is : s.broken ≡ option_map (λ h. h.response) transcript.interruption
   pub device : IfSome s.broken (λ r. r.answer ≡ refusal why.DeviceFault)
-  pub follows : FollowsFrom before now f (tables_of transcript) (length transcript.exchanges)
-
--- the disk followed the tables of a run that is continued, behind its interruption, over bodies that became
--- durable with it or not at all: the next ones of the session
-pub record FollowsContinued (before now : DiskView) (f : Image) (mem : ℕ) (s : Session)
-    (transcript : Transcript) : Type 0 where
+  -- behind its interruption it is continued over bodies that became durable with that one or not at all: the next ones of
+  -- the session, which were not answered
   pub continued : Continuation mem transcript
-  pub next : take (length (bodies_of transcript) + length continued.more) s.bodies
-      ≡ bodies_of transcript ++ map (λ x. x.body) continued.more
+  pub next : AreNextIn s.bodies transcript continued.more
   pub follows : FollowsFrom before now f (tables_continued transcript continued.end)
       (length transcript.exchanges)
 

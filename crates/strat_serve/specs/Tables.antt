@@ -10,7 +10,8 @@ use Rattle.strat_model.specs.declared.ended.Ended.TheVariants as ended
 use Rattle.strat_model.specs.declared.replies.Refusal.TheVariants as why
 use Rattle.strat_model.specs.Answer.{refusal}
 use Rattle.strat_model.specs.Ended.{status_of}
-use Rattle.strat_model.specs.Run.{Position, Interruption, Transcript, IsTranscript, UsesOneRegion, bodies_of, responses_of, tables_of, sent_bytes}
+use Rattle.strat_model.specs.Batch.{Continuation, tables_continued}
+use Rattle.strat_model.specs.Run.{Position, Exchange, Interruption, Transcript, IsTranscript, UsesOneRegion, bodies_of, responses_of, sent_bytes}
 use Rattle.strat_model.specs.Stream.{Splits, Rest, Long, ending_of}
 use Rattle.strat_model.specs.Table.{Table}
 use Rattle.def_recovery.specs.Opening.{reads_as}
@@ -19,7 +20,7 @@ use Rattle.def_state.specs.Level.{is_dense}
 use Rattle.def_state.specs.Sound.{IsSound}
 use Rattle.def_state.specs.State.{State, stored, updates_of, versions_of}
 use Rattle.strat_memory.specs.Paying.{IsPaidIn}
-use Rattle.strat_serve.specs.Session.{Took, IsAtEnd, WaitsForNone, too_long_bytes}
+use Rattle.strat_serve.specs.Session.{Took, AreNextIn, IsAtEnd, WaitsForNone, too_long_bytes}
 use Rattle.strat_serve.specs.World.{Streams}
 
 -- a run answered every frame that was taken whole, none of them by a fault, and a rest with no whole frame was taken
@@ -91,7 +92,7 @@ AnswersUntil ended.Source budget run taken left sent =
     (rest : List ℕ) × AnswersAllTaken run taken rest sent [] × (ending_of rest ≢ Long)
 AnswersUntil ended.Device budget run taken left sent =
     AnswersNothing run taken sent ⊎ AnswersUntilFault run taken sent
-AnswersUntil ended.Sink budget run taken left sent = AnswersUntilCut 1 run taken sent
+AnswersUntil ended.Sink budget run taken left sent = AnswersUntilCut 16 run taken sent
 AnswersUntil ended.NoMemory budget run taken left sent = AnswersNothing run taken sent
 AnswersUntil _ budget run taken left sent = ⊥
 
@@ -100,7 +101,15 @@ AnswersUntil _ budget run taken left sent = ⊥
 abbrev pub begins_at : (c : Image) (t : Table) → ShowsTable c t → Position
 begins_at c t shows = record { table = t; fill = length shows.state.journal }
 
--- a serving run with this status answered as a run of a table from this position
+-- the bodies over which a run is continued are those of the frames that were taken next behind the run's own
+pub record AreTakenNext (taken : List ℕ) (run : Transcript) (more : List Exchange) : Type 0 where
+  pub bodies : List (List ℕ)
+  pub rest : List ℕ
+  pub splits : Splits taken bodies rest
+  pub next : AreNextIn bodies run more
+
+-- a serving run with this status answered as a run of a table from this position, which is continued over those of the
+-- bodies taken next that became durable with its last one or not at all
 pub record AnswersAsTable (budget mem : ℕ) (start : Position) (status : ℕ) (before now : Streams)
     : Type 0 where
   pub how : Ended
@@ -114,15 +123,19 @@ pub record AnswersAsTable (budget mem : ℕ) (start : Position) (status : ℕ) (
   pub sent : List ℕ
   pub adds : Appends before.held now.held sent
   pub until : AnswersUntil how budget run taken now.left sent
+  pub continued : Continuation mem run
+  pub next : AreTakenNext taken run continued.more
 
--- each image now shows the table after some of a run's bodies, and after all that were answered otherwise than by a fault
-abbrev pub EndsAtTables : Transcript → DiskView → Type 0
-EndsAtTables run now = (c : Image) → Images now c
-    → (i : ℕ) × (length run.exchanges ≤ i) × At (tables_of run) i (ShowsTable c)
+-- each image now shows the table after all of a run's bodies that were answered otherwise than by a fault, or the one at
+-- this position, where the run ends that is continued over the whole batch of the body that met a fault
+abbrev pub EndsAtTables : Transcript → Position → DiskView → Type 0
+EndsAtTables run end now = (c : Image) → Images now c
+    → (i : ℕ) × (length run.exchanges ≤ i) × At (tables_continued run end) i (ShowsTable c)
 
 -- up to some moment a crash leaves only what it might have left before, at that moment this content alone, and from then
--- on the images go through the tables of a run
-pub record GoesThroughTables (run : Transcript) (f : Image) (before now : DiskView) : Type 0 where
+-- on the images go through the tables of a run, which may be continued up to this position
+pub record GoesThroughTables (run : Transcript) (end : Position) (f : Image)
+    (before now : DiskView) : Type 0 where
   pub synced : ℕ
   pub from : before.moment ≤ synced
   pub till : synced ≤ now.moment
@@ -130,7 +143,7 @@ pub record GoesThroughTables (run : Transcript) (f : Image) (before now : DiskVi
   pub one : (c : Image) → now.images_at synced c → c ≡ f
   pub until : (m : ℕ) (c : Image) → before.moment ≤ m → m ≤ synced → now.images_at m c
       → Images before c
-  pub trail : Trail ShowsTable now synced (tables_of run) (length run.exchanges)
+  pub trail : Trail ShowsTable now synced (tables_continued run end) (length run.exchanges)
 
 -- an image reads as a sound state that stores at most two entries for each update; each of its arrays is at least a third
 -- live in each version of its tag

@@ -2,7 +2,7 @@
 //! that does nothing.
 
 ghost use Rattle.std.specs.List.{flat_map};
-ghost use Rattle.std.specs.Prelude.{◌≡◌, ◌≢◌, ◌<◌, ◌≤◌, ◌⊎◌, ◌+◌, ℕ, List, [], ◌++◌, Contains, IsSome, None, Ok, Option, Some, length, map, slice_get, take, true};
+ghost use Rattle.std.specs.Prelude.{◌≡◌, ◌≢◌, ◌<◌, ◌≤◌, ◌⊎◌, ◌+◌, ℕ, List, [], ◌++◌, Contains, IsSome, None, Ok, Some, length, map, slice_get, take, true};
 ghost use Rattle.strat_base.specs.declared.descriptors.ArrayDesc.{ArrayDesc};
 ghost use Rattle.def_crash.specs.Blocks.{AgreeOn};
 ghost use Rattle.def_crash.specs.Faults.{Rose};
@@ -21,10 +21,10 @@ ghost use Rattle.strat_model.specs.Answer.{refusal};
 ghost use Rattle.strat_model.specs.Ended.{status_of};
 ghost use Rattle.strat_model.specs.Request.{Request};
 ghost use Rattle.strat_model.specs.Batch.{tables_continued};
-ghost use Rattle.strat_model.specs.Run.{Position, Response, Transcript, bodies_of, positions_of, reaches_disk, tables_of, takes_memory};
+ghost use Rattle.strat_model.specs.Run.{Position, Response, Transcript, bodies_of, positions_of, reaches_disk, takes_memory};
 ghost use Rattle.strat_model.specs.Spelling.{Spells, IsRefusedAs};
-ghost use Rattle.strat_model.specs.Stream.{frame};
-ghost use Rattle.strat_model.specs.Table.{Table};
+ghost use Rattle.strat_model.specs.Stream.{Splits, frame};
+ghost use Rattle.strat_model.specs.Table.{Table, bare};
 ghost use Rattle.strat_promote.specs.Job.{blocks_listed};
 ghost use Rattle.def_recovery.specs.Head.{Head};
 ghost use Rattle.def_recovery.specs.Opening.{recover};
@@ -35,7 +35,7 @@ ghost use Rattle.strat_store.specs.Applying.{is_fault};
 ghost use Rattle.strat_open.specs.Following.{IsOpenedAs, LeavesOpening};
 ghost use Rattle.strat_memory.specs.Held.{Held, IsConsistent, IsOnDisk, arrays_held};
 ghost use Rattle.strat_store.specs.Ranging.{HasPairsFor};
-ghost use Rattle.strat_serve.specs.Session.{Begins, AreCalm, FollowsContinued, FollowsRun, IsSession, IsTaggedFor, RespondsTo, SendsAllButBatch, SendsAllButLast, Served, Session, WasPublished, all_responses};
+ghost use Rattle.strat_serve.specs.Session.{Begins, AreCalm, IsSession, IsTaggedFor, RespondsTo, Served, Session, WasPublished, all_responses};
 ghost use Rattle.strat_serve.specs.Tables.{AnswersAsTable, EndsAtTables, GoesThroughTables, KeepsSpace, begins_at};
 ghost use Rattle.strat_serve.specs.World.{Streams, beside};
 
@@ -51,9 +51,9 @@ pub fn a_run_begins_where_the_last_one_was_cut_off()
 {}
 
 /// A run that was served over a disk that shows a table answers what it took as a run of that table does. At its
-/// end a crash leaves the table after all that was answered, or after one command more that met a fault; on the
-/// way it leaves what it might have left before, and then the run's tables in order, each with at most two
-/// entries for each update.
+/// end a crash leaves the table after all that was answered, or after one command more that met a fault and the whole
+/// rest of its batch; on the way it leaves what it might have left before, and then the run's tables in order, each with
+/// at most two entries for each update.
 pub fn a_served_run_is_a_run_of_its_table<D: Viewed>()
     ensures answers { (x y : Streams) (d e : D) (budget : ℕ) (how : Ended) (f : Image) (t : Table)
         (shows : ShowsTable f t) → Exposes (D.view d) f
@@ -63,12 +63,12 @@ pub fn a_served_run_is_a_run_of_its_table<D: Viewed>()
         (shows : ShowsTable f t) → Exposes (D.view d) f
         → Served budget how (beside x (D.view d)) (beside y (D.view e))
         → (a : AnswersAsTable budget shows.state.mem (begins_at f t shows) (status_of how) x y)
-        × EndsAtTables a.run (D.view e) }
+        × EndsAtTables a.run a.continued.end (D.view e) }
     ensures trail { (x y : Streams) (d e : D) (budget : ℕ) (how : Ended) (f : Image) (t : Table)
         (shows : ShowsTable f t) → Exposes (D.view d) f
         → Served budget how (beside x (D.view d)) (beside y (D.view e))
         → (a : AnswersAsTable budget shows.state.mem (begins_at f t shows) (status_of how) x y)
-        × GoesThroughTables a.run f (D.view d) (D.view e) }
+        × GoesThroughTables a.run a.continued.end f (D.view d) (D.view e) }
     ensures space { (x y : Streams) (d e : D) (budget : ℕ) (how : Ended) (f : Image) (t : Table)
         → ShowsTable f t → Exposes (D.view d) f
         → Served budget how (beside x (D.view d)) (beside y (D.view e))
@@ -178,25 +178,26 @@ pub fn runs_may_begin_at_any_image<D: Viewed>()
         → EachShows (D.view d) → Served budget how (beside x (D.view d)) (beside y (D.view e))
         → (a : AnswersAsTable budget shows.state.mem (begins_at f t shows) (status_of how) x y)
         × ((c : Image) → Since (D.view e) (D.view d).moment c
-        → ShowsOneOf (D.view d) c ⊎ ((i : ℕ) × At (tables_of a.run) i (ShowsTable c))) }
+        → ShowsOneOf (D.view d) c
+        ⊎ ((i : ℕ) × At (tables_continued a.run a.continued.end) i (ShowsTable c))) }
 {}
 
-/// What a run promises that makes each change durable by itself is what one promises that makes up to sixteen durable together:
-/// the run is continued over nothing, and no more replies are missing than the last. A continued run goes on over the
-/// next bodies of the session, and a crash at its end leaves the table after all that was answered, or a later one.
-pub fn a_run_of_single_changes_is_one_of_batches<D: Viewed>()
-    ensures sends { (before now : Option (List ℕ)) (s : Session) → SendsAllButLast before now s
-        → SendsAllButBatch before now s }
-    ensures follows { (d e : D) (f : Image) (t : Table) (s : Session)
-        (run : FollowsRun (D.view d) (D.view e) f t s)
-        → (c : FollowsContinued (D.view d) (D.view e) f run.mem s run.transcript)
-        × (c.continued.more ≡ []) }
-    ensures next { (d e : D) (f : Image) (mem : ℕ) (s : Session) (run : Transcript)
-        (c : FollowsContinued (D.view d) (D.view e) f mem s run)
-        → take (length (bodies_of run) + length c.continued.more) s.bodies
-        ≡ bodies_of run ++ map (λ x. x.body) c.continued.more }
-    ensures left { (d e : D) (f image : Image) (mem : ℕ) (s : Session) (run : Transcript)
-        (c : FollowsContinued (D.view d) (D.view e) f mem s run) → Images (D.view e) image
-        → (i : ℕ) × (length run.exchanges ≤ i)
-        × At (tables_continued run c.continued.end) i (ShowsTable image) }
+/// What a run is continued over: nothing, where its last body met no fault; else at most fifteen of the bodies that were taken
+/// next, none of which was answered, as they were to become durable with the one that met the fault. At the end a crash leaves
+/// the table after all that was answered otherwise, or the one after the whole batch, and none amid it.
+pub fn a_run_may_be_continued_over_the_rest_of_a_batch<D: Viewed>()
+    ensures none { (budget mem status : ℕ) (start : Position) (x y : Streams)
+        (a : AnswersAsTable budget mem start status x y) → a.run.interruption ≡ None
+        → a.continued.more ≡ [] }
+    ensures len { (budget mem status : ℕ) (start : Position) (x y : Streams)
+        (a : AnswersAsTable budget mem start status x y) → length a.continued.more ≤ 15 }
+    ensures next { (budget mem status : ℕ) (start : Position) (x y : Streams)
+        (a : AnswersAsTable budget mem start status x y)
+        → (bodies : List (List ℕ)) × (rest : List ℕ) × Splits a.taken bodies rest
+        × (take (length (bodies_of a.run) + length a.continued.more) bodies
+        ≡ bodies_of a.run ++ map (λ x. x.body) a.continued.more) }
+    ensures left { (e : D) (run : Transcript) (end : Position) (c : Image)
+        → EndsAtTables run end (D.view e) → Images (D.view e) c
+        → ShowsTable c (bare run.after.table)
+        ⊎ (IsSome run.interruption × ShowsTable c (bare end.table)) }
 {}

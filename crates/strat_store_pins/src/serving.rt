@@ -7,7 +7,8 @@ ghost use Rattle.def_crash.specs.Image.{Image};
 ghost use Rattle.def_crash.specs.Moments.{Exposes, Images, Since};
 ghost use Rattle.def_crash.specs.Trail.{At, Trail};
 ghost use Rattle.strat_model.specs.Request.{Request};
-ghost use Rattle.strat_model.specs.Run.{Response, Transcript, bodies_of, is_change, responses_of, sent_bytes, tables_of};
+ghost use Rattle.strat_model.specs.Batch.{tables_continued};
+ghost use Rattle.strat_model.specs.Run.{Position, Response, Transcript, bodies_of, is_change, responses_of, sent_bytes};
 ghost use Rattle.strat_model.specs.Spelling.{Spells};
 ghost use Rattle.strat_model.specs.Stream.{frame, is_partial};
 ghost use Rattle.strat_model.specs.declared.ended.Ended.TheVariants as ended;
@@ -30,8 +31,8 @@ pub fn a_run_waits_for_no_frame()
         × (taken ≡ flat_map frame (take waits.read bodies) ++ (waits.held ++ waits.piece)) }
 {}
 
-/// A run that met a fault read no further while a frame waited that was not answered; one whose sink failed lost the reply to one body
-/// at most, and read no further while a frame waited whose reply had not gone out.
+/// A run that met a fault read no further while a frame waited that was not answered; one whose sink failed lost the replies to
+/// sixteen bodies at most, and read no further while a frame waited whose reply had not gone out.
 pub fn a_run_that_failed_did_not_read_ahead()
     ensures faults { (run : Transcript) (taken sent : List ℕ)
         (until : AnswersUntilFault run taken sent)
@@ -39,10 +40,10 @@ pub fn a_run_that_failed_did_not_read_ahead()
         × (take (length (bodies_of run)) until.bodies ≡ bodies_of run)
         × (run.interruption ≡ Some until.broken) × (sent ≡ sent_bytes (responses_of run)) }
     ensures err { (run : Transcript) (taken sent : List ℕ)
-        (until : AnswersUntilCut 1 run taken sent)
+        (until : AnswersUntilCut 16 run taken sent)
         → WaitsForNone taken until.bodies until.whole
         × (take (length (bodies_of run)) until.bodies ≡ bodies_of run)
-        × (length (responses_of run) ≤ until.whole + 1)
+        × (length (responses_of run) ≤ until.whole + 16)
         × (sent ≡ sent_bytes (take until.whole (responses_of run)) ++ until.part)
         × (sent_bytes (responses_of run) ++ until.more ≡ sent ++ until.unsent)
         × (0 < length until.unsent) }
@@ -67,17 +68,18 @@ pub fn a_run_of_a_table_ends_so()
 /// Up to the sync a crash leaves what it might have left before, then the content, and from then on the tables in order; at the end the
 /// one after all exchanges, or a later one; and what it leaves is what it might have left before, or thrifty.
 pub fn images_go_through_the_tables_of_a_run<D: Viewed>()
-    ensures trail { (d e : D) (f : Image) (run : Transcript)
-        (goes : GoesThroughTables run f (D.view d) (D.view e))
+    ensures trail { (d e : D) (f : Image) (run : Transcript) (end : Position)
+        (goes : GoesThroughTables run end f (D.view d) (D.view e))
         → ((D.view d).moment ≤ goes.synced) × (goes.synced ≤ (D.view e).moment)
         × (D.view e).images_at goes.synced f
         × ((c : Image) → (D.view e).images_at goes.synced c → c ≡ f)
         × ((m : ℕ) (c : Image) → (D.view d).moment ≤ m → m ≤ goes.synced
         → (D.view e).images_at m c → Images (D.view d) c)
-        × Trail ShowsTable (D.view e) goes.synced (tables_of run) (length run.exchanges) }
-    ensures end { (e : D) (c : Image) (run : Transcript) → EndsAtTables run (D.view e)
-        → Images (D.view e) c
-        → (i : ℕ) × (length run.exchanges ≤ i) × At (tables_of run) i (ShowsTable c) }
+        × Trail ShowsTable (D.view e) goes.synced (tables_continued run end)
+        (length run.exchanges) }
+    ensures end { (e : D) (c : Image) (run : Transcript) (end : Position)
+        → EndsAtTables run end (D.view e) → Images (D.view e) c
+        → (i : ℕ) × (length run.exchanges ≤ i) × At (tables_continued run end) i (ShowsTable c) }
     ensures images { (d e : D) (f c : Image) → KeepsSpace f (D.view d) (D.view e)
         → Since (D.view e) (D.view d).moment c → Images (D.view d) c
         ⊎ ((s : State) × (reads_as c ≡ Some s) × IsSound s × (stored s ≤ 2 * updates_of s)

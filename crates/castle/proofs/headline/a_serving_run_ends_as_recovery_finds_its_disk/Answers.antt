@@ -1,4 +1,4 @@
-use Rattle.std.proofs.Common.{◌≡◌, ℕ, Option, None, Some, inl, inr, refl, sym, subst, arith}
+use Rattle.std.proofs.Common.{Option, None, Some, inl, inr, sym, subst, arith}
 use Rattle.std.specs.Prelude.{Ok, Err}
 use Rattle.def_bytes.specs.Damage.{Read}
 use Rattle.strat_model.specs.Ended.{status_of}

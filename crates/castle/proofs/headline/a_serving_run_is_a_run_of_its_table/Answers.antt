@@ -1,4 +1,4 @@
-use Rattle.std.proofs.Common.{◌≡◌, ℕ, refl, sym, subst, arith}
+use Rattle.std.proofs.Common.{refl, sym, subst, arith}
 use Rattle.strat_model.specs.declared.ended.Ended.TheVariants as ended
 use Rattle.castle.specs.Outcomes.{EndsAsInput}
 use Rattle.castle.proofs.HeadlineLemmas.{as_table, answered_by, left_by, trail_by, ended_by, other_by}

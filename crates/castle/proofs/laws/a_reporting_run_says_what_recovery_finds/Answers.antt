@@ -1,4 +1,4 @@
-use Rattle.std.proofs.Common.{◌≡◌, ℕ, Option, inl, inr, refl, sym, ap, subst, ◌∙◌, arith}
+use Rattle.std.proofs.Common.{Option, inl, inr, sym, ap, subst, ◌∙◌, arith}
 use Rattle.def_bytes.specs.Damage.{Read}
 use Rattle.strat_model.specs.Ended.{status_of}
 use Rattle.def_recovery.specs.Head.{Head}

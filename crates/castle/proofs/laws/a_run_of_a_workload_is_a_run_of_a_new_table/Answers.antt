@@ -1,4 +1,4 @@
-use Rattle.std.proofs.Common.{◌≡◌, ℕ, ◌⊎◌, inl, inr, refl, sym, subst, arith}
+use Rattle.std.proofs.Common.{◌≡◌, ℕ, ◌⊎◌, inl, inr, sym, subst, arith}
 use Rattle.castle.proofs.OutcomeLemmas.{causes, exposed_ends_by, goes_new, made_none, new_space, none_or_shown, none_or_thrifty, work_ends_by, work_left, work_sent}
 use Rattle.castle.proofs.laws.a_run_of_a_workload_is_a_run_of_a_new_table.Goals as goal
 
@@ -20,7 +20,7 @@ returns-clause-left g c = λ path seed count status x y d e f ran exposed.
         | inl device ↦ inl device
         | inr memory ↦ inr (inl memory)
       ]
-      | inr carried ↦ inr (inr (carried.transcript, carried.run, carried.region, carried.front, carried.follows.left))
+      | inr carried ↦ inr (inr (carried.transcript, carried.run, carried.region, carried.front, (carried.continued, carried.next, carried.follows.left)))
     ]
 
 pub returns-clause-trail : goal.returns-clause-trail
@@ -30,14 +30,14 @@ returns-clause-trail g c = λ path seed count status x y d e f ran exposed.
         made_none status ran.0 ran.1 (g.D.Viewed.view d) (g.D.Viewed.view e) none,
         λ blank i since. none_or_shown 64 16777216 16384 i (none.moments blank i since),
       )
-      | inr carried ↦ inr (carried.transcript, carried.run, carried.region, goes_new (g.D.Viewed.view d) (g.D.Viewed.view e) carried.transcript carried.follows)
+      | inr carried ↦ inr (carried.transcript, carried.run, carried.region, (carried.continued, carried.next, goes_new (g.D.Viewed.view d) (g.D.Viewed.view e) carried.transcript carried.continued.end carried.follows))
     ]
 
 pub returns-clause-space : goal.returns-clause-space
 returns-clause-space g c = λ path seed count status x y d e f i ran exposed blank since.
     elim (ran.2.left f exposed).made [
       | inl none ↦ none_or_thrifty i (none.moments blank i since)
-      | inr carried ↦ new_space (g.D.Viewed.view d) (g.D.Viewed.view e) carried.transcript carried.follows blank i since
+      | inr carried ↦ new_space (g.D.Viewed.view d) (g.D.Viewed.view e) carried.transcript carried.continued.end carried.follows blank i since
     ]
 
 pub returns-clause-cause : goal.returns-clause-cause

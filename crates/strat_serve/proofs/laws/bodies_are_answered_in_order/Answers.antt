@@ -1,4 +1,4 @@
-use Rattle.std.proofs.Common.{◌≡◌, Option, subst}
+use Rattle.std.proofs.Common.{Option, subst}
 use Rattle.std.specs.Prelude.{IfSome, IsSome}
 use Rattle.strat_model.specs.Faults.{fault_told}
 use Rattle.strat_model.specs.Run.{Response}

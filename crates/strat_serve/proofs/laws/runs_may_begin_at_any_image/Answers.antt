@@ -1,8 +1,5 @@
-use Rattle.std.proofs.Common.{refl, sym, subst}
-use Rattle.strat_model.specs.Run.{Transcript}
 use Rattle.strat_serve.proofs.SeveralLemmas.{failed_whole, goes_whole, opened_one, opened_whole}
-use Rattle.strat_serve.proofs.TableLemmas.{answers_as_table, goes_through}
-use Rattle.strat_serve.specs.Tables.{GoesThroughTables}
+use Rattle.strat_serve.proofs.TableLemmas.{answers_as_table}
 use Rattle.strat_serve.proofs.laws.runs_may_begin_at_any_image.Goals as goal
 
 pub returns-clause-opened : goal.returns-clause-opened
@@ -19,7 +16,5 @@ returns-clause-served g c = λ x y d e budget how f t shows exposed leaves each 
     let run = served.follows f t exposed shows in
     let a = answers_as_table budget x y (g.D.Viewed.view d) (g.D.Viewed.view e) f t shows how served run in (
       a.0,
-      goes_whole (g.D.Viewed.view d) (g.D.Viewed.view e) f exposed leaves each a.0.run
-          (subst (λ (tr : Transcript). GoesThroughTables tr f (g.D.Viewed.view d) (g.D.Viewed.view e)) (sym a.1)
-          (goes_through (g.D.Viewed.view d) (g.D.Viewed.view e) f _ _ run.follows run.transcript refl refl)),
+      goes_whole (g.D.Viewed.view d) (g.D.Viewed.view e) f exposed leaves each a.0.run a.0.continued.end a.2,
     )
