@@ -172,6 +172,12 @@ pub fn a_run_of_a_workload_is_a_run_of_a_new_table<D: Viewed>()
         → ¬ Rose x.disk_faults y.disk_faults → (status ≡ 0) ⊎ (status ≡ 8) }
 {}
 
+/// A run whose arguments name no subcommand ends with status 1, whatever the streams and the disk are.
+pub fn a_run_without_a_subcommand_is_refused<D: Viewed>()
+    ensures none { (status : ℕ) (x y : Streams) (d e : D) → Runs None 1099511627776 status
+        (beside x (D.view d)) (beside y (D.view e)) → status ≡ 1 }
+{}
+
 /// What a run leaves untouched is as it was, whatever it shows: here any numbers. Where no subcommand is named that is the source, the
 /// sink and the disk; where a run that serves ends before its first read, both streams; a run that does not serve never
 /// touches the source, nor the sink where it gave up.
