@@ -268,7 +268,7 @@ fn answer_alike<D: Disk>(
     requires room { beside.old.plain.next_cursor < 2 ^ 63 }
     ensures room { beside.new.plain.next_cursor ≤ beside.old.plain.next_cursor + 1 }
 {
-    if store.is_spent() || !may_be_given(command) {
+    if store.is_spent() || store.staged() > 0 || !may_be_given(command) {
         return false;
     }
     let reply = store.apply(disk, command, &mut beside.told);
@@ -330,7 +330,7 @@ pub fn told<D: Disk>(
     out: &mut PairBuf,
     command: &Command<'_>,
 ) -> Option<Reply> {
-    if store.is_spent() || !may_be_given(command) {
+    if store.is_spent() || store.staged() > 0 || !may_be_given(command) {
         return None;
     }
     Some(store.apply(disk, command, out))
