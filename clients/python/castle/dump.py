@@ -56,6 +56,11 @@ def _pair(line: str, number: int, file: str) -> Pair:
         key, value = unescaped(written), unescaped(rest)
     except TextFault as fault:
         raise DumpFault(f"line {number}: {fault.what}", fault.remedy, file=file) from None
+    return checked(key, value, number, file)
+
+
+def checked(key: bytes, value: bytes, number: int, file: str) -> Pair:
+    """The pair of the line of this number, if a store takes it."""
     if not 1 <= len(key) <= KEY_MAX:
         raise DumpFault(f"line {number} has a key of {len(key)} bytes", KeySize.remedy, file=file)
     if len(value) > VALUE_MAX:

@@ -269,15 +269,15 @@ class Store:
             batch.info(number)
         return cast(List[Info], batch.finish())
 
-    def diff(self, before: Version, after: Version) -> Differences:
-        """The keys whose values differ between two versions as they are at this call, in order.
+    def diff(self, before: Version, after: Version, *, prefix: Data = b"") -> Differences:
+        """The keys that begin with `prefix` and whose values differ between two versions as they are at this call, in order.
 
-        It scans all of both side by side, in memory of one piece each. It raises what `scan` does, and ends as a scan
-        does.
+        It scans both side by side, in memory of one piece each. Pieces that are the same bytes are not looked into, so few
+        differences cost little more than the reading. It raises what `scan` does, and ends as a scan does.
         """
-        first = self.scan(before)
+        first = self.scan(before, prefix=prefix)
         try:
-            return Differences(first, self.scan(after))
+            return Differences(first, self.scan(after, prefix=prefix))
         except BaseException:
             first.close()
             raise

@@ -153,7 +153,7 @@ class WrittenFileTest(StoreCase):
 
         def scanned(version: int) -> Iterator[object]:
             for count, pair in enumerate(scan(version)):
-                shell._interrupts.count = int(count > 300)
+                shell.interrupts.count = int(count > 300)
                 yield pair
 
         for line in (f"dump 0 {self.folder}/x", f"tree --svg {self.folder}/x"):

@@ -15,8 +15,10 @@ from support import DEADLINE, SHELL, TOP, StoreCase, comes_to, unprivileged
 
 import castle
 from castle import Batch, Store
+from castle.cli import main
+from castle.loading import WINDOW
 from castle.process import find_program
-from castle.shell import PIECE, Shell, main
+from castle.shell import Shell
 
 DUMP = "# castle dump 1\n"
 UNBUFFERED = {**os.environ, "PYTHONUNBUFFERED": "1"}
@@ -71,11 +73,12 @@ class ScriptTest(StoreCase):
         self.assertRegex(self.shell("stat\n")[1], r"^castle-shell: .*a\.store: the store is open already, by process \d+\. ")
 
     def test_usage_is_told(self) -> None:
-        cases: List[Tuple[List[str], int]] = [([], 2), (["a", "b"], 2), (["--frob"], 2), (["--help"], 0), (["-h"], 0)]
+        cases: List[Tuple[List[str], int]] = [([], 2), (["--frob"], 2), (["a", "--frob"], 2), (["a", "-c"], 2), (["--json"], 2),
+                                              (["a", "-c", "stat", "stat"], 2), (["--help"], 0), (["a", "-h"], 0)]
         for words, status in cases:
             ran = subprocess.run([sys.executable, SHELL, *words], capture_output=True, stdin=subprocess.DEVNULL)
             self.assertEqual(ran.returncode, status)
-            self.assertIn(b"usage: castle-shell FILE\n", ran.stderr if status else ran.stdout)
+            self.assertIn(b"usage: castle-shell [--json]", ran.stderr if status else ran.stdout)
 
     def test_the_version_of_the_shell_is_that_of_the_package(self) -> None:
         ran = subprocess.run([sys.executable, SHELL, "--version"], capture_output=True, stdin=subprocess.DEVNULL)
@@ -87,7 +90,7 @@ class ScriptTest(StoreCase):
         for name in ("put", "get", "delete", "clone", "scan", "info", "stat", "names", "tree", "diff", "levels", "dump", "load",
                      "help", "quit", "use"):
             self.assertRegex(out, rf"(?m)^  {name}\b")
-        self.assertTrue(out.endswith("diff A [B]\n    shows what has to change in A to get B\n"))
+        self.assertTrue(out.endswith("diff A [B] [--stat] [-p PREFIX]\n    shows what has to change in A to get B\n"))
 
     def test_names_are_set_and_removed(self) -> None:
         self.made().close()
@@ -127,7 +130,7 @@ class ScriptTest(StoreCase):
     def test_the_shell_runs_as_a_module(self) -> None:
         self.made().close()
         environment = {**os.environ, "PYTHONPATH": str(TOP / "clients" / "python")}
-        for module in ("castle", "castle.shell"):
+        for module in ("castle", "castle.cli"):
             ran = subprocess.run([sys.executable, "-m", module, "a.store"], input=f"put {module} 1\nget {module}\nnonsense\n".encode(),
                                  cwd=self.folder, env=environment, capture_output=True, timeout=DEADLINE)
             self.assertEqual((ran.stdout, ran.returncode), (b"done\n1\n", 1))
@@ -248,8 +251,8 @@ class ScanningTest(StoreCase):
         self.assertEqual(status, 1)
         self.assertRegex(out, r"^castle-shell: line 1: .*put 0\d\d\d at version 0, with \d+ of 1,000 pairs loaded: the program was ended by SIGKILL")
         told = int(out.split(", with ")[1].split()[0])
-        self.assertIn(told, range(2 * PIECE, 3 * PIECE + 1))
-        self.assertIn(len(self.opened().at(0)) - told, range(PIECE))
+        self.assertIn(told, range(2 * WINDOW, 3 * WINDOW + 1))
+        self.assertIn(len(self.opened().at(0)) - told, range(WINDOW))
 
     def test_a_load_that_fills_the_device_says_how_far_it_came(self) -> None:
         if not hasattr(resource, "prlimit"):
@@ -263,16 +266,16 @@ class ScanningTest(StoreCase):
         told = int(complaint.split(", with ")[1].split()[0])
         store.close()
         self.assertIn(len(self.opened().at(0)) - told, (0, 1))  # the put that met it was made or not
-        self.assertTrue(told % PIECE, told)
+        self.assertTrue(told % WINDOW, told)
 
     def test_ctrl_c_stops_a_load_behind_a_piece(self) -> None:
         self.made(64, 100000, 10).close()
         self.written("many.dump", dumped(*(f"{key:04}\t1" for key in range(1000))))
         with self.opened() as store:
             told = self.in_piece(store, 3, lambda: os.kill(os.getpid(), signal.SIGINT))
-            self.assertEqual(told, (f"castle-shell: line 1: stopped, with {3 * PIECE} of 1,000 pairs loaded\n", 130))
-            self.assertEqual([int(key) for key in store.at(0)], list(range(3 * PIECE)))
-            self.assertEqual(store.stat().updates, 3 * PIECE)
+            self.assertEqual(told, (f"castle-shell: line 1: stopped, with {3 * WINDOW} of 1,000 pairs loaded\n", 130))
+            self.assertEqual([int(key) for key in store.at(0)], list(range(3 * WINDOW)))
+            self.assertEqual(store.stat().updates, 3 * WINDOW)
 
     def in_piece(self, store: Store, number: int, act: Callable[[], None]) -> Tuple[str, int]:
         """Complaints and status of a shell that loads many.dump, where something happens amid the piece of this number."""
