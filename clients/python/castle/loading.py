@@ -145,7 +145,8 @@ class Load:
             self._put(window)
             fault.what += f"; {counted(self.done, 'pair')} before it {'was' if self.done == 1 else 'were'} put"
             raise
-        self._put(window)
+        if window:
+            self._put(window)
 
     def _read(self, pairs: Iterable[Pair]) -> Iterator[Pair]:
         """The pairs, where Ctrl-C while one is read says how many were put."""

@@ -97,7 +97,7 @@ class Shell:
                     number += 1
                     error = self._failure(line)
                     if error is not None:
-                        status = status or self._give_up(f"line {number}: {error}", FAILED)
+                        status = self._give_up(f"line {number}: {error}", FAILED)
                         if not self.keeps_going or isinstance(error, Ended):
                             break
                     if self.is_done:

@@ -1,0 +1,263 @@
+"""The shell with one command or some lines as its arguments: exit statuses, quoting and JSON."""
+
+import json
+import os
+import signal
+import subprocess
+import sys
+from typing import Any, List
+
+from support import DEADLINE, SHELL, StoreCase
+
+
+class SingleTest(StoreCase):
+    """`castle-shell FILE COMMAND`."""
+
+    def one(self, *words: str) -> Any:
+        """Output, complaints and status of one command."""
+        return self.ran(self.path, *words)
+
+    def test_one_command_is_carried_out(self) -> None:
+        self.made().close()
+        self.assertEqual(self.one("put", "user/1", "Ann"), ("done\n", "", 0))
+        self.assertEqual(self.one("get", "user/1"), ("Ann\n", "", 0))
+        self.assertEqual(self.one("clone", "staging"), ("made version 1 (staging)\n", "", 0))
+        self.assertEqual(self.one("put", "user/1", "Eve", "@staging"), ("done\n", "", 0))
+        self.assertEqual(self.one("get", "user/1", "@staging"), ("Eve\n", "", 0))
+        self.assertEqual(self.one("scan", "user/", "@1"), ("user/1 = Eve\n1 pair\n", "", 0))
+        self.assertEqual(self.one("diff", "--stat", "0", "staging"), ("0 removed, 0 added, 1 changed\n", "", 0))
+        self.assertEqual(self.one("tree"), ("0 (here) ─ 1 staging\n", "", 0))
+        self.assertEqual(self.one("del", "user/1", "@staging"), ("done\n", "", 0))
+        self.assertEqual(self.one("ls", "@staging"), ("0 pairs\n", "", 0))
+
+    def test_a_key_without_a_value_is_told_by_the_status_alone(self) -> None:
+        with self.made() as store:
+            store.put(0, "empty", "")
+        self.assertEqual(self.one("get", "none"), ("", "", 1))
+        self.assertEqual(self.one("exists", "none"), ("", "", 1))
+        self.assertEqual(self.one("exists", "empty"), ("", "", 0))
+        self.assertEqual(self.one("get", "empty"), ('""\n', "", 0))
+        self.assertEqual(self.shell("exists none\nexists empty\nget none\n"), ("no\nyes\nabsent\n", "", 0))
+
+    def test_a_command_that_failed_has_another_status_than_an_absent_key(self) -> None:
+        self.made(64, 1, 10).close()
+        self.assertEqual(self.one("put", "a", "1")[2], 0)
+        for words, what in ((["get", "a", "@7"], "get a at version 7: the store has no version of this number"),
+                            (["exists", "a", "@none"], "no version has the name none"), (["put", "a", "2"], "as many changes as"),
+                            (["frobnicate"], "unknown command frobnicate; `help` lists the commands\n"),
+                            (["get"], "usage: get KEY [@V]"), (["get", "\\q"], "\\q is no escape"), (["get", ""], "a key has no byte"),
+                            (["load", "none"], "none: the file can't be read")):
+            out, complaint, status = self.one(*words)
+            self.assertEqual((out, status), ("", 2), words)
+            self.assertTrue(complaint.startswith("castle-shell: ") and "line" not in complaint.split(what)[0], complaint)
+            self.assertIn(what, complaint)
+        os.remove(self.path)
+        self.assertEqual(self.one("get", "a")[::2], ("", 2))
+        self.assertEqual(self.ran(self.path, "-c", "get a")[::2], ("", 1))
+
+    def test_words_need_no_quotes_for_blanks_and_keep_escapes(self) -> None:
+        store = self.made()
+        store.close()
+        for word, data in (("a b", b"a b"), (" ", b" "), ('say "hi"', b'say "hi"'), ('"@3"', b"@3"), ('"a b"', b"a b"), ("\\x00\\xff", b"\x00\xff"),
+                           ("a\nb", b"a\nb"), ("#x", b"#x"), ("\udcff", b"\xff"), ('"', b'"'), ('"a" "b"', b'"a" "b"'), ("--json", b"--json"),
+                           ("-1", b"-1"), ("日", "日".encode())):
+            self.assertEqual(self.one("put", "k", word), ("done\n", "", 0), word)
+            with self.opened() as store:
+                self.assertEqual(store.get(0, "k"), data)
+            shown = self.one("get", "k")[0].rstrip("\n")
+            self.assertEqual(self.one("put", "again", shown), ("done\n", "", 0), shown)
+            with self.opened() as store:
+                self.assertEqual(store.get(0, "again"), data)
+        self.assertEqual(self.one("put", "k", "@3")[2], 2)
+
+    def test_an_output_that_nobody_reads_ends_it(self) -> None:
+        with self.made(64, 30000, 10) as store, store.batch() as batch:
+            for number in range(20000):
+                batch.put(0, f"{number:05}", "v" * 20)
+        for words, status in ((["scan"], 2), (["--json", "dump"], 2), (["-c", "scan"], 1)):
+            ran = subprocess.run(["/bin/bash", "-c", '"$@" | head -1; exit "${PIPESTATUS[0]}"', "bash", sys.executable, SHELL, self.path, *words],
+                                 stdin=subprocess.DEVNULL, capture_output=True, timeout=DEADLINE)
+            self.assertEqual((ran.stdout.count(b"\n"), ran.stderr, ran.returncode), (1, b"", status))
+
+    def test_standard_input_may_be_closed_and_output_not(self) -> None:
+        self.made().close()
+        for closed, status in (("<&-", 0), (">&-", 2)):
+            ran = subprocess.run(["/bin/sh", "-c", f'"$1" "$2" a.store put a 1 {closed}', "sh", sys.executable, SHELL], cwd=self.folder,
+                                 capture_output=True, timeout=DEADLINE)
+            self.assertEqual(ran.returncode, status, ran.stderr)
+
+    def test_ctrl_c_ends_it_with_status_130(self) -> None:
+        self.made().close()
+        with subprocess.Popen([sys.executable, SHELL, self.path, "load", "--csv", "-"], stdin=subprocess.PIPE, stdout=subprocess.PIPE,
+                              stderr=subprocess.PIPE) as shell:
+            assert shell.stdin
+            shell.stdin.write(b"a,1\n" * 300)
+            shell.stdin.flush()
+            self.waits(300 - 300 % 256)
+            for _ in range(10):
+                shell.send_signal(signal.SIGINT)
+                try:
+                    shell.wait(1)
+                    break
+                except subprocess.TimeoutExpired:
+                    pass
+            assert shell.stderr
+            self.assertEqual((shell.stderr.read(), shell.wait()), (b"castle-shell: stopped, with 256 pairs loaded\n", 130))
+
+    def waits(self, changes: int) -> None:
+        """Waits until the file has room for so many changes in its blocks."""
+        import time
+        deadline, size = time.monotonic() + 20, -1
+        while time.monotonic() < deadline:
+            time.sleep(0.3)
+            now = os.stat(self.path).st_mtime_ns
+            if now == size:
+                return
+            size = now
+
+
+class LinesTest(StoreCase):
+    """`-c` and `--keep-going`."""
+
+    def test_lines_are_carried_out_as_a_script(self) -> None:
+        self.made().close()
+        self.assertEqual(self.ran(self.path, "-c", 'put a "x y"', "-c", "get a", "-c", "get b"), ('done\n"x y"\nabsent\n', "", 0))
+        self.assertEqual(self.ran("-c", "get a\n# no\nget b", self.path), ('"x y"\nabsent\n', "", 0))
+        self.assertEqual(self.ran(self.path, "-c", ""), ("", "", 0))
+        out, complaint, status = self.ran(self.path, "-c", "get a", "-c", "nonsense", "-c", "get a")
+        self.assertEqual((out, complaint, status), ('"x y"\n', "castle-shell: line 2: unknown command nonsense; `help` lists the commands\n", 1))
+
+    def test_a_script_that_keeps_going_tells_each_failure_and_fails(self) -> None:
+        self.made().close()
+        script = "put a 1\nnonsense\nput b 2\nget a @9\nget b\n"
+        want = "done\ndone\n2\n"
+        for out, complaint, status in (self.ran("--keep-going", self.path, script=script),
+                                       self.ran(self.path, "--keep-going", *(f"-c{line}" for line in script.splitlines()))):
+            self.assertEqual((out, status), (want, 1))
+            told = complaint.splitlines()
+            self.assertEqual([line.split(":")[1] for line in told], [" line 2", " line 4"])
+        self.assertEqual(self.ran("--keep-going", self.path, script="get a\n"), ("1\n", "", 0))
+        self.assertEqual(self.ran("--keep-going", self.path, script="nonsense\nquit\nget a\n")[::2], ("", 1))
+
+    def test_a_program_that_ended_ends_a_script_that_keeps_going(self) -> None:
+        store = self.pretending("exit 9")
+        store.close()
+        environment = {**os.environ, "CASTLE_PROGRAM": store._found}
+        ran = subprocess.run([sys.executable, SHELL, "--keep-going", store.path], input=b"get a\nget a\nget a\n", capture_output=True,
+                             env=environment, timeout=DEADLINE)
+        self.assertEqual((ran.stdout, ran.stderr.count(b"\n"), ran.returncode), (b"", 1, 1))
+        self.assertIn(b"line 1: ", ran.stderr)
+
+
+class JsonTest(StoreCase):
+    """`--json`."""
+
+    def told(self, *lines: str) -> List[Any]:
+        """What lines print as JSON, each of which is ASCII."""
+        out, complaint, status = self.ran("--json", self.path, *(f"-c{line}" for line in lines))
+        self.assertEqual((complaint, status), ("", 0))
+        self.assertTrue(out.isascii() and out.replace("\n", "").isprintable(), out)
+        return [json.loads(line) for line in out.splitlines()]
+
+    def test_each_command_prints_objects(self) -> None:
+        self.made().close()
+        self.assertEqual(self.told("put a 1", "put b/x 2", "delete a", "get b/x", "get a", "exists a", "scan", "ls z"), [
+            {"done": True}, {"done": True}, {"done": True}, {"key": "b/x", "value": "2"}, {"key": "a", "value": None},
+            {"key": "a", "exists": False}, {"key": "b/x", "value": "2"}])
+        self.assertEqual(self.told("clone staging", "put b/x 3 @staging", "put c 4 @1", "diff 0 1", "diff 1 0 --stat", "diff 0 1 -p b/"), [
+            {"version": 1, "names": ["staging"]}, {"done": True}, {"done": True}, {"key": "b/x", "before": "2", "after": "3"},
+            {"key": "c", "before": None, "after": "4"}, {"removed": 1, "added": 0, "changed": 1}, {"key": "b/x", "before": "2", "after": "3"}])
+        place = {"version": 1, "names": ["staging"], "parent": 0, "ancestors": 1, "frozen": False}
+        first = {"version": 0, "names": [], "parent": None, "ancestors": 0, "frozen": True}
+        self.assertEqual(self.told("info 1", "tree", "stat", "names"), [
+            place, first, place, {"versions": 2, "updates": 5, "changes": 6, "cursors": 0}, {"name": "staging", "version": 1}])
+        self.assertEqual(self.told("dump staging", "scan --limit 1 @1"), [
+            {"key": "b/x", "value": "3"}, {"key": "c", "value": "4"}, {"key": "b/x", "value": "3"}, {"next": "c"}])
+        self.assertEqual(self.told("dump 1 a.dump", "load a.dump @1", "help get"), [
+            {"wrote": "a.dump"}, {"loaded": 2, "version": 1}, {"usage": "get KEY [@V]", "summary": "shows the value of a key"}])
+
+    def test_bytes_that_are_no_text_are_told_apart_from_text(self) -> None:
+        self.made().close()
+        self.assertEqual(self.told(r"put \xff\x00 {\"hex\":\"ff\"}", "put é \\x00\\xe2\\x80\\xa8", "scan"), [
+            {"done": True}, {"done": True}, {"key": "é", "value": "\0\u2028"}, {"key": {"hex": "ff00"}, "value": '{"hex":"ff"}'}])
+
+    def test_what_is_printed_is_loaded_again(self) -> None:
+        pairs = {bytes([byte]): bytes([byte, 255 - byte]) for byte in range(256)}
+        with self.made() as store:
+            store.at(0).update(pairs)
+        out = self.ran("--json", self.path, "scan")[0]
+        other = os.path.join(self.folder, "b.store")
+        type(store).format(other, 64, 1000, 10)
+        self.assertEqual(self.ran(other, "load", "--json-lines", "-", script=out), ("loaded 256 pairs into version 0\n", "", 0))
+        with type(store)(other) as loaded:
+            self.assertEqual(loaded.at(0).copy(), pairs)
+
+    def test_a_key_without_a_value_prints_nothing_but_its_absence_is_asked_for(self) -> None:
+        self.made().close()
+        self.assertEqual(self.ran(self.path, "--json", "get", "none"), ("", "", 1))
+        self.assertEqual(self.ran(self.path, "--json", "exists", "none"), ('{"key": "none", "exists": false}\n', "", 1))
+
+    def test_errors_are_text(self) -> None:
+        self.made().close()
+        out, complaint, status = self.ran("--json", self.path, "get", "a", "@9")
+        self.assertEqual((out, status), ("", 2))
+        self.assertTrue(complaint.startswith("castle-shell: "), complaint)
+
+
+class HabitTest(StoreCase):
+    """What fingers type that know other shells."""
+
+    def test_other_names_of_commands_are_taken(self) -> None:
+        self.made().close()
+        self.assertEqual(self.shell("put a 1\nls\ndel a\nls\n? exists\nexit\nget a\n"), (
+            "done\na = 1\n1 pair\ndone\n0 pairs\nexists KEY [@V]\n    tells whether a key has a value\n", "", 0))
+
+    def test_the_word_that_was_meant_is_told(self) -> None:
+        with self.made() as store:
+            store.names["staging"] = 0
+        for line, what in (("gett a", "unknown command gett; did you mean get? `help` lists the commands"),
+                           ("SCAN", "unknown command SCAN; did you mean scan? "), ("help exsits", "did you mean exists? "),
+                           ("quti", "did you mean quit? "), ("use stagign", "Did you mean staging? Names: staging."),
+                           ("diff 0 --stats", "no option --stats; did you mean --stat? usage: diff"),
+                           ("load --json a", "no option --json; did you mean --json-lines? usage: load"),
+                           ("xyzzy", "unknown command xyzzy; `help` lists the commands")):
+            self.assertIn(what, self.shell(f"{line}\n")[1])
+
+    def test_a_scan_with_a_limit_says_how_it_goes_on(self) -> None:
+        with self.made() as store:
+            store.at(0).update({f"k/{number:03}": "v" for number in range(300)})
+            store.put(0, "z", "1")
+        out = self.shell("scan k/ --limit 2\n")[0]
+        self.assertEqual(out, "k/000 = v\nk/001 = v\n2 pairs, and others follow: `scan k/002 k0` goes on, --limit N shows more\n")
+        self.assertEqual(self.shell("scan k/299 k0\n")[0], "k/299 = v\n1 pair\n")
+        self.assertEqual(self.shell("scan --limit 300 k/\n")[0][-10:], "300 pairs\n")
+        self.assertEqual(self.shell("scan --limit 300 @0\n")[0].splitlines()[-1],
+                         '300 pairs, and others follow: `scan z "" @0` goes on, --limit N shows more')
+        for line, what in (("scan --limit", "--limit needs N"), ("scan --limit 0", "--limit needs a number from 1 on, and not 0"),
+                           ("scan --limit -1", "and not -1"), ("scan --limit x", "and not x"), ("scan --limit 1 --limit 2", "--limit stands twice"),
+                           ("scan --frob", "no option --frob; usage: scan")):
+            self.assertIn(what, self.shell(f"{line}\n")[1])
+
+    def test_a_key_that_looks_like_an_option_stands_in_quotes(self) -> None:
+        self.made().close()
+        self.assertEqual(self.shell('put --limit 1\nscan "--limit"\nget --limit\nscan -\n'), (
+            "done\n--limit = 1\n1 pair\n1\n--limit = 1\n1 pair\n", "", 0))
+
+    def test_differences_are_counted_or_those_of_a_prefix(self) -> None:
+        with self.made() as store:
+            store.at(0).update({"a": "1", "b/1": "1", "b/2": "1"})
+            store.clone(0)
+            store.at(1).update({"a": "2", "b/1": "2", "b/3": "1"})
+            store.delete(1, "b/2")
+        self.assertEqual(self.shell("diff 0 1 --stat\ndiff --stat 0 1 -p b/\ndiff -p b/ 0 1\ndiff 0 1 -p c\n"), (
+            "1 removed, 1 added, 2 changed\n1 removed, 1 added, 1 changed\n"
+            "~ b/1 = 1 -> 2\n- b/2 = 1\n+ b/3 = 1\n1 removed, 1 added, 1 changed\n0 removed, 0 added, 0 changed\n", "", 0))
+        self.assertIn("-p needs PREFIX", self.shell("diff 0 1 -p\n")[1])
+
+    def test_a_script_leaves_no_history(self) -> None:
+        self.made().close()
+        environment = {**os.environ, "HOME": self.folder}
+        for words in ([self.path], [self.path, "put", "k", "secret"], [self.path, "-c", "put k secret"]):
+            ran = subprocess.run([sys.executable, SHELL, *words], input=b"put k secret\n", env=environment, capture_output=True, timeout=DEADLINE)
+            self.assertEqual((ran.stdout, ran.returncode), (b"done\n", 0))
+        self.assertEqual([name for name in os.listdir(self.folder) if "history" in name], [])
