@@ -2,12 +2,16 @@
 
 import json
 import os
+import re
 import signal
 import subprocess
 import sys
+import time
 from typing import Any, List
 
-from support import DEADLINE, SHELL, StoreCase
+from support import DEADLINE, SHELL, TOP, StoreCase
+
+from castle.shell import COMMANDS
 
 
 class SingleTest(StoreCase):
@@ -93,7 +97,7 @@ class SingleTest(StoreCase):
             assert shell.stdin
             shell.stdin.write(b"a,1\n" * 300)
             shell.stdin.flush()
-            self.waits(300 - 300 % 256)
+            self.rests()
             for _ in range(10):
                 shell.send_signal(signal.SIGINT)
                 try:
@@ -104,16 +108,13 @@ class SingleTest(StoreCase):
             assert shell.stderr
             self.assertEqual((shell.stderr.read(), shell.wait()), (b"castle-shell: stopped, with 256 pairs loaded\n", 130))
 
-    def waits(self, changes: int) -> None:
-        """Waits until the file has room for so many changes in its blocks."""
-        import time
-        deadline, size = time.monotonic() + 20, -1
-        while time.monotonic() < deadline:
+    def rests(self) -> None:
+        """Waits until the file of the store was changed, and is changed no more."""
+        deadline, before = time.monotonic() + 20, os.stat(self.path).st_mtime_ns
+        seen = [before]
+        while time.monotonic() < deadline and not (seen[-1] != before and seen[-1] == seen[-2]):
             time.sleep(0.3)
-            now = os.stat(self.path).st_mtime_ns
-            if now == size:
-                return
-            size = now
+            seen.append(os.stat(self.path).st_mtime_ns)
 
 
 class LinesTest(StoreCase):
@@ -261,3 +262,23 @@ class HabitTest(StoreCase):
             ran = subprocess.run([sys.executable, SHELL, *words], input=b"put k secret\n", env=environment, capture_output=True, timeout=DEADLINE)
             self.assertEqual((ran.stdout, ran.returncode), (b"done\n", 0))
         self.assertEqual([name for name in os.listdir(self.folder) if "history" in name], [])
+
+
+class PageTest(StoreCase):
+    def test_the_commands_of_the_client_page_are_as_shown(self) -> None:
+        self.path = os.path.join(self.folder, "settings.store")
+        self.made().close()
+        page = (TOP / "docs" / "CLIENT.md").read_text(encoding="utf-8")
+        steps = re.findall(r"^\$ castle-shell (.*)\n((?:(?!\$ ).*\n)*)", "".join(re.findall(r"^```console\n(.*?)^```$", page, re.M | re.S)), re.M)
+        self.assertGreaterEqual(len(steps), 4)
+        for words, shown in steps:
+            ran = subprocess.run(["/bin/sh", "-c", f'"$0" "$1" {words}', sys.executable, SHELL], cwd=self.folder, capture_output=True,
+                                 stdin=subprocess.DEVNULL, timeout=DEADLINE)
+            self.assertEqual((ran.stdout.decode(), ran.stderr), (shown, b""), words)
+
+    def test_what_is_completed_for_bash_and_zsh_is_there(self) -> None:
+        for name, pattern in (("castle.bash", r'1:\*\) .* -W "([^"]*)"'), ("_castle", r"'2:command:\(([^)]*)\)")):
+            found = re.search(pattern, (TOP / "completion" / name).read_text(encoding="utf-8"))
+            assert found
+            self.assertGreater(len(found[1].split()), 10)
+            self.assertEqual(set(found[1].split()) - set(COMMANDS), set())
