@@ -8,7 +8,10 @@ from __future__ import annotations
 
 import re
 import signal
-from typing import Dict, Optional, Type
+from typing import TYPE_CHECKING, Dict, Optional, Sequence, Type
+
+if TYPE_CHECKING:
+    from .merge import ThreeWay
 
 
 class CastleError(Exception):
@@ -303,6 +306,10 @@ def again(end: CastleError) -> CastleError:
 
 # What the package itself finds
 
+class Wrong(CastleError):
+    """A line of the shell that is no command."""
+
+
 class ProgramMissing(CastleError):
     """There is no program to run."""
 
@@ -380,6 +387,24 @@ class UnknownName(CastleError):
 
 class NameFault(CastleError):
     """A name that a version can't have, a version that is no number, or a file of names that can't be read."""
+
+
+class MergeFault(CastleError):
+    """Versions that can't be merged so."""
+
+
+class MergeConflict(CastleError):
+    """Both sides of a merge changed a key. Nothing was written. `conflicts` has those keys, with their values."""
+
+    remedy = "Say which side wins, or give both the same value first; nothing was written."
+    conflicts: Sequence["ThreeWay"] = ()
+
+
+class NotFresh(CastleError):
+    """A whole store is to be loaded into one that is not fresh. Nothing was changed."""
+
+    what = "the store is not fresh: it has changes or names"
+    remedy = "Make a new one with `castle format`, and load into that."
 
 
 class NamesWarning(UserWarning):

@@ -7,9 +7,11 @@ import sys
 import warnings
 from typing import Callable, Dict, Iterable, Iterator, List, NamedTuple, Optional, Sequence, TextIO, TypeVar
 
-from . import __version__, dump, levels, outfile, terminal, tree
-from .errors import CastleError, Ended, NamesWarning, UnknownName, UnknownVersion
+from . import __version__, backup, dump, levels, listing, outfile, terminal, tree
+from .branches import Snapshot, nameless
+from .errors import CastleError, Ended, MergeConflict, NamesWarning, UnknownName, UnknownVersion, Wrong
 from .frames import NUMBER_MAX, Info, Pair
+from .merge import OURS, THEIRS
 from .store import Store
 from .terminal import INTERRUPTED, Interrupts, Stopped
 from .text import Word, cell, counted, encoded, hexed, is_text, shortened, shown, words
@@ -25,12 +27,10 @@ NOTATION = """Words stand between blanks; "a word with blanks" has quotes, as ha
 text are \\xNN, and \\\\ \\" \\n \\t are as usual. @3 or @staging at the end names a version, by its number or name;
 else it is that of the prompt.
 """
+ALL = "--all"
+SIDES = {"--ours": OURS, "--theirs": THEIRS}
 PIECE = 64  # pairs that a load sends at once; it can be stopped between two pieces
 LOST = "stopped at once; a change that was under way was made or it was not"
-
-
-class Wrong(CastleError):
-    """A line that is no command."""
 
 
 class Command(NamedTuple):
@@ -59,8 +59,10 @@ class Shell:
         self.name = cell(os.fsencode(os.path.basename(store.path)))
         self.out = out
         self.here = 0
+        self.branch: Optional[str] = None  # the name that the prompt follows, if it was switched to one
         self.is_done = False
-        self._version: Optional[int] = None  # that of @, in the command that runs
+        self._at: Optional[Word] = None  # the word of @, in the command that runs
+        self._version: Optional[int] = None  # and its version
         self._interrupts = Interrupts()
 
     # Lines
@@ -74,10 +76,11 @@ class Shell:
         command = COMMANDS.get(name.text)
         if command is None:
             raise Wrong(f"unknown command {shortened(name.text)}; `help` lists the commands")
-        at = rest.pop() if rest and rest[-1].is_version else None
+        self._at = at = rest.pop() if rest and rest[-1].is_version else None
         check_words(command, rest, at)
         self._version = None if at is None else self.version_of(at)
         command.run(self, rest)
+        self._follow()
 
     def script(self, lines: Iterable[str]) -> int:
         """Carries out lines up to the first error or Ctrl-C, and gives the exit status."""
@@ -155,10 +158,16 @@ class Shell:
             self.say(f"       {error.remedy}")
 
     def prompt(self) -> str:
-        """The store, the version, its names, and whether it takes changes."""
-        names = "".join(f" {name}" for name in self.store.names.of(self.here))
+        """The store, the version, its names, and whether it takes changes. A branch that it follows stands in front."""
+        names = "".join(f" {name}" for name in self.store.names.of(self.here) if name != self.branch)
         frozen = " (frozen)" if self.store.info(self.here).frozen else ""
-        return f"{self.name} @{self.here}{names}{frozen}> "
+        return f"{self.name}{f' {self.branch}' if self.branch else ''} @{self.here}{names}{frozen}> "
+
+    def _follow(self) -> None:
+        """Goes where the branch of the prompt has moved. If its name was taken away, the prompt stays at the version."""
+        if self.branch is not None:
+            self.here = self.store.names.get(self.branch, self.here)
+            self.branch = self.branch if self.branch in self.store.names else None
 
     # Words and lines
 
@@ -171,7 +180,7 @@ class Shell:
         name = word.name[1:] if word.is_version else word.name
         if not name:
             raise Wrong(f"{word.text} names no version", "Write its number or its name, as @3 or @staging.")
-        if not (name.isascii() and name.isdigit()):
+        if not is_number(name):
             return self.store.names.version(name)
         if len(name) > len(str(NUMBER_MAX)):
             raise UnknownVersion(file=self.store.path, command=f"version {shortened(name)}")
@@ -224,30 +233,74 @@ class Shell:
     def use(self, rest: List[Word]) -> None:
         version = self.version(rest)
         self.store.info(version)
-        self.here = version
+        self.here, self.branch = version, None
+
+    def switch(self, rest: List[Word]) -> None:
+        if is_number(rest[0].name):
+            raise Wrong(f"{rest[0].name} is no name", f"`use {rest[0].name}` goes to a version by its number.")
+        self.store.names.version(rest[0].name)
+        self.branch = rest[0].name
 
     def clone(self, rest: List[Word]) -> None:
         name = rest[0].name if rest else None
         if name is not None:
-            self._check_free(name)
+            self.store.names.check_free(name)
         made = self.store.clone(self.version())
         if name is not None:
-            try:
-                self._set_name(name, made)
-            except CastleError as error:
-                error.command = f"made version {made}, which got no name"
-                raise
+            with nameless(made, self.store.names):
+                self.store.names[name] = made
         self.say(f"made {self.titled(made)}")
 
-    def _check_free(self, name: str) -> None:
-        """Fails where no new version can get this name."""
-        names = self.store.names
-        names.check(name)
+    def snapshot(self, rest: List[Word]) -> None:
+        branch, description = self._branch(), rest[1].name if rest[1:] else ""
+        self._go_on(branch, self.store.snapshot(branch, rest[0].name, description))
+
+    def release(self, rest: List[Word]) -> None:
+        source, target = rest[0].name, rest[1].name
+        before = self.store.names.get(target)
+        made = self.store.release(source, target, rest[2].name if rest[2:] else None)
+        self.say(f"{target} was version {before}")
+        self._go_on(source, made)
+
+    def _go_on(self, branch: str, made: Snapshot) -> None:
+        """Tells of a branch that goes on in a clone, and has the prompt go with it."""
+        if self.branch is None and self.here == made.version:
+            self.here = made.clone
+        self.say(f"{self.titled(made.version)} is frozen, {branch} goes on in version {made.clone}")
+
+    def _branch(self) -> str:
+        """The branch of a command: the name behind @, that of the prompt, or the only name of the version."""
+        names, version = self.store.names, self.version()
+        at = self.branch if self._at is None else self._at.name[1:]
+        if at is not None and at in names:
+            return at
+        names.check_readable()
+        found = names.of(version)
+        if len(found) != 1:
+            what = f"several names: {', '.join(found)}" if found else "no name"
+            raise Wrong(f"version {version} has {what}",
+                        f"Say which one goes on, as @{found[0]}." if found else "Give it one: names set NAME.")
+        return found[0]
+
+    def merge(self, rest: List[Word]) -> None:
+        sides = [word.text for word in rest if word.text in SIDES]
+        versions = [word for word in rest if word.text not in SIDES]
+        if len(versions) != 3 or len(sides) > 1:
+            raise Wrong(f"usage: {COMMANDS['merge'].usage}")
+        first, second, into = versions
+        ours, theirs = self.version_of(first), self.version_of(second)
+        wins = SIDES[sides[0]] if sides else None
         try:
-            version = names.version(name)  # fails otherwise where names can't be read
-        except UnknownName:
-            return
-        raise Wrong(f"version {version} has the name {name}", f"Take another, or `names remove {name}` takes it away.")
+            made = self.store.merge(ours, theirs, self.version_of(into) if is_number(into.name) else into.name, wins=wins)
+        except MergeConflict as error:
+            for row in self._until_stopped(error.conflicts):
+                self.say(listing.conflict(row, first.name, second.name))
+            error.remedy = "--ours takes the values of A, --theirs those of B; nothing was written."
+            raise
+        self.say(f"made {self.titled(made.version)}: {self.titled(made.parent)} with {counted(made.changes, 'change')}, over the "
+                 f"common ancestor {made.base}")
+        if made.conflicts:
+            self.say(f"{counted(len(made.conflicts), 'conflict')}: {first.name if wins == 'ours' else second.name} won")
 
     def _set_name(self, name: str, version: int) -> None:
         with outfile.told(self.store.names.path, "written"):
@@ -271,10 +324,13 @@ class Shell:
         elif self._version is not None:
             raise Wrong(f"usage: {COMMANDS['names'].usage}")
         elif action == "list" and not more:
-            for name, version in names.items():
-                self.say(f"{version} {name}")
+            for line in listing.names(names):
+                self.say(line)
             if not names:
                 self.say("no version has a name")
+        elif action == "describe" and len(more) == 2:
+            with outfile.told(names.path, "written"):
+                names.describe(*more)
         elif action == "remove" and len(more) == 1:
             names.version(more[0])
             with outfile.told(names.path, "written"):
@@ -284,11 +340,13 @@ class Shell:
 
     def tree(self, rest: List[Word]) -> None:
         infos = self.store.versions()
-        names = {version: self.store.names.of(version) for version in set(self.store.names.values())}
-        if not rest:
-            for line in self._until_stopped(tree.Tree([info.parent for info in infos], names, self.here).lines()):
+        is_long = [word.text for word in rest] == ["--long"]
+        if not rest or is_long:
+            labels = listing.labels(self.store.names, is_long)
+            for line in self._until_stopped(tree.Tree([info.parent for info in infos], labels, self.here).lines()):
                 self.say(line)
             return
+        names = {version: self.store.names.of(version) for version in set(self.store.names.values())}
         if rest[0].text != "--svg" or len(rest) != 2:
             raise Wrong(f"usage: {COMMANDS['tree'].usage}")
         outfile.check(rest[1].path, self.store.path)
@@ -326,6 +384,9 @@ class Shell:
         self.say(f"{removed} removed, {added} added, {changed} changed")
 
     def dump(self, rest: List[Word]) -> None:
+        if rest and rest[0].text == ALL:
+            self._dump_all(rest[1:])
+            return
         try:
             version = self.version(rest[:1])
         except (UnknownName, Wrong) as error:
@@ -339,7 +400,43 @@ class Shell:
         else:
             self._save(rest[1], lines)
 
+    def _dump_all(self, rest: List[Word]) -> None:
+        self._refuse_version("dump")
+        lines = backup.lines_of(self.store, os.path.basename(self.store.path))
+        if rest:
+            self._save(rest[0], self._until_stopped(lines))
+        else:
+            self.out.writelines(self._until_stopped(lines))
+
+    def _load_all(self, rest: List[Word]) -> None:
+        self._refuse_version("load")
+        path, counts = rest[0].path, backup.Counts(0, 0, 0)
+        with outfile.told(path, "read"), backup.twice(path) as lines:
+            for _ in self._until_stopped(backup.check(self.store, lines, path)):
+                pass
+            lines.seek(0)
+            try:
+                for counts in self._until_stopped(backup.load(self.store, lines, path)):
+                    pass
+            except (CastleError, Stopped, KeyboardInterrupt) as error:
+                what = f"with {counted(counts.versions, 'version')} and {counted(counts.changes, 'change')} loaded at least"
+                if not isinstance(error, CastleError):
+                    raise Stopped(f"stopped, {what}; make the store anew, and load again") from None
+                error.command = f"{error.command}, {what}" if error.command else what
+                raise
+        self.say(f"loaded {counts}")
+
+    def _refuse_version(self, command: str) -> None:
+        """Fails for a version behind @ where a command is about the whole store."""
+        if self._version is not None:
+            raise Wrong(f"usage: {COMMANDS[command].usage}")
+
     def load(self, rest: List[Word]) -> None:
+        if rest[0].text == ALL and len(rest) == 2:
+            self._load_all(rest[1:])
+            return
+        if len(rest) != 1:
+            raise Wrong(f"usage: {COMMANDS['load'].usage}")
         version, path = self.version(), rest[0].path
         with outfile.told(path, "read"), open(path, encoding="utf-8", errors="surrogateescape", newline="\n") as lines:
             pairs = dump.pairs_of(self._until_stopped(lines), path)
@@ -403,17 +500,26 @@ COMMANDS: Dict[str, Command] = {
     "use": Command(VERSIONS, "use V", "goes to a version, by its number or name", Shell.use, 0, 1),
     "clone": Command(VERSIONS, "clone [NAME] [@V]", "makes a version with the same pairs, which freezes this one",
                      Shell.clone, 0, 1),
-    "names": Command(VERSIONS, "names [set NAME [V] | remove NAME]", "shows names, names a version, or takes a name away",
-                     Shell.names, 0, 3),
+    "switch": Command(VERSIONS, "switch NAME", "goes to a branch, and with it wherever it moves", Shell.switch, 1, 1, False),
+    "snapshot": Command(VERSIONS, "snapshot NAME [DESCRIPTION] [@V]", "keeps a branch as it is under a name, and goes on in a clone",
+                        Shell.snapshot, 1, 2),
+    "release": Command(VERSIONS, "release FROM TO [DESCRIPTION]", "moves the name TO to what the branch FROM is now, which goes on in a clone",
+                       Shell.release, 2, 3, False),
+    "merge": Command(VERSIONS, "merge A B INTO [--ours | --theirs]", "makes a version with the changes of two, and names it INTO",
+                     Shell.merge, 3, 4, False),
+    "names": Command(VERSIONS, "names [set NAME [V] | describe NAME TEXT | remove NAME]",
+                     "shows names, names a version, describes a name, or takes it away", Shell.names, 0, 3),
     "info": Command(VERSIONS, "info [V]", "shows a version's place in the tree", Shell.info, 0, 1),
-    "tree": Command(VERSIONS, "tree [--svg FILE]", "draws the tree of versions, or writes a picture of it",
+    "tree": Command(VERSIONS, "tree [--long | --svg FILE]", "draws the tree of versions, or writes a picture of it",
                     Shell.tree, 0, 2, False),
     "diff": Command(VERSIONS, "diff A [B]", "shows what has to change in A to get B", Shell.diff, 1, 2),
     "stat": Command(VERSIONS, "stat", "shows how many versions and changes there are", Shell.stat, 0, 0, False),
     "levels": Command(FILES, "levels [--svg FILE]", "draws what is stored, level by level, or writes a picture of it",
                       Shell.levels, 0, 2, False),
-    "dump": Command(FILES, "dump [V [FILE]]", "writes a version's pairs as lines of text", Shell.dump, 0, 2),
-    "load": Command(FILES, "load FILE [@V]", "puts the pairs of a dump into a version", Shell.load, 1, 1),
+    "dump": Command(FILES, "dump [V [FILE] | --all [FILE]]", "writes a version's pairs, or the whole store, as lines of text",
+                    Shell.dump, 0, 2),
+    "load": Command(FILES, "load FILE [@V] | load --all FILE", "puts the pairs of a dump into a version, or fills a fresh store",
+                    Shell.load, 1, 2),
     "help": Command(SHELL, "help [COMMAND]", "shows this, or one command", Shell.help, 0, 1, False),
     "quit": Command(SHELL, "quit", "ends the shell", Shell.quit, 0, 0, False),
 }
@@ -435,6 +541,11 @@ def check_words(command: Command, rest: Sequence[Word], at: Optional[Word]) -> N
     if not command.least <= len(rest) <= command.most:
         is_short = at is not None and len(rest) < command.least
         raise Wrong(f"usage: {command.usage}", "Write a key or value that begins with @ in quotes." if is_short else "")
+
+
+def is_number(name: str) -> bool:
+    """Whether a version is named by its number."""
+    return name.isascii() and name.isdigit()
 
 
 def check_text(line: str) -> None:

@@ -109,10 +109,10 @@ def completions(before: Sequence[str], written: str, commands: Iterable[str], na
         found = list(commands)
     elif written.startswith("@"):
         found = [f"@{name}" for name in names]
-    elif before == ["load"] or before[-1] == "--svg" or (before[0] == "dump" and len(before) == 2):
+    elif before in (["load"], ["load", "--all"]) or before[-1] == "--svg" or (before[0] == "dump" and len(before) == 2):
         return files(written)
-    elif before[0] in ("use", "info", "diff", "dump", "names"):
-        found = [*names, *(("set", "remove") if before == ["names"] else ())]
+    elif before[0] in ("use", "switch", "info", "diff", "dump", "names", "release", "merge"):
+        found = [*names, *(("set", "describe", "remove") if before == ["names"] else ())]
     else:
         found = ["--svg"] if written and before in (["tree"], ["levels"]) else []
     return sorted(f"{word} " for word in found if word.startswith(written))
