@@ -275,6 +275,7 @@ class Shell:
         if at is not None and at in names:
             return at
         names.check_readable()
+        self.store.info(version)
         found = names.of(version)
         if len(found) != 1:
             what = f"several names: {', '.join(found)}" if found else "no name"
