@@ -16,7 +16,7 @@ from typing import TYPE_CHECKING, Dict, Iterable, Iterator, List, NamedTuple, No
 from . import branches, dump, errors, outfile
 from .errors import DumpFault, NameFault
 from .names import NAME, Name, read_name, written_name
-from .text import cell, encoded
+from .text import cell, encoded, shortened
 
 if TYPE_CHECKING:
     from .batch import Batch
@@ -24,7 +24,7 @@ if TYPE_CHECKING:
 
 FIRST = "# castle store 1"
 HEAD = re.compile(rf"{FIRST}(,.*)?")
-END = re.compile(r"# end, (\d{1,9}) versions?, (\d{1,9}) names?, (\d{1,18}) changes?")
+END = "# end, "
 CHECKED = 10000  # changes that a check reads between two times that it tells how far it is
 WINDOW = 256  # commands that a load sends at once; it can be stopped between two windows
 
@@ -60,7 +60,7 @@ def lines_of(store: "Store", title: str) -> Iterator[str]:
         for key, value in _changes_of(store, version, info.parent):
             yield f"-\t{cell(key)}\n" if value is None else f"+\t{cell(key)}\t{cell(value)}\n"
             changes += 1
-    yield f"# end, {Counts(len(infos), len(names), changes)}\n"
+    yield f"{END}{Counts(len(infos), len(names), changes)}\n"
 
 
 def _changes_of(store: "Store", version: int, parent: Optional[int]) -> Iterator[Tuple[bytes, Optional[bytes]]]:
@@ -121,13 +121,11 @@ class Reader:
 
     def _end(self, line: str) -> None:
         """Compares the counts of the last line. Other lines that begin with # are passed over."""
-        end = END.fullmatch(line)
-        if end is None:
+        if not line.startswith(END):
             return
-        told = Counts(*map(int, end.groups()))
-        if told != self.counts or not self._versions:
-            raise DumpFault(f"it has {self.counts}, and its last line says {told}", "Dump again, or mend that line.",
-                            file=self._file)
+        if line != f"{END}{self.counts}" or not self._versions:
+            raise DumpFault(f"it has {self.counts}, and its last line says {shortened(line[len(END):])}",
+                            "Dump again, or mend that line.", file=self._file)
         self._has_ended = True
 
     def _item(self, words: List[str]) -> Iterator[Item]:
@@ -187,42 +185,53 @@ def twice(path: str) -> Iterator[TextIO]:
             yield kept
 
 
-def check(store: "Store", lines: Iterable[str], file: str) -> Iterator[Counts]:
-    """Reads lines to their end, and fails where the store can't take them; nothing is changed.
+class Loading:
+    """Loads lines into a fresh store, with the same numbers of versions. They are read twice: by `check`, and by `load`.
 
-    It tells how far it is, now and then. It raises `ReadOnly`, `NotFresh`, `DumpFault`, `VersionLimit` and `ChangeLimit`.
+    Both go on piece by piece, so that they can be stopped between two.
     """
-    if store.read_only:
-        raise errors.ReadOnly(file=store.path, command="load")
-    store.names.check_changeable()
-    if store.stat().changes or store.names:
-        raise errors.NotFresh(file=store.path)
-    reader = Reader(file)
-    for number, _ in enumerate(reader.items(lines), 1):
-        if number % CHECKED == 0:
-            yield reader.counts
-    versions, _, changes = reader.counts
-    branches.check_room(store, versions - 1, versions - 1 + changes, file)
 
+    def __init__(self, store: "Store", file: str) -> None:
+        self.counts = Counts(0, 0, 0)
+        """What is loaded for good."""
+        self._store = store
+        self._file = file
 
-def load(store: "Store", lines: Iterable[str], file: str) -> Iterator[Counts]:
-    """Loads lines, which `check` has read before, with the same numbers of versions, and all names at the end.
+    def check(self, lines: Iterable[str]) -> Iterator[None]:
+        """Fails where the store can't take the lines; nothing is changed.
 
-    It tells how far it is behind each window of commands, and at the end.
-    """
-    reader, batch, sent = Reader(file), store.batch(), 0
-    for item in reader.items(lines):
-        _send(batch, reader.counts.versions - 1, item)
-        sent += 1
-        if sent % WINDOW == 0:
-            batch.finish()
-            batch = store.batch()
-            yield reader.counts
-    batch.finish()
-    if reader.names:
-        with outfile.told(store.names.path, "written"):
-            store.names.restore(reader.names)
-    yield reader.counts
+        It raises `ReadOnly`, `NotFresh`, `DumpFault`, `VersionLimit` and `ChangeLimit`.
+        """
+        store = self._store
+        if store.read_only:
+            raise errors.ReadOnly(file=store.path, command="load")
+        store.names.check_changeable()
+        if store.stat().changes or store.names:
+            raise errors.NotFresh(file=store.path)
+        reader = Reader(self._file)
+        for number, _ in enumerate(reader.items(lines), 1):
+            if number % CHECKED == 0:
+                yield
+        versions, _, changes = reader.counts
+        branches.check_room(store, versions - 1, versions - 1 + changes, self._file)
+
+    def load(self, lines: Iterable[str]) -> Iterator[None]:
+        """Makes the versions and their changes, window by window, and gives all names by one write at the end."""
+        reader, batch, sent = Reader(self._file), self._store.batch(), 0
+        for item in reader.items(lines):
+            _send(batch, reader.counts.versions - 1, item)
+            sent += 1
+            if sent % WINDOW == 0:
+                batch.finish()
+                self.counts = reader.counts._replace(names=0)
+                batch = self._store.batch()
+                yield
+        batch.finish()
+        self.counts = reader.counts._replace(names=0)
+        if reader.names:
+            with outfile.told(self._store.names.path, "written"):
+                self._store.names.restore(reader.names)
+        self.counts = reader.counts
 
 
 def _send(batch: "Batch", version: int, item: Item) -> None:

@@ -63,13 +63,13 @@ class UnknownCursor(Refused):
 class VersionLimit(Refused):
     status = 19
     what = "the store has as many versions as it was made for"
-    remedy = "Go on with the versions that there are, or make a store for more (V) and load the pairs into it."
+    remedy = "Go on with the versions that there are, or make a store for more (V): `dump --all` and `load --all` move everything."
 
 
 class ChangeLimit(Refused):
     status = 20
     what = "the store took as many changes as it was made for"
-    remedy = "Read on, or make a store for more (C) and load the pairs into it."
+    remedy = "Read on, or make a store for more (C): `dump --all` and `load --all` move everything."
 
 
 class CursorLimit(Refused):

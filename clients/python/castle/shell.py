@@ -5,6 +5,7 @@ from __future__ import annotations
 import os
 import sys
 import warnings
+from collections import deque
 from typing import Callable, Dict, Iterable, Iterator, List, NamedTuple, Optional, Sequence, TextIO, TypeVar
 
 from . import __version__, backup, dump, levels, listing, outfile, terminal, tree
@@ -411,21 +412,20 @@ class Shell:
 
     def _load_all(self, rest: List[Word]) -> None:
         self._refuse_version("load")
-        path, counts = rest[0].path, backup.Counts(0, 0, 0)
-        with outfile.told(path, "read"), backup.twice(path) as lines:
-            for _ in self._until_stopped(backup.check(self.store, lines, path)):
-                pass
+        loading = backup.Loading(self.store, rest[0].path)
+        with outfile.told(rest[0].path, "read"), backup.twice(rest[0].path) as lines:
+            deque(self._until_stopped(loading.check(lines)), 0)
             lines.seek(0)
             try:
-                for counts in self._until_stopped(backup.load(self.store, lines, path)):
-                    pass
+                deque(self._until_stopped(loading.load(lines)), 0)
             except (CastleError, Stopped, KeyboardInterrupt) as error:
-                what = f"with {counted(counts.versions, 'version')} and {counted(counts.changes, 'change')} loaded at least"
+                versions, _, changes = loading.counts
+                what = f"with {counted(versions, 'version')} and {counted(changes, 'change')} loaded"
                 if not isinstance(error, CastleError):
-                    raise Stopped(f"stopped, {what}; make the store anew, and load again") from None
+                    raise Stopped(f"stopped, {what} at least; make the store anew, and load again") from None
                 error.command = f"{error.command}, {what}" if error.command else what
                 raise
-        self.say(f"loaded {counts}")
+        self.say(f"loaded {loading.counts}")
 
     def _refuse_version(self, command: str) -> None:
         """Fails for a version behind @ where a command is about the whole store."""

@@ -9,12 +9,13 @@ import stat
 import threading
 import warnings
 import weakref
+from collections import deque
 from types import TracebackType
 from typing import List, NoReturn, Optional, Tuple, Type, Union, cast
 from weakref import WeakSet
 
 from . import backup, branches, errors, files, frames, outfile
-from .backup import Counts
+from .backup import Counts, Loading
 from .batch import Batch
 from .branches import Snapshot
 from .commands import Commands, Data, Version
@@ -348,13 +349,12 @@ class Store:
         was changed. If it ends early later on, make the store anew.
         """
         file = os.fsdecode(path)
+        loading = Loading(self, file)
         with self._program.lock, outfile.told(file, "read"), backup.twice(file) as lines:
-            for counts in backup.check(self, lines, file):
-                pass
+            deque(loading.check(lines), 0)
             lines.seek(0)
-            for counts in backup.load(self, lines, file):
-                pass
-        return counts
+            deque(loading.load(lines), 0)
+        return loading.counts
 
 
 def _located(path: Path) -> Tuple[str, str]:
