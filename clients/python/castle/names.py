@@ -2,6 +2,7 @@
 
 from __future__ import annotations
 
+import contextlib
 import os
 import re
 import threading
@@ -15,8 +16,7 @@ from .text import cell, encoded, unescaped
 
 NAME = re.compile(r"(?!\d+$)\w[\w.-]{0,63}")
 NUMBER = re.compile(r"[0-9]{1,10}")
-TIME = re.compile(r"[0-9]{4}-[0-9]{2}-[0-9]{2}T[0-9]{2}:[0-9]{2}:[0-9]{2}Z")
-TIME_FORM = "%Y-%m-%dT%H:%M:%SZ"
+TIME = re.compile(r"([0-9]{4})-([0-9]{2})-([0-9]{2})T([0-9]{2}):([0-9]{2}):([0-9]{2})Z")
 NO_TIME = "-"
 DESCRIPTION_MAX = 1000  # characters
 LISTED = 5  # names that a message has at most
@@ -255,7 +255,7 @@ def described(description: str) -> str:
 
 def written_time(time: Optional[datetime]) -> str:
     """A time as files have it; `-` if there is none."""
-    return NO_TIME if time is None else time.astimezone(timezone.utc).strftime("%Y-%m-%dT%H:%M:%SZ").zfill(20)
+    return NO_TIME if time is None else time.astimezone(timezone.utc).replace(tzinfo=None).isoformat(timespec="seconds") + "Z"
 
 
 def written_name(name: Name) -> List[str]:
@@ -267,15 +267,15 @@ def written_name(name: Name) -> List[str]:
 
 def read_name(version: int, time: str = NO_TIME, description: str = "") -> Name:
     """What `written_name` wrote. A `NameFault` tells of other words."""
-    try:
-        when = datetime.strptime(time, TIME_FORM).replace(tzinfo=timezone.utc) if TIME.fullmatch(time) else None
-        text = unescaped(description.strip()).decode("utf-8", "surrogateescape")
-    except ValueError:  # there is no such day or hour
-        when = None
-    except TextFault as fault:
-        raise NameFault(f"in the description {fault.what}", fault.remedy) from None
+    when, found = None, TIME.fullmatch(time)
+    with contextlib.suppress(ValueError):  # there may be no such day or hour
+        when = datetime(*map(int, found.groups()), tzinfo=timezone.utc) if found else None  # type: ignore[misc, arg-type]
     if when is None and time != NO_TIME:
         raise NameFault(f"{_shortened(time)} is no time", "Write it as 2026-11-29T12:00:00Z, or - where there is none.")
+    try:
+        text = unescaped(description).decode("utf-8", "surrogateescape")
+    except TextFault as fault:
+        raise NameFault(f"in the description {fault.what}", fault.remedy) from None
     return Name(version, when, described(text))
 
 
