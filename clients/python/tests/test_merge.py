@@ -198,14 +198,7 @@ class RandomTest(StoreCase):
             assert parent is not None
             versions.append(dict(versions[parent]))
             parents.append(parent)
-            for _ in range(chance.randrange(6)):
-                key = b"%d" % chance.randrange(8)
-                if chance.random() < 0.3:
-                    store.delete(made, key)
-                    versions[made].pop(key, None)
-                else:
-                    versions[made][key] = b"%d" % chance.randrange(3)
-                    store.put(made, key, versions[made][key])
+            self.change(chance, store, made, versions[made])
             ours, theirs = chance.sample(range(len(versions)), 2)
             base = self.ancestor(parents, ours, theirs)
             wins = chance.choice((None, "ours", "theirs"))
@@ -228,6 +221,18 @@ class RandomTest(StoreCase):
         self.assertGreater(len(seen), 12)
         for version, pairs in enumerate(versions):
             self.assertEqual(dict(store.at(version)), pairs)
+
+    @staticmethod
+    def change(chance: random.Random, store: Store, version: int, pairs: Pairs) -> None:
+        """Some changes of few keys to few values, so that two sides often meet."""
+        for _ in range(chance.randrange(6)):
+            key = b"%d" % chance.randrange(8)
+            if chance.random() < 0.3:
+                store.delete(version, key)
+                pairs.pop(key, None)
+            else:
+                pairs[key] = b"%d" % chance.randrange(3)
+                store.put(version, key, pairs[key])
 
     @staticmethod
     def ancestor(parents: List[Optional[int]], first: int, second: int) -> int:
