@@ -103,18 +103,23 @@ def prepare_streams() -> None:
 
 # Completion and history
 
+OPTIONS = {"tree": ("--long", "--svg"), "levels": ("--svg",), "dump": ("--all",), "load": ("--all",), "merge": ("--ours", "--theirs")}
+
+
 def completions(before: Sequence[str], written: str, commands: Iterable[str], names: Iterable[str]) -> List[str]:
     """What may stand in place of the beginning of a word, behind the words before it."""
     if not before or before == ["help"]:
         found = list(commands)
     elif written.startswith("@"):
         found = [f"@{name}" for name in names]
+    elif written.startswith("-"):
+        found = list(OPTIONS.get(before[0], ()))
     elif before in (["load"], ["load", "--all"]) or before[-1] == "--svg" or (before[0] == "dump" and len(before) == 2):
         return files(written)
     elif before[0] in ("use", "switch", "info", "diff", "dump", "names", "release", "merge"):
         found = [*names, *(("set", "describe", "remove") if before == ["names"] else ())]
     else:
-        found = ["--svg"] if written and before in (["tree"], ["levels"]) else []
+        found = []
     return sorted(f"{word} " for word in found if word.startswith(written))
 
 
