@@ -76,14 +76,13 @@ def completions(before: Sequence[str], written: str, commands: Mapping[str, Comm
     if written.startswith("-") and usage.options:
         return _beginning(written, usage.options)
     found = kinds(before, usage)
-    if "FILE" in found:
-        return files(written)
     if found & KEYS:
         return stored(written, keys)
     offered = [word for word in found if word.islower()]
     if found & VERSIONS or "NAME" in found and before[0] in OLD_NAMES:
         offered += names
-    return _beginning(written, [*offered, *(commands if "COMMAND" in found else ())])
+    fitting = _beginning(written, [*offered, *(commands if "COMMAND" in found else ())])
+    return fitting + files(written) if "FILE" in found else fitting
 
 
 def _beginning(written: str, words: Iterable[str]) -> List[str]:

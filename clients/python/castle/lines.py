@@ -5,17 +5,13 @@ from __future__ import annotations
 import difflib
 from typing import TYPE_CHECKING, Callable, Dict, List, Mapping, NamedTuple, Optional, Sequence
 
-from .errors import CastleError
+from .errors import Wrong
 from .text import Word, encoded, hexed, is_text, shortened
 
 if TYPE_CHECKING:
     from .shell import Shell
 
 ALIASES = {"?": "help", "del": "delete", "exit": "quit", "ls": "scan"}
-
-
-class Wrong(CastleError):
-    """A line that is no command."""
 
 
 class Command(NamedTuple):
@@ -89,6 +85,11 @@ def check_words(command: Command, rest: Sequence[Word], at: Optional[Word]) -> N
     if not command.least <= len(rest) <= command.most:
         is_short = at is not None and len(rest) < command.least
         raise Wrong(f"usage: {command.usage}", "Write a key or value that begins with @ in quotes." if is_short else "")
+
+
+def is_number(name: str) -> bool:
+    """Whether a version is named by its number."""
+    return name.isascii() and name.isdigit()
 
 
 def check_text(line: str) -> None:

@@ -8,9 +8,8 @@ import time
 from typing import TYPE_CHECKING, Callable, Dict, Iterable, Iterator, List, Optional, TextIO
 
 from . import dump, jsonform, outfile
-from .errors import CastleError, DumpFault
+from .errors import CastleError, DumpFault, Wrong
 from .frames import Pair
-from .lines import Wrong
 from .terminal import Stopped
 from .text import Word, counted, encoded
 

@@ -4,12 +4,15 @@ from __future__ import annotations
 
 import os
 import sys
+from collections import deque
 from typing import Callable, ContextManager, Dict, Iterable, Iterator, List, Optional, Sequence, TextIO, TypeVar
 
-from . import dump, jsonform, levels, loading, outfile, tree
-from .errors import CastleError, Ended, UnknownName, UnknownVersion
+from . import backup, dump, jsonform, levels, listing, loading, outfile, tree
+from .branches import Snapshot, nameless
+from .errors import CastleError, Ended, MergeConflict, UnknownName, UnknownVersion, Wrong
 from .frames import NUMBER_MAX, Info, prefix_end
-from .lines import ALIASES, Command, Wrong, check_text, check_words, command_of, near, take_options
+from .lines import Command, check_text, check_words, command_of, is_number, near, take_options
+from .merge import OURS, THEIRS
 from .paging import Left, unpaged
 from .store import Store
 from .terminal import INTERRUPTED, Interrupts, Stopped
@@ -21,6 +24,8 @@ NOTATION = """Words stand between blanks; "a word with blanks" has quotes, as ha
 text are \\xNN, and \\\\ \\" \\n \\t are as usual. @3 or @staging at the end names a version, by its number or name;
 else it is that of the prompt. exit, ?, del and ls are quit, help, delete and scan.
 """
+ALL = "--all"
+SIDES = {"--ours": OURS, "--theirs": THEIRS}
 LOST = "stopped at once; a change that was under way was made or it was not"
 SHOWN_MOST = 1000  # pairs that a scan at a prompt shows at most, unless it is told how many
 
@@ -43,6 +48,7 @@ class Shell:
         self.json = json
         self.keeps_going = keeps_going
         self.here = 0
+        self.branch: Optional[str] = None  # the name that the prompt follows, if it was switched to one
         self.is_done = False
         self.is_typed = False
         """Whether lines are typed at a prompt."""
@@ -51,7 +57,8 @@ class Shell:
         self.options: Dict[str, Word] = {}
         """Those of the command that runs; see `Command`."""
         self.interrupts = Interrupts()
-        self._version: Optional[int] = None  # that of @, in the command that runs
+        self._at: Optional[Word] = None  # the word of @, in the command that runs
+        self._version: Optional[int] = None  # and its version
         self._is_single = False  # whether the exit status tells that a key has no value
         self._is_absent = False
 
@@ -67,11 +74,12 @@ class Shell:
         """Carries out the command of these words."""
         name, *rest = given
         command = command_of(name.text, COMMANDS)
-        at = rest.pop() if rest and rest[-1].is_version else None
+        self._at = at = rest.pop() if rest and rest[-1].is_version else None
         self.options = take_options(command, rest)
         check_words(command, rest, at)
         self._version = None if at is None else self.version_of(at)
         command.run(self, rest)
+        self._follow()
 
     def single(self, arguments: Sequence[str]) -> int:
         """Carries out one command, whose words are the arguments of a process, and gives the exit status."""
@@ -190,10 +198,16 @@ class Shell:
         self.say(f"error: {place}{error.what}{remedy}", error=f"{place}{error.what}", remedy=error.remedy)
 
     def prompt(self) -> str:
-        """The store, the version, its names, and whether it takes changes."""
-        names = "".join(f" {name}" for name in self.store.names.of(self.here))
+        """The store, the version, its names, and whether it takes changes. A branch that it follows stands in front."""
+        names = "".join(f" {name}" for name in self.store.names.of(self.here) if name != self.branch)
         frozen = " (frozen)" if self.store.info(self.here).frozen else ""
-        return f"{self.name} @{self.here}{names}{frozen}> "
+        return f"{self.name}{f' {self.branch}' if self.branch else ''} @{self.here}{names}{frozen}> "
+
+    def _follow(self) -> None:
+        """Goes where the branch of the prompt has moved. If its name was taken away, the prompt stays at the version."""
+        if self.branch is not None:
+            self.here = self.store.names.get(self.branch, self.here)
+            self.branch = self.branch if self.branch in self.store.names else None
 
     # Words and lines
 
@@ -211,7 +225,7 @@ class Shell:
         name = word.name[1:] if word.is_version else word.name
         if not name:
             raise Wrong(f"{word.text} names no version", "Write its number or its name, as @3 or @staging.")
-        if not (name.isascii() and name.isdigit()):
+        if not is_number(name):
             try:
                 return self.store.names.version(name)
             except UnknownName as error:
@@ -305,30 +319,77 @@ class Shell:
     def use(self, rest: List[Word]) -> None:
         version = self.version(rest)
         self.store.info(version)
-        self.here = version
+        self.here, self.branch = version, None
+
+    def switch(self, rest: List[Word]) -> None:
+        if is_number(rest[0].name):
+            raise Wrong(f"{rest[0].name} is no name", f"`use {rest[0].name}` goes to a version by its number.")
+        self.store.names.version(rest[0].name)
+        self.branch = rest[0].name
 
     def clone(self, rest: List[Word]) -> None:
         name = rest[0].name if rest else None
         if name is not None:
-            self._check_free(name)
+            self.store.names.check_free(name)
         made = self.store.clone(self.version())
         if name is not None:
-            try:
-                self._set_name(name, made)
-            except CastleError as error:
-                error.command = f"made version {made}, which got no name"
-                raise
+            with nameless(made, self.store.names):
+                self.store.names[name] = made
         self.say(f"made {self.titled(made)}", version=made, names=self.store.names.of(made))
 
-    def _check_free(self, name: str) -> None:
-        """Fails where no new version can get this name."""
-        names = self.store.names
-        names.check(name)
+    def snapshot(self, rest: List[Word]) -> None:
+        branch, description = self._branch(), rest[1].name if rest[1:] else ""
+        self._go_on(branch, self.store.snapshot(branch, rest[0].name, description))
+
+    def release(self, rest: List[Word]) -> None:
+        source, target = rest[0].name, rest[1].name
+        before = self.store.names.get(target)
+        made = self.store.release(source, target, rest[2].name if rest[2:] else None)
+        self.say(f"{target} was version {before}", name=target, before=before)
+        self._go_on(source, made)
+
+    def _go_on(self, branch: str, made: Snapshot) -> None:
+        """Tells of a branch that goes on in a clone, and has the prompt go with it."""
+        if self.branch is None and self.here == made.version:
+            self.here = made.clone
+        self.say(f"{self.titled(made.version)} is frozen, {branch} goes on in version {made.clone}", version=made.version,
+                 names=self.store.names.of(made.version), branch=branch, clone=made.clone)
+
+    def _branch(self) -> str:
+        """The branch of a command: the name behind @, that of the prompt, or the only name of the version."""
+        names, version = self.store.names, self.version()
+        at = self.branch if self._at is None else self._at.name[1:]
+        if at is not None and at in names:
+            return at
+        names.check_readable()
+        self.store.info(version)
+        found = names.of(version)
+        if len(found) != 1:
+            what = f"several names: {', '.join(found)}" if found else "no name"
+            raise Wrong(f"version {version} has {what}",
+                        f"Say which one goes on, as @{found[0]}." if found else "Give it one: names set NAME.")
+        return found[0]
+
+    def merge(self, rest: List[Word]) -> None:
+        sides = [word.text for word in rest if word.text in SIDES]
+        versions = [word for word in rest if word.text not in SIDES]
+        if len(versions) != 3 or len(sides) > 1:
+            raise Wrong(f"usage: {COMMANDS['merge'].usage}")
+        first, second, into = versions
+        ours, theirs = self.version_of(first), self.version_of(second)
+        wins = SIDES[sides[0]] if sides else None
         try:
-            version = names.version(name)  # fails otherwise where names can't be read
-        except UnknownName:
-            return
-        raise Wrong(f"version {version} has the name {name}", f"Take another, or `names remove {name}` takes it away.")
+            made = self.store.merge(ours, theirs, self.version_of(into) if is_number(into.name) else into.name, wins=wins)
+        except MergeConflict as error:
+            for row in self._until_stopped(error.conflicts):
+                self.say(listing.conflict(row, first.name, second.name), conflict=row.key, base=row.base, ours=row.ours, theirs=row.theirs)
+            error.remedy = "--ours takes the values of A, --theirs those of B; nothing was written."
+            raise
+        self.say(f"made {self.titled(made.version)}: {self.titled(made.parent)} with {counted(made.changes, 'change')}, over the "
+                 f"common ancestor {made.base}", version=made.version, parent=made.parent, base=made.base, changes=made.changes,
+                 conflicts=len(made.conflicts))
+        if made.conflicts:
+            self.conclude(f"{counted(len(made.conflicts), 'conflict')}: {first.name if wins == 'ours' else second.name} won")
 
     def _set_name(self, name: str, version: int) -> None:
         with outfile.told(self.store.names.path, "written"):
@@ -358,10 +419,13 @@ class Shell:
         elif self._version is not None:
             raise Wrong(f"usage: {COMMANDS['names'].usage}")
         elif action == "list" and not more:
-            for name, version in names.items():
-                self.say(f"{version} {name}", name=name, version=version)
+            for name, line in zip(names, listing.names(names)):
+                self.say(line, **listing.fields(names, name))
             if not names:
                 self.conclude("no version has a name")
+        elif action == "describe" and len(more) == 2:
+            with outfile.told(names.path, "written"):
+                names.describe(*more)
         elif action == "remove" and len(more) == 1:
             names.version(more[0])
             with outfile.told(names.path, "written"):
@@ -371,15 +435,17 @@ class Shell:
 
     def tree(self, rest: List[Word]) -> None:
         infos = self.store.versions()
-        names = {version: self.store.names.of(version) for version in set(self.store.names.values())}
-        if not rest and self.json:
+        is_long = [word.text for word in rest] == ["--long"]
+        if (not rest or is_long) and self.json:
             for version, info in enumerate(infos):
                 self.say("", **self._placed(version, info))
             return
-        if not rest:
-            for line in self._until_stopped(tree.Tree([info.parent for info in infos], names, self.here).lines()):
+        if not rest or is_long:
+            labels = listing.labels(self.store.names, is_long)
+            for line in self._until_stopped(tree.Tree([info.parent for info in infos], labels, self.here).lines()):
                 self.say(line)
             return
+        names = {version: self.store.names.of(version) for version in set(self.store.names.values())}
         if rest[0].text != "--svg" or len(rest) != 2:
             raise Wrong(f"usage: {COMMANDS['tree'].usage}")
         outfile.check(rest[1].path, self.store.path)
@@ -426,6 +492,9 @@ class Shell:
             self.say(f"{removed} removed, {added} added, {changed} changed", removed=removed, added=added, changed=changed)
 
     def dump(self, rest: List[Word]) -> None:
+        if rest and rest[0].text == ALL:
+            self._dump_all(rest[1:])
+            return
         try:
             version = self.version(rest[:1])
         except (UnknownName, Wrong) as error:
@@ -443,8 +512,41 @@ class Shell:
         else:
             self._save(rest[1], lines)
 
+    def _dump_all(self, rest: List[Word]) -> None:
+        self._refuse_version("dump")
+        lines = backup.lines_of(self.store, os.path.basename(self.store.path))
+        if rest:
+            self._save(rest[0], self._until_stopped(lines))
+        else:
+            self.out.writelines(self._until_stopped(lines))
+
+    def _load_all(self, rest: List[Word]) -> None:
+        self._refuse_version("load")
+        loading = backup.Loading(self.store, rest[0].path)
+        with outfile.told(rest[0].path, "read"), backup.twice(rest[0].path) as lines:
+            deque(self._until_stopped(loading.check(lines)), 0)
+            lines.seek(0)
+            try:
+                deque(self._until_stopped(loading.load(lines)), 0)
+            except (CastleError, Stopped, KeyboardInterrupt) as error:
+                versions, _, changes = loading.counts
+                what = f"with {counted(versions, 'version')} and {counted(changes, 'change')} loaded"
+                if not isinstance(error, CastleError):
+                    raise Stopped(f"stopped, {what} at least; make the store anew, and load again") from None
+                error.command = f"{error.command}, {what}" if error.command else what
+                raise
+        self.say(f"loaded {loading.counts}", **dict(zip(("versions", "names", "changes"), loading.counts)))
+
+    def _refuse_version(self, command: str) -> None:
+        """Fails for a version behind @ where a command is about the whole store."""
+        if self._version is not None:
+            raise Wrong(f"usage: {COMMANDS[command].usage}")
+
     def load(self, rest: List[Word]) -> None:
-        loading.load(self, rest[0], self.version())
+        if ALL in self.options:
+            self._load_all(rest)
+        else:
+            loading.load(self, rest[0], self.version())
 
     def help(self, rest: List[Word]) -> None:
         if rest:
@@ -474,19 +576,28 @@ COMMANDS: Dict[str, Command] = {
     "use": Command(VERSIONS, "use V", "goes to a version, by its number or name", Shell.use, 0, 1),
     "clone": Command(VERSIONS, "clone [NAME] [@V]", "makes a version with the same pairs, which freezes this one",
                      Shell.clone, 0, 1),
-    "names": Command(VERSIONS, "names [set NAME [V] | remove NAME]", "shows names, names a version, or takes a name away",
-                     Shell.names, 0, 3),
+    "switch": Command(VERSIONS, "switch NAME", "goes to a branch, and with it wherever it moves", Shell.switch, 1, 1, False),
+    "snapshot": Command(VERSIONS, "snapshot NAME [DESCRIPTION] [@V]", "keeps a branch as it is under a name, and goes on in a clone",
+                        Shell.snapshot, 1, 2),
+    "release": Command(VERSIONS, "release FROM TO [DESCRIPTION]", "moves the name TO to what the branch FROM is now, which goes on in a clone",
+                       Shell.release, 2, 3, False),
+    "merge": Command(VERSIONS, "merge A B INTO [--ours | --theirs]", "makes a version with the changes of two, and names it INTO",
+                     Shell.merge, 3, 4, False),
+    "names": Command(VERSIONS, "names [set NAME [V] | describe NAME TEXT | remove NAME]",
+                     "shows names, names a version, describes a name, or takes it away", Shell.names, 0, 3),
     "info": Command(VERSIONS, "info [V]", "shows a version's place in the tree", Shell.info, 0, 1),
-    "tree": Command(VERSIONS, "tree [--svg FILE]", "draws the tree of versions, or writes a picture of it",
+    "tree": Command(VERSIONS, "tree [--long | --svg FILE]", "draws the tree of versions, or writes a picture of it",
                     Shell.tree, 0, 2, False),
     "diff": Command(VERSIONS, "diff A [B] [--stat] [-p PREFIX]", "shows what has to change in A to get B", Shell.diff, 1, 2, True,
                     {"--stat": "", "-p": "PREFIX"}),
     "stat": Command(VERSIONS, "stat", "shows how many versions and changes there are", Shell.stat, 0, 0, False),
     "levels": Command(FILES, "levels [--svg FILE]", "draws what is stored, level by level, or writes a picture of it",
                       Shell.levels, 0, 2, False),
-    "dump": Command(FILES, "dump [V [FILE]]", "writes a version's pairs as lines of text", Shell.dump, 0, 2),
-    "load": Command(FILES, "load [--csv | --json-lines] FILE [@V]", "puts the pairs of a file, or of - for standard input",
-                    Shell.load, 1, 1, True, {"--csv": "", "--json-lines": ""}),
+    "dump": Command(FILES, "dump [V [FILE] | --all [FILE]]", "writes a version's pairs, or the whole store, as lines of text",
+                    Shell.dump, 0, 2),
+    "load": Command(FILES, "load [--all | --csv | --json-lines] FILE [@V]",
+                    "puts the pairs of a file, or of - for standard input; --all fills a fresh store",
+                    Shell.load, 1, 1, True, {ALL: "", "--csv": "", "--json-lines": ""}),
     "help": Command(SHELL, "help [COMMAND]", "shows this, or one command", Shell.help, 0, 1, False),
     "quit": Command(SHELL, "quit", "ends the shell", Shell.quit, 0, 0, False),
 }

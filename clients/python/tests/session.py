@@ -32,6 +32,11 @@ def carried_out(store: Store, *lines: str) -> Tuple[str, str, int]:
     return out.getvalue(), complaints.getvalue(), status
 
 
+def untimed(said: str) -> str:
+    """What was printed without the times of names, and without the blanks around them."""
+    return re.sub(r" {2,}\d{4}-\d\d-\d\d \d\d:\d\d UTC", "", said)
+
+
 class Session:
     """A shell that is typed to. What it prints comes without the terminal's control sequences."""
 

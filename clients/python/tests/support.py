@@ -175,6 +175,10 @@ class StoreCase(unittest.TestCase):
         with open(os.path.join(self.folder, name), "rb") as file:
             return file.read()
 
+    def names_told(self) -> List[str]:
+        """The lines of the file of names, without their times and descriptions."""
+        return [" ".join(line.split()[:2]) for line in self.bytes_of("a.store.names").decode().splitlines()]
+
     def pretending(self, answers: str) -> Store:
         """A store whose program pretends: it opens, and does what the words say at the first command."""
         return Store(self.written("pretended", answers), program=PRETENDER)

@@ -206,9 +206,9 @@ class StepsTest(StoreCase):
             store.names["a"] = at % 2
 
         for at in self.steps(call, "names files", least=20):
-            names, on_disk = dict(store.names), self.bytes_of("a.store.names")
+            names, on_disk = dict(store.names), self.names_told()
             self.assertIn(names, (had, {"a": at % 2}))
-            self.assertIn(on_disk, [b"a %d\n" % version for version in (names["a"], at % 2)])
+            self.assertIn(on_disk, [[f"a {version}"] for version in (names["a"], at % 2)])
             self.assertEqual([name for name in os.listdir(self.folder) if name.startswith(".castle")], [], f"at {at}")
             had = names
         self.assertEqual(dict(store.names), {"a": at % 2 ^ 1})

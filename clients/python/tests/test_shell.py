@@ -10,7 +10,7 @@ import sys
 from typing import Callable, List, Tuple
 from unittest import mock
 
-from session import carried_out
+from session import carried_out, untimed
 from support import DEADLINE, SHELL, TOP, StoreCase, comes_to, unprivileged
 
 import castle
@@ -21,6 +21,7 @@ from castle.process import find_program
 from castle.shell import Shell
 
 DUMP = "# castle dump 1\n"
+NAMES_USAGE = "names [set NAME [V] | describe NAME TEXT | remove NAME]"
 UNBUFFERED = {**os.environ, "PYTHONUNBUFFERED": "1"}
 ENVIRONMENTS = UNBUFFERED, {name: value for name, value in os.environ.items() if name != "PYTHONUNBUFFERED"}
 
@@ -37,7 +38,8 @@ class ScriptTest(StoreCase):
                   "put user/2 Bob @staging\ndelete user/1 @1\ninfo staging\nnames\nget user/2 @staging\nget user/2 @0\n")
         want = ('done\ndone\nmade version 1 (staging)\n"Ann B"\nabsent\ndone\ndone\n'
                 "version 1 (staging): a clone of version 0, 1 ancestor, takes puts and deletes\n1 staging\nBob\nabsent\n")
-        self.assertEqual(self.shell(script), (want, "", 0))
+        out, complaint, status = self.shell(script)
+        self.assertEqual((untimed(out), complaint, status), (want, "", 0))
 
     def test_a_script_stops_at_an_error_in_line_3(self) -> None:
         self.made().close()
@@ -49,7 +51,7 @@ class ScriptTest(StoreCase):
                            ("get a @7", "a.store: get a at version 7: the store has no version of this number. Use 0"),
                            ("get a @none", "a.store: no version has the name none. Names: no version has one."),
                            ('put "a', "the quotes from column 5 on have no end."), (r"put \q 1", r"\q is no escape"),
-                           ("clone 7up", "'7up' can't be a name"), ("names remove none", "no version has the name none"),
+                           ("clone 7", "'7' can't be a name"), ("names remove none", "no version has the name none"),
                            ("load none.dump", "none.dump: the file can't be read: No such file or directory. Look at its path"),
                            ("load .", ".: the file can't be read: Is a directory"), ("use 0 @0", "two versions are named: 0 and 0"),
                            ("x" * 10000, f"unknown command {'x' * 60}.. (10,000 characters); `help`"),
@@ -88,7 +90,7 @@ class ScriptTest(StoreCase):
         self.made().close()
         out, _, _ = self.shell("help\nhelp diff\n")
         for name in ("put", "get", "delete", "clone", "scan", "info", "stat", "names", "tree", "diff", "levels", "dump", "load",
-                     "help", "quit", "use"):
+                     "help", "quit", "use", "switch", "snapshot", "release", "merge"):
             self.assertRegex(out, rf"(?m)^  {name}\b")
         self.assertTrue(out.endswith("diff A [B] [--stat] [-p PREFIX]\n    shows what has to change in A to get B\n"))
 
@@ -96,7 +98,7 @@ class ScriptTest(StoreCase):
         self.made().close()
         out, _, status = self.shell("names\nclone\nnames set base 0\nnames set work\nuse 1\nnames set work\nnames\n"
                                     "clone next\nuse next\nnames remove work\nnames\ntree\n")
-        self.assertEqual((out, status), ("no version has a name\nmade version 1\n0 base\n1 work\nmade version 2 (next)\n0 base\n"
+        self.assertEqual((untimed(out), status), ("no version has a name\nmade version 1\n0 base\n1 work\nmade version 2 (next)\n0 base\n"
                                          "2 next\n0 base ─ 1 ─ 2 next (here)\n", 0))
         self.assertIn("version 2 has the name next", self.shell("clone next @2\n")[1])
         self.assertEqual(self.opened().stat().versions, 3)
@@ -149,9 +151,9 @@ class ScriptTest(StoreCase):
             self.assertTrue(complaint.startswith(f"castle-shell: line 1: {word} does not stand at the end, where @ and a version stand"),
                             complaint)
         for line, usage in (("put a @staging", "put KEY VALUE [@V]. Write a key or value that begins with @ in quotes."),
-                            ("put a b c @staging", "put KEY VALUE [@V]"), ("tree @1", "tree [--svg FILE]"), ("stat @1", "stat"),
+                            ("put a b c @staging", "put KEY VALUE [@V]"), ("tree @1", "tree [--long | --svg FILE]"), ("stat @1", "stat"),
                             ("levels @1", "levels [--svg FILE]"), ("help @1", "help [COMMAND]"), ("quit @1", "quit"),
-                            ("names @1", "names [set NAME [V] | remove NAME]"), ("names remove staging @1", "names [set NAME [V] | remove NAME]")):
+                            ("names @1", NAMES_USAGE), ("names remove staging @1", NAMES_USAGE)):
             self.assertEqual(carried_out(store, line), ("", f"castle-shell: line 1: usage: {usage}\n", 1))
         for word in ("@", '""'):
             self.assertIn(f"line 1: {word} names no version. Write its number or its name", carried_out(store, f"use {word}")[1])
@@ -382,10 +384,11 @@ class OpeningTest(StoreCase):
         out, complaint, status = self.opened_shell(
             "get a\nget a @staging\nscan\ntree\ndiff base staging\ninfo staging\nuse 1\ndump\nnames\nlevels\n")
         self.assertEqual((complaint, status), (told, 0))
-        self.assertEqual(out, "1\n2\na = 1\n1 pair\n0 base (here) ─ 1 staging\n~ a = 1 -> 2\n0 removed, 0 added, 1 changed\n"
+        self.assertEqual(untimed(out), "1\n2\na = 1\n1 pair\n0 base (here) ─ 1 staging\n~ a = 1 -> 2\n0 removed, 0 added, 1 changed\n"
                               "version 1 (staging): a clone of version 0 (base), 1 ancestor, takes puts and deletes\n"
                               "# castle dump 1, version 1 (staging) of a.store\na\t2\n# end, 1 pair\n0 base\n1 staging\n" + levels)
-        for line in ("put b 1 @staging", "delete a @staging", "clone", "clone new", "names set new 0", "names remove base",
+        for line in ("put b 1 @staging", "delete a @staging", "clone", "clone new", "names set new 0", "names remove base", "names describe base x",
+                     "snapshot new @staging", "release staging base", "merge base staging new", f"load --all {self.folder}/a.dump",
                      f"load {self.folder}/a.dump @staging"):
             out, complaint, status = self.opened_shell(f"{line}\n")
             self.assertEqual((out, status), ("", 1), line)
@@ -408,7 +411,8 @@ class OpeningTest(StoreCase):
         with self.made() as store:
             store.names["next"] = store.clone(0)
         names = self.written("a.store.names", "base 0\nnext 1\nlost 7\n")
-        self.assertEqual(self.shell("names\nclone lost\nnames\n"), (
+        out, complaint, status = self.shell("names\nclone lost\nnames\n")
+        self.assertEqual((untimed(out), complaint, status), (
             "0 base\n1 next\nmade version 2 (lost)\n0 base\n1 next\n2 lost\n",
             f"castle-shell: {names}: names of versions that the store doesn't have are left out: lost 7\n", 0))
         self.assertEqual(self.shell("names\n")[1], "")

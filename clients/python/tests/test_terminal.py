@@ -107,6 +107,10 @@ class PromptTest(TerminalCase):
                             ("load tw\t @1", ["loaded 1 pair into version 1 (staging)"]),
                             ("tree --s\tpict\ta.svg", ["wrote pictures/a.svg"]), ("dump st\tproduct\t", ["wrote product.dump"]),
                             ("help lev\t", ["levels [--svg FILE]", "    draws what is stored, level by level, or writes a picture of it"]),
+                            ("load --a\tprod\t", ["error: the store is not fresh: it has changes or names",
+                                                  "       Make a new one with `castle format`, and load into that."]),
+                            ("merge --th\tst\tst\tx", ["error: merge: both are version 1", "       Name two versions."]),
+                            ("dump --a\tproduct\t", ["wrote product.dump"]), ("names desc\tst\t x", []), ("switch st\t", []),
                             ("names rem\tst\t", [])):
             self.assertEqual(session.type(typed)[:-1], want, typed)
 
