@@ -157,10 +157,14 @@ class Names(MutableMapping[str, int]):
             self._write({**self._names, name: self.about(name)._replace(description=text)})
 
     def restore(self, names: Mapping[str, Name]) -> None:
-        """Has these names, with their times, and no others."""
+        """Has these names, with their times, and no others. All of them are in the file for good, or none."""
         self.check_changeable()
+        for name, it in names.items():
+            self.check(name)
+            self._check_version(name, it.version)
+        kept = {name: read_name(it.version, *written_name(it)) for name, it in names.items()}
         with self._lock:
-            self._write(dict(names))
+            self._write(kept)
 
     def __delitem__(self, name: str) -> None:
         self.check_changeable()
@@ -260,9 +264,10 @@ def written_time(time: Optional[datetime]) -> str:
 
 def written_name(name: Name) -> List[str]:
     """A name's time and description as words, as far as it has them."""
-    if name.time is None and not name.description:
+    text = described(name.description)
+    if name.time is None and not text:
         return []
-    return [written_time(name.time), *filter(None, [cell(encoded(name.description))])]
+    return [written_time(name.time), *filter(None, [cell(encoded(text))])]
 
 
 def read_name(version: int, time: str = NO_TIME, description: str = "") -> Name:

@@ -214,6 +214,22 @@ class StepsTest(StoreCase):
         self.assertEqual(dict(store.names), {"a": at % 2 ^ 1})
 
 
+    def test_a_snapshot_that_is_interrupted_at_any_step_has_moved_both_names_or_none(self) -> None:
+        store, kinds = self.made(64, 10000, 1000), set()
+        store.names["work"] = store.clone(0)
+        had = {"work": 1}
+        for at in self.steps(lambda at: store.snapshot("work", f"s{at}"), "branches names files", least=40):
+            names = dict(store.names)
+            moved = {**had, f"s{at}": had["work"], "work": store.stat().versions - 1}
+            self.assertIn(names, (had, moved), f"at {at}")
+            on_disk = {name: int(version) for name, version in map(str.split, self.names_told())}
+            self.assertIn(on_disk, (names, moved), f"at {at}")
+            kinds.add(names == moved)
+            store.names.pop(f"s{at}", None)  # so that the steps do not become more
+            had = dict(store.names)
+        self.assertEqual(kinds, {False, True})
+
+
 class SignalsTest(StoreCase):
     """Interrupts by a signal, at moments that nobody knows."""
 

@@ -60,6 +60,20 @@ class AboutTest(StoreCase):
             store.names.assign({"c": 0}, {"c": "x" * (DESCRIPTION_MAX + 1)})
         self.assertEqual((dict(store.names), self.bytes_of("a.store.names")), ({"a": 0, "b": 1}, before))
 
+    def test_names_are_restored_all_or_none(self) -> None:
+        store, tokyo = self.made(), timezone(timedelta(hours=9))
+        store.names.restore({"a": Name(0, datetime(2026, 11, 29, 21, 0, 5, 999, tzinfo=tokyo), " x ")})
+        want = Name(0, datetime(2026, 11, 29, 12, 0, 5, tzinfo=timezone.utc), "x")
+        self.assertEqual(store.names.about("a"), want)
+        before = self.bytes_of("a.store.names")
+        for name, it, kind in (("7", Name(0), errors.NameFault), ("b", Name(1), errors.UnknownVersion), ("b", Name(-1), errors.UnknownVersion),
+                               ("b", Name(0, None, "x" * 1001), errors.NameFault)):
+            with self.assertRaises(kind):
+                store.names.restore({"a": Name(0), name: it})
+        self.assertEqual((store.names.about("a"), self.bytes_of("a.store.names")), (want, before))
+        store.names.restore({})
+        self.assertEqual((dict(store.names), self.bytes_of("a.store.names")), ({}, b""))
+
     def test_descriptions_of_any_text_are_kept(self) -> None:
         texts = ["Zoé 日本 # \" ' \\ \\x41", "tab\tand\nline\r\x00\x1b", "no-break\u00a0\u2028\u200b", "a byte \udcff of a script",
                  "x" * DESCRIPTION_MAX, "- -", "2026-11-29T12:00:00Z"]
