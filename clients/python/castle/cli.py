@@ -90,7 +90,7 @@ def carry_out(arguments: Arguments) -> int:
     try:
         with opened(arguments.file) as store:
             shell = Shell(store, sys.stdout, arguments.json, arguments.keeps_going)
-            shell.has_input = bool(arguments.command or arguments.lines) and sys.stdin is not None
+            shell.has_input = bool(arguments.command or arguments.lines)
             if arguments.command:
                 return shell.single(arguments.command)
             if arguments.lines:

@@ -68,6 +68,8 @@ FORMS: Dict[str, Callable[[Iterable[str], str], Iterator[Pair]]] = {"--csv": csv
 def lines_of(shell: "Shell", word: Word) -> Iterator[str]:
     """The lines of a file that the user named, with their ends, up to a Ctrl-C. A mark of byte order is passed over."""
     is_input = word.bare and word.text == "-"
+    if is_input and sys.stdin is None:
+        raise CastleError("standard input is closed", "Give the pairs there, or name a file.")
     place = sys.stdin.fileno() if is_input else word.path
     with outfile.told(name_of(word), "read"), open(place, encoding="utf-8-sig", errors="surrogateescape", newline="\n",
                                                    closefd=not is_input) as lines:

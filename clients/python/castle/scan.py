@@ -108,10 +108,15 @@ class Scan(Reading[Pair]):
         sink: List[Result] = []
         for scan in scans:
             scan._program.send(sink, scan._commands.next_whole, scan._number(), limit)
-        scans[0]._program.settle(sink)
+        end: Optional[errors.CastleError] = None
+        try:
+            scans[0]._program.settle(sink)
+        except errors.CastleError as error:
+            end = error
+        refused = next((reply for reply in sink if isinstance(reply, errors.CastleError)), end)  # before the end that came of it
+        if refused is not None:
+            raise refused
         for scan, reply in zip(scans, sink):
-            if isinstance(reply, errors.CastleError):
-                raise reply
             scan._more = frames.page_counts(cast(bytes, reply))[0]
             if not scan._more:
                 scan.give_back()

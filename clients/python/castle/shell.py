@@ -19,6 +19,7 @@ from .terminal import INTERRUPTED, Interrupts, Stopped
 from .text import Word, argument, cell, counted, shortened, shown, words
 
 Item = TypeVar("Item")
+Paged = Callable[[TextIO], ContextManager[TextIO]]
 
 NOTATION = """Words stand between blanks; "a word with blanks" has quotes, as has one that begins with @. Bytes that are no
 text are \\xNN, and \\\\ \\" \\n \\t are as usual. @3 or @staging at the end names a version, by its number or name;
@@ -133,8 +134,7 @@ class Shell:
         print(f"castle-shell: {what}", file=sys.stderr)
         return status
 
-    def converse(self, paged: Callable[[TextIO], ContextManager[TextIO]] = unpaged,
-                 remember: Optional[Callable[[str], None]] = None) -> int:
+    def converse(self, paged: Paged = unpaged, remember: Optional[Callable[[str], None]] = None) -> int:
         """Reads lines at a prompt until the end, and gives the exit status.
 
         The output of each command goes through what `paged` gives, and `remember` gets each line.
@@ -164,25 +164,28 @@ class Shell:
         prompt = self.prompt()
         return self.interrupts.read(lambda: input(prompt))
 
-    def _carry_out_typed(self, line: str, paged: Callable[[TextIO], ContextManager[TextIO]]) -> bool:
+    def _carry_out_typed(self, line: str, paged: Paged) -> bool:
         """Carries out a line that was typed, tells what is wrong with it, and whether the store goes on."""
-        terminal = self.out
         try:
             check_text(line)
-            with paged(terminal) as self.out:
-                self.run(line)
+            self._run_paged(line, paged)
         except Left:
             pass  # the user has seen enough
         except TOLD as error:
-            self.out = terminal
             self._tell(error)
             return not isinstance(error, Ended)
         except KeyboardInterrupt:
-            self.out = terminal
             self._tell(Stopped(LOST))
+        return True
+
+    def _run_paged(self, line: str, paged: Paged) -> None:
+        """Carries out a line whose output goes through pages."""
+        terminal = self.out
+        try:
+            with paged(terminal) as self.out:
+                self.run(line)
         finally:
             self.out = terminal
-        return True
 
     def _tell(self, error: Exception) -> None:
         """Shows an error, and under it what to do."""

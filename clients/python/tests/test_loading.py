@@ -16,6 +16,8 @@ from castle.shell import Shell
 
 
 class FormTest(StoreCase):
+    in_memory = True
+
     def test_rows_of_csv_are_put(self) -> None:
         self.made().close()
         rows = 'key,value\r\na,1\r\n"b, c","x ""y""\nz"\r\n\r\né,\\x41\r\nempty,\r\n'

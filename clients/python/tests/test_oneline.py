@@ -17,6 +17,8 @@ from castle.shell import COMMANDS
 class SingleTest(StoreCase):
     """`castle-shell FILE COMMAND`."""
 
+    in_memory = True
+
     def one(self, *words: str) -> Any:
         """Output, complaints and status of one command."""
         return self.ran(self.path, *words)
@@ -85,10 +87,11 @@ class SingleTest(StoreCase):
 
     def test_standard_input_may_be_closed_and_output_not(self) -> None:
         self.made().close()
-        for closed, status in (("<&-", 0), (">&-", 2)):
-            ran = subprocess.run(["/bin/sh", "-c", f'"$1" "$2" a.store put a 1 {closed}', "sh", sys.executable, SHELL], cwd=self.folder,
+        for line, status, told in (("put a 1 <&-", 0, b""), ("put a 1 >&-", 2, b"castle-shell: standard input or output is closed\n"),
+                                   ("load --csv - <&-", 2, b"castle-shell: standard input is closed. Give the pairs there, or name a file.\n")):
+            ran = subprocess.run(["/bin/sh", "-c", f'"$1" "$2" a.store {line}', "sh", sys.executable, SHELL], cwd=self.folder,
                                  capture_output=True, timeout=DEADLINE)
-            self.assertEqual(ran.returncode, status, ran.stderr)
+            self.assertEqual((ran.returncode, ran.stderr), (status, told))
 
     def test_ctrl_c_ends_it_with_status_130(self) -> None:
         self.made().close()
@@ -153,6 +156,8 @@ class LinesTest(StoreCase):
 class JsonTest(StoreCase):
     """`--json`."""
 
+    in_memory = True
+
     def told(self, *lines: str) -> List[Any]:
         """What lines print as JSON, each of which is ASCII."""
         out, complaint, status = self.ran("--json", self.path, *(f"-c{line}" for line in lines))
@@ -170,8 +175,10 @@ class JsonTest(StoreCase):
             {"key": "c", "before": None, "after": "4"}, {"removed": 1, "added": 0, "changed": 1}, {"key": "b/x", "before": "2", "after": "3"}])
         place = {"version": 1, "names": ["staging"], "parent": 0, "ancestors": 1, "frozen": False}
         first = {"version": 0, "names": [], "parent": None, "ancestors": 0, "frozen": True}
-        self.assertEqual(self.told("info 1", "tree", "stat", "names"), [
-            place, first, place, {"versions": 2, "updates": 5, "changes": 6, "cursors": 0}, {"name": "staging", "version": 1}])
+        *told, name = self.told("names describe staging next", "info 1", "tree", "stat", "names")
+        self.assertEqual(told, [place, first, place, {"versions": 2, "updates": 5, "changes": 6, "cursors": 0}])
+        self.assertRegex(name.pop("time"), r"^\d{4}-\d\d-\d\dT\d\d:\d\d:\d\dZ$")
+        self.assertEqual(name, {"name": "staging", "version": 1, "description": "next"})
         self.assertEqual(self.told("dump staging", "scan --limit 1 @1"), [
             {"key": "b/x", "value": "3"}, {"key": "c", "value": "4"}, {"key": "b/x", "value": "3"}, {"next": "c"}])
         self.assertEqual(self.told("dump 1 a.dump", "load a.dump @1", "help get"), [
@@ -207,6 +214,8 @@ class JsonTest(StoreCase):
 
 class HabitTest(StoreCase):
     """What fingers type that know other shells."""
+
+    in_memory = True
 
     def test_other_names_of_commands_are_taken(self) -> None:
         self.made().close()
