@@ -124,7 +124,7 @@ class Reader:
         if not line.startswith(END):
             return
         if line != f"{END}{self.counts}" or not self._versions:
-            raise DumpFault(f"it has {self.counts}, and its last line says {shortened(line[len(END):])}",
+            raise DumpFault(f"it has {self.counts}, and its last line says {shortened(cell(encoded(line[len(END):])))}",
                             "Dump again, or mend that line.", file=self._file)
         self._has_ended = True
 

@@ -60,7 +60,6 @@ def merge(store: "Store", ours: "Version", theirs: "Version", into: "Version", w
     first, second = store.number(ours), store.number(theirs)
     base = common_ancestor(store, first, second)
     parent = _parent(store, first, second, into, base)
-    store.names.check_changeable()
     changes, conflicts = _changes(store, (base, first, second), parent, wins)
     branches.check_room(store, 1, len(changes) + 1, "merge")
     clone = store.clone(parent)

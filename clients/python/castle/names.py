@@ -276,7 +276,7 @@ def read_name(version: int, time: str = NO_TIME, description: str = "") -> Name:
     with contextlib.suppress(ValueError):  # there may be no such day or hour
         when = datetime(*map(int, found.groups()), tzinfo=timezone.utc) if found else None  # type: ignore[misc, arg-type]
     if when is None and time != NO_TIME:
-        raise NameFault(f"{_shortened(time)} is no time", "Write it as 2026-11-29T12:00:00Z, or - where there is none.")
+        raise NameFault(f"{_shortened(cell(encoded(time)))} is no time", "Write it as 2026-11-29T12:00:00Z, or - where there is none.")
     try:
         text = unescaped(description).decode("utf-8", "surrogateescape")
     except TextFault as fault:

@@ -1,5 +1,6 @@
 """Merges of two versions over their common ancestor, against dictionaries."""
 
+import os
 import random
 from typing import Dict, List, Optional
 from unittest import mock
@@ -159,6 +160,19 @@ class MergeTest(PartedCase):
         self.assertEqual(store.stat().changes, 11)
         store.put("staging", "d", "2")
         return store
+
+    def test_a_copy_and_a_moved_store_are_refused_before_a_clone(self) -> None:
+        self.parted().close()
+        with Store(self.path, read_only=True) as copy:
+            for into in ("staging", "new", 1):
+                with self.assertRaises(errors.ReadOnly):
+                    copy.merge("staging", "production", into)
+        store = self.opened()
+        os.rename(self.path, self.path + ".moved")
+        for into in ("staging", "new", 1):
+            with self.assertRaises(errors.StoreMoved):
+                store.merge("staging", "production", into)
+        self.assertEqual(store.stat().versions, 3)
 
     def test_a_merge_that_ends_amid_its_changes_leaves_the_names(self) -> None:
         store, finish = self.parted(), Batch.finish
