@@ -9,6 +9,7 @@ import sys
 import time
 from typing import Any, List
 
+from session import carried_out, carried_out_alone
 from support import DEADLINE, SHELL, TOP, StoreCase
 
 from castle.shell import COMMANDS
@@ -46,35 +47,38 @@ class SingleTest(StoreCase):
         self.assertEqual(self.shell("exists none\nexists empty\nget none\n"), ("no\nyes\nabsent\n", "", 0))
 
     def test_a_command_that_failed_has_another_status_than_an_absent_key(self) -> None:
-        self.made(64, 1, 10).close()
-        self.assertEqual(self.one("put", "a", "1")[2], 0)
+        store = self.made(64, 1, 10)
+        self.assertEqual(carried_out_alone(store, "put", "a", "1")[2], 0)
         for words, what in ((["get", "a", "@7"], "get a at version 7: the store has no version of this number"),
                             (["exists", "a", "@none"], "no version has the name none"), (["put", "a", "2"], "as many changes as"),
                             (["frobnicate"], "unknown command frobnicate; `help` lists the commands\n"),
                             (["get"], "usage: get KEY [@V]"), (["get", "\\q"], "\\q is no escape"), (["get", ""], "a key has no byte"),
                             (["load", "none"], "none: the file can't be read")):
-            out, complaint, status = self.one(*words)
+            out, complaint, status = carried_out_alone(store, *words)
             self.assertEqual((out, status), ("", 2), words)
             self.assertTrue(complaint.startswith("castle-shell: ") and "line" not in complaint.split(what)[0], complaint)
             self.assertIn(what, complaint)
+        store.close()
+        self.assertEqual(self.one("get", "a", "@7")[::2], ("", 2))
         os.remove(self.path)
         self.assertEqual(self.one("get", "a")[::2], ("", 2))
         self.assertEqual(self.ran(self.path, "-c", "get a")[::2], ("", 1))
 
     def test_words_need_no_quotes_for_blanks_and_keep_escapes(self) -> None:
         store = self.made()
-        store.close()
         for word, data in (("a b", b"a b"), (" ", b" "), ('say "hi"', b'say "hi"'), ('"@3"', b"@3"), ('"a b"', b"a b"), ("\\x00\\xff", b"\x00\xff"),
                            ("a\nb", b"a\nb"), ("#x", b"#x"), ("\udcff", b"\xff"), ('"', b'"'), ('"a" "b"', b'"a" "b"'), ("--json", b"--json"),
-                           ("-1", b"-1"), ("日", "日".encode())):
-            self.assertEqual(self.one("put", "k", word), ("done\n", "", 0), word)
-            with self.opened() as store:
-                self.assertEqual(store.get(0, "k"), data)
-            shown = self.one("get", "k")[0].rstrip("\n")
-            self.assertEqual(self.one("put", "again", shown), ("done\n", "", 0), shown)
-            with self.opened() as store:
-                self.assertEqual(store.get(0, "again"), data)
-        self.assertEqual(self.one("put", "k", "@3")[2], 2)
+                           ("-1", b"-1"), ("日", "日".encode()), ("", b"")):
+            self.assertEqual(carried_out_alone(store, "put", "k", word), ("done\n", "", 0), word)
+            self.assertEqual(store.get(0, "k"), data)
+            shown = carried_out_alone(store, "get", "k")[0].rstrip("\n")
+            self.assertEqual(carried_out_alone(store, "put", "again", shown), ("done\n", "", 0), shown)
+            self.assertEqual(store.get(0, "again"), data)
+        self.assertEqual(carried_out_alone(store, "put", "k", "@3")[2], 2)
+        store.close()
+        for word, shown in (("a b", '"a b"'), ("\\x00\udcff", "\\x00\\xff"), ("--keep-going", "--keep-going")):
+            self.assertEqual(self.one("put", "k", word)[2], 0)
+            self.assertEqual(self.one("get", "k")[0], f"{shown}\n")
 
     def test_an_output_that_nobody_reads_ends_it(self) -> None:
         with self.made(64, 30000, 10) as store, store.batch() as batch:
@@ -223,30 +227,27 @@ class HabitTest(StoreCase):
             "done\na = 1\n1 pair\ndone\n0 pairs\nexists KEY [@V]\n    tells whether a key has a value\n", "", 0))
 
     def test_the_word_that_was_meant_is_told(self) -> None:
-        with self.made() as store:
-            store.names["staging"] = 0
+        store = self.made()
+        store.names["staging"] = 0
         for line, what in (("gett a", "unknown command gett; did you mean get? `help` lists the commands"),
                            ("SCAN", "unknown command SCAN; did you mean scan? "), ("help exsits", "did you mean exists? "),
                            ("quti", "did you mean quit? "), ("use stagign", "Did you mean staging? Names: staging."),
                            ("diff 0 --stats", "no option --stats; did you mean --stat? usage: diff"),
                            ("load --json a", "no option --json; did you mean --json-lines? usage: load"),
                            ("xyzzy", "unknown command xyzzy; `help` lists the commands")):
-            self.assertIn(what, self.shell(f"{line}\n")[1])
+            self.assertIn(what, carried_out(store, line)[1])
 
     def test_a_scan_with_a_limit_says_how_it_goes_on(self) -> None:
-        with self.made() as store:
-            store.at(0).update({f"k/{number:03}": "v" for number in range(300)})
-            store.put(0, "z", "1")
-        out = self.shell("scan k/ --limit 2\n")[0]
-        self.assertEqual(out, "k/000 = v\nk/001 = v\n2 pairs, and others follow: `scan k/002 k0` goes on, --limit N shows more\n")
-        self.assertEqual(self.shell("scan k/299 k0\n")[0], "k/299 = v\n1 pair\n")
-        self.assertEqual(self.shell("scan --limit 300 k/\n")[0][-10:], "300 pairs\n")
-        self.assertEqual(self.shell("scan --limit 300 @0\n")[0].splitlines()[-1],
-                         '300 pairs, and others follow: `scan z "" @0` goes on, --limit N shows more')
+        store = self.made()
+        store.at(0).update({**{f"k/{number:03}": "v" for number in range(300)}, "z": "1"})
+        for line, last in (("scan k/ --limit 2", "2 pairs, and others follow: `scan k/002 k0` goes on, --limit N shows more"),
+                           ("scan k/299 k0", "1 pair"), ("scan --limit 300 k/", "300 pairs"),
+                           ("scan --limit 300 @0", '300 pairs, and others follow: `scan z "" @0` goes on, --limit N shows more')):
+            self.assertEqual(carried_out(store, line)[0].splitlines()[-1], last)
         for line, what in (("scan --limit", "--limit needs N"), ("scan --limit 0", "--limit needs a number from 1 on, and not 0"),
                            ("scan --limit -1", "and not -1"), ("scan --limit x", "and not x"), ("scan --limit 1 --limit 2", "--limit stands twice"),
                            ("scan --frob", "no option --frob; usage: scan")):
-            self.assertIn(what, self.shell(f"{line}\n")[1])
+            self.assertIn(what, carried_out(store, line)[1])
 
     def test_a_key_that_looks_like_an_option_stands_in_quotes(self) -> None:
         self.made().close()
