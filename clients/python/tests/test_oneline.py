@@ -188,6 +188,21 @@ class JsonTest(StoreCase):
         self.assertEqual(self.told("dump 1 a.dump", "load a.dump @1", "help get"), [
             {"wrote": "a.dump"}, {"loaded": 2, "version": 1}, {"usage": "get KEY [@V]", "summary": "shows the value of a key"}])
 
+    def test_branches_print_objects(self) -> None:
+        with self.made() as store:
+            store.put(0, "a", "1")
+            store.names["staging"] = 0
+            store.names["production"] = store.clone(0)
+            store.names["staging"] = store.clone(0)
+            store.put("staging", "a", "2")
+            store.put("production", "a", "3")
+        self.assertEqual(self.told("snapshot kept @staging", "release staging production", "merge kept 1 mixed --ours"), [
+            {"version": 2, "names": ["kept"], "branch": "staging", "clone": 3}, {"name": "production", "before": 1},
+            {"version": 3, "names": ["production"], "branch": "staging", "clone": 4},
+            {"version": 5, "parent": 0, "base": 0, "changes": 1, "conflicts": 1}])
+        out, _, status = self.ran("--json", self.path, "merge", "kept", "1", "other")
+        self.assertEqual((json.loads(out), status), ({"conflict": "a", "base": "1", "ours": "2", "theirs": "3"}, 2))
+
     def test_bytes_that_are_no_text_are_told_apart_from_text(self) -> None:
         self.made().close()
         self.assertEqual(self.told(r"put \xff\x00 {\"hex\":\"ff\"}", "put é \\x00\\xe2\\x80\\xa8", "scan"), [
