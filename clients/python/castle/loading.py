@@ -71,9 +71,10 @@ def lines_of(shell: "Shell", word: Word) -> Iterator[str]:
     if is_input and sys.stdin is None:
         raise CastleError("standard input is closed", "Give the pairs there, or name a file.")
     place = sys.stdin.fileno() if is_input else word.path
-    with outfile.told(name_of(word), "read"), open(place, encoding="utf-8-sig", errors="surrogateescape", newline="\n",
+    with outfile.told(name_of(word), "read"), open(place, encoding="utf-8", errors="surrogateescape", newline="\n",
                                                    closefd=not is_input) as lines:
-        yield from shell.interrupts.lines(lines)
+        for number, line in enumerate(shell.interrupts.lines(lines)):
+            yield line if number else line[line.startswith("\ufeff"):]
 
 
 def name_of(word: Word) -> str:
