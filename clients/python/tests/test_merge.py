@@ -206,7 +206,7 @@ class RandomTest(StoreCase):
         versions: List[Pairs] = [{}]
         parents: List[Optional[int]] = [None]
         seen = set()
-        for turn in range(120):
+        for turn in range(80):
             made = store.clone(chance.randrange(len(versions)))
             parent = store.info(made).parent
             assert parent is not None
