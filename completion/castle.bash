@@ -1,10 +1,31 @@
 # Completion for bash of castle and castle-shell: `. completion/castle.bash`, or where ./install puts it.
 
+_castle_shell() {
+    local word=${COMP_WORDS[COMP_CWORD]} place=0 each
+    for each in "${COMP_WORDS[@]:1:COMP_CWORD-1}"; do
+        [[ $each == -* ]] || place=$((place + 1))
+    done
+    if [ "$place" -gt 0 ] && [[ ${COMP_WORDS[COMP_CWORD - 1]} == -c ]]; then
+        return
+    fi
+    case $place:$word in
+        [01]:-*) COMPREPLY=($(compgen -W "--json --keep-going -c --help --version" -- "$word")) ;;
+        1:*) COMPREPLY=($(compgen -W "put get exists delete scan use clone switch snapshot release merge names info tree diff stat levels dump load help" -- "$word")) ;;
+        *:-*) COMPREPLY=($(compgen -W "--limit --stat -p --svg --long --all --csv --json-lines --ours --theirs" -- "$word")) ;;
+        *)
+            compopt -o filenames 2>/dev/null
+            local IFS=$'\n'
+            COMPREPLY=($(compgen -f -- "$word"))
+            ;;
+    esac
+}
+
 _castle() {
     local word=${COMP_WORDS[COMP_CWORD]} at=$COMP_CWORD
     COMPREPLY=()
     if [ "${COMP_WORDS[0]##*/}" = castle-shell ]; then
-        at=$((at + 1))
+        _castle_shell
+        return
     elif [ "${COMP_WORDS[1]}" = --overwrite ] && [ "$at" -gt 1 ]; then
         at=$((at - 1))
         if [ "$at" -eq 1 ]; then

@@ -254,7 +254,10 @@ def bash_completes_words_and_files(folder):
         (["castle", "--overwrite", ""], {"format", "workload"}), (["castle", "--overwrite", "w"], {"workload"}),
         (["castle", "serve", "a"], {"a b.store", "a.store"}), (["castle", "--overwrite", "format", "o"], {"other"}),
         (["castle", "format", "a.store", ""], set()), (["castle-shell", "a"], {"a b.store", "a.store"}),
-        (["castle-shell", "-"], {"--help", "--version"}), (["castle-shell", "a.store", ""], set()),
+        (["castle-shell", "--"], {"--json", "--keep-going", "--help", "--version"}), (["castle-shell", "a.store", "ex"], {"exists"}),
+        (["castle-shell", "--json", "a"], {"a b.store", "a.store"}), (["castle-shell", "--json", "a.store", "sc"], {"scan"}),
+        (["castle-shell", "a.store", "-c", "ge"], set()), (["castle-shell", "a.store", "diff", "0", "1", "--st"], {"--stat"}),
+        (["castle-shell", "a.store", "load", "--csv", "o"], {"other"}),
     ):
         expect(f"{words}", bash_offers(folder, *words), wanted)
 
@@ -271,7 +274,8 @@ def zsh_completes_words_and_files(folder):
         run.read_until(b"ready")
         for typed, wanted in ((b"castle f\ta\t4\r", b"<format a.store 4>"), (b"castle --ver\t\r", b"<--version>"),
                               (b"castle --overwrite w\tb\t1\r", b"<--overwrite workload b.store 1>"),
-                              (b"castle-shell b\t\r", b"<shell b.store>"), (b"castle-shell --ver\t\r", b"<shell --version>")):
+                              (b"castle-shell b\t\r", b"<shell b.store>"), (b"castle-shell --ver\t\r", b"<shell --version>"),
+                              (b"castle-shell b\t exi\tk\r", b"<shell b.store exists k>")):
             run.type(typed)
             run.read_until(re.escape(wanted))
 

@@ -11,15 +11,18 @@
 docs/CLIENT.md goes through all of it.
 """
 
+from .backup import Counts
 from .batch import Batch
+from .branches import Snapshot
 from .errors import CastleError, Ended, Refused
 from .frames import Info, Page, Stat
 from .levels import Array, Level, Levels
-from .names import Names
+from .merge import Merge, ThreeWay
+from .names import Name, Names
 from .scan import Difference, Differences, Scan
 from .store import Store
 from .view import VersionView
 
-__all__ = ["Array", "Batch", "CastleError", "Difference", "Differences", "Ended", "Info", "Level", "Levels", "Names", "Page",
-           "Refused", "Scan", "Stat", "Store", "VersionView"]
+__all__ = ["Array", "Batch", "CastleError", "Counts", "Difference", "Differences", "Ended", "Info", "Level", "Levels", "Merge",
+           "Name", "Names", "Page", "Refused", "Scan", "Snapshot", "Stat", "Store", "ThreeWay", "VersionView"]
 __version__ = "0.1.0"

@@ -2,7 +2,7 @@
 
 import sys
 
-from .shell import main
+from .cli import main
 
 if __name__ == "__main__":
     sys.exit(main())

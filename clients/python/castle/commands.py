@@ -6,7 +6,7 @@ from typing import Tuple, Union
 
 from . import errors, frames
 from .names import Names
-from .program import Program
+from .program import Program, Whole
 
 Data = Union[bytes, str]
 Version = Union[int, str]
@@ -33,6 +33,8 @@ class Commands:
         self._program = program
         self._names = names
         self._read_only = read_only
+        self.changes = 0
+        """How many changes were asked for so far, whether they are made or not."""
 
     def number(self, version: Version) -> int:
         """The number of a version, which may be given by its name."""
@@ -47,6 +49,7 @@ class Commands:
     def _change(self, command: str) -> None:
         if self._read_only:
             raise errors.ReadOnly(file=self._program.file, command=command)
+        self.changes += 1
 
     def _key(self, command: str, key: Data) -> bytes:
         data = data_of(key)
@@ -105,9 +108,13 @@ class Commands:
         self._check_bounds(f"scan of version {number}", low, high)
         return frames.open_cursor(self._program.tag, number, low, high)
 
-    def next_pairs(self, cursor: int) -> bytes:
-        """The frame that asks for the next pairs of a cursor, as many as a reply takes."""
-        return frames.next_pairs(self._program.tag, cursor, frames.PAGE_MAX)
+    def next_pairs(self, cursor: int, limit: int = frames.PAGE_MAX) -> bytes:
+        """The frame that asks for the next pairs of a cursor, as many as a reply takes or fewer."""
+        return frames.next_pairs(self._program.tag, cursor, limit)
+
+    def next_whole(self, cursor: int, limit: int) -> bytes:
+        """The same, with the reply as bytes for its answer."""
+        return Whole(self.next_pairs(cursor, limit))
 
     def info(self, version: Version) -> bytes:
         """The frame of an info."""

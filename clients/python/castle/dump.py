@@ -10,6 +10,7 @@ from .frames import KEY_MAX, VALUE_MAX, Pair
 from .text import cell, encoded, unescaped
 
 FIRST = "# castle dump 1"
+STORE = "# castle store "  # how the dump of a whole store begins
 HEAD = re.compile(rf"{FIRST}(,.*)?")
 COMMENT = r"\\x23"  # a key's first # in a line, as the replacement of a pattern
 LAST = re.compile(r"# end, (\d{1,18}) pairs?")
@@ -32,7 +33,8 @@ def pairs_of(lines: Iterable[str], file: str) -> List[Pair]:
     for number, line in enumerate(lines, 1):
         line = line.rstrip("\n")
         if number == 1 and not HEAD.fullmatch(line):
-            raise DumpFault("line 1 is not that of a dump", f"A dump begins with {FIRST}.", file=file)
+            remedy = "`load --all FILE` loads a whole store." if line.startswith(STORE) else f"A dump begins with {FIRST}."
+            raise DumpFault("line 1 is not that of a dump", remedy, file=file)
         if end is not None:
             raise DumpFault(f"line {number} stands behind the end", "Remove it, or dump again.", file=file)
         if line.startswith("#"):
@@ -49,13 +51,23 @@ def pairs_of(lines: Iterable[str], file: str) -> List[Pair]:
 
 
 def _pair(line: str, number: int, file: str) -> Pair:
-    written, tab, rest = line.partition("\t")
-    if not tab or "\t" in rest:
+    key, tab, value = line.partition("\t")
+    if not tab or "\t" in value:
         raise DumpFault(f"line {number} is not a key, one tab and a value", "Mend the line.", file=file)
+    return pair_of(key, value, number, file)
+
+
+def pair_of(written: str, rest: str, number: int, file: str) -> Pair:
+    """The key and the value of a line, of which both cells are given."""
     try:
         key, value = unescaped(written), unescaped(rest)
     except TextFault as fault:
         raise DumpFault(f"line {number}: {fault.what}", fault.remedy, file=file) from None
+    return checked(key, value, number, file)
+
+
+def checked(key: bytes, value: bytes, number: int, file: str) -> Pair:
+    """The pair of the line of this number, if a store takes it."""
     if not 1 <= len(key) <= KEY_MAX:
         raise DumpFault(f"line {number} has a key of {len(key)} bytes", KeySize.remedy, file=file)
     if len(value) > VALUE_MAX:

@@ -8,7 +8,10 @@ from __future__ import annotations
 
 import re
 import signal
-from typing import Dict, Optional, Type
+from typing import TYPE_CHECKING, Dict, Optional, Sequence, Type
+
+if TYPE_CHECKING:
+    from .merge import ThreeWay
 
 
 class CastleError(Exception):
@@ -60,13 +63,13 @@ class UnknownCursor(Refused):
 class VersionLimit(Refused):
     status = 19
     what = "the store has as many versions as it was made for"
-    remedy = "Go on with the versions that there are, or make a store for more (V) and load the pairs into it."
+    remedy = "Go on with the versions that there are, or make a store for more (V): `dump --all` and `load --all` move everything."
 
 
 class ChangeLimit(Refused):
     status = 20
     what = "the store took as many changes as it was made for"
-    remedy = "Read on, or make a store for more (C) and load the pairs into it."
+    remedy = "Read on, or make a store for more (C): `dump --all` and `load --all` move everything."
 
 
 class CursorLimit(Refused):
@@ -303,6 +306,10 @@ def again(end: CastleError) -> CastleError:
 
 # What the package itself finds
 
+class Wrong(CastleError):
+    """A line of the shell that is no command."""
+
+
 class ProgramMissing(CastleError):
     """There is no program to run."""
 
@@ -380,6 +387,24 @@ class UnknownName(CastleError):
 
 class NameFault(CastleError):
     """A name that a version can't have, a version that is no number, or a file of names that can't be read."""
+
+
+class MergeFault(CastleError):
+    """Versions that can't be merged so."""
+
+
+class MergeConflict(CastleError):
+    """Both sides of a merge changed a key. Nothing was written. `conflicts` has those keys, with their values."""
+
+    remedy = "Say which side wins, or give both the same value first; nothing was written."
+    conflicts: Sequence["ThreeWay"] = ()
+
+
+class NotFresh(CastleError):
+    """A whole store is to be loaded into one that is not fresh. Nothing was changed."""
+
+    what = "the store is not fresh: it has changes or names"
+    remedy = "Make a new one with `castle format`, and load into that."
 
 
 class NamesWarning(UserWarning):

@@ -165,6 +165,12 @@ def answer(status: int, fields: bytes) -> Answer:
     raise ValueError(f"a reply of status {status}")
 
 
+def page_counts(fields: bytes) -> Tuple[bool, int]:
+    """Whether other pairs follow those of a reply, and how many it has."""
+    more, count = PAGE_FIELDS.unpack_from(fields)
+    return bool(more), count
+
+
 def page(fields: bytes) -> Page:
     """The pairs of a reply."""
     more, count = PAGE_FIELDS.unpack_from(fields)

@@ -54,6 +54,10 @@ class Unheard(bytes):
     """A frame whose answer nobody wants."""
 
 
+class Whole(bytes):
+    """A frame for which pairs are wanted as the bytes of their reply, which are not looked at; see `frames.page`."""
+
+
 class Heard(NamedTuple):
     """What was asked and answered so far."""
 
@@ -116,6 +120,11 @@ class Program:
     def is_own(self) -> bool:
         """Whether this process started it, and is no child of the one that did."""
         return self.process.is_own
+
+    @property
+    def is_alone(self) -> bool:
+        """Whether nobody else changes the store: the program is this one's own."""
+        return isinstance(self.process, Process)
 
     @property
     def end(self) -> Optional[errors.CastleError]:
@@ -221,6 +230,10 @@ class Program:
             raise errors.again(self._end)
         if not self.is_own:
             raise errors.Forked(file=self.file)
+
+    def refuse(self, fault: str) -> errors.CastleError:
+        """Takes no more commands, since a reply was wrong, and gives the error for that."""
+        return self._ended(errors.WrongProtocol(fault, file=self.file))
 
     def finish(self, limit: Optional[float] = None) -> int:
         """Ends its input, waits until it has ended, and tells its status. Replies that nobody waited for are dropped.
@@ -364,6 +377,8 @@ class Program:
                 answers.append(data[at + 11:stop])
             elif type(frame) is Unheard:
                 pass
+            elif type(frame) is Whole and status == frames.PAIRS and length > 7:
+                answers.append(data[at + 9:stop])
             elif status < frames.LEAST_REFUSAL:
                 try:
                     answers.append(frames.answer(status, data[at + 9:stop]))

@@ -2,9 +2,11 @@
 
 from __future__ import annotations
 
+import bisect
+import struct
 import threading
 from types import TracebackType
-from typing import Any, Generic, Iterator, List, NamedTuple, Optional, Type, TypeVar, cast
+from typing import Any, Generic, Iterator, List, NamedTuple, Optional, Sequence, Tuple, Type, TypeVar, cast
 
 from . import errors, frames
 from .commands import Commands, Data, Version
@@ -34,6 +36,22 @@ class Reading(Iterator[Item], Generic[Item]):
         self.close()
 
 
+class Moment:
+    """A time in the life of an open store."""
+
+    def __init__(self, program: Program, commands: Commands) -> None:
+        """It is now."""
+        self._program = program
+        self._commands = commands
+        self._changes = commands.changes
+
+    @property
+    def is_current(self) -> bool:
+        """Whether the store is still as it was. It fails where the store takes no more commands."""
+        self._program.check()
+        return self._program.is_alone and self._changes == self._commands.changes
+
+
 class Scan(Reading[Pair]):
     """The pairs of a range as they were when the scan began, read piece by piece as they are asked for. See `Store.scan`."""
 
@@ -45,6 +63,7 @@ class Scan(Reading[Pair]):
         self._more = True
         self._reading = threading.RLock()  # around the reading of a piece
         self._asked: List[Result] = []  # has the next piece, once it was asked for and answered
+        self.began = Moment(program, commands)
         self._cursor = program.open(commands.open_cursor, version, lower, upper, prefix)
 
     def __next__(self) -> Pair:
@@ -60,12 +79,21 @@ class Scan(Reading[Pair]):
                         raise StopIteration
                     self._read()
 
+    @property
+    def more(self) -> bool:
+        """Whether pairs may follow those that were read."""
+        return self._more
+
+    def _number(self) -> object:
+        """The number of the cursor."""
+        if not self._cursor:
+            raise errors.StoreClosed(file=self._program.file)
+        return self._cursor[0]
+
     def _read(self) -> None:
         """Reads the next piece. Where an exception of a signal cuts it off, the next call takes the piece that was asked for."""
         try:
-            if not self._cursor:
-                raise errors.StoreClosed(file=self._program.file)
-            page = cast(frames.Page, self._program.answer(self._asked, self._commands.next_pairs, self._cursor[0]))
+            page = cast(frames.Page, self._program.answer(self._asked, self._commands.next_pairs, self._number()))
         except errors.CastleError as error:
             if not isinstance(error, errors.Busy):
                 self.close()
@@ -73,6 +101,40 @@ class Scan(Reading[Pair]):
         self._asked, self._more, self._piece = [], page.more, iter(page.pairs)
         if not page.more:
             self.give_back()
+
+    @staticmethod
+    def replies(scans: Sequence["Scan"], limit: int = frames.PAGE_MAX) -> List[bytes]:
+        """The next pieces of scans, asked for at once, as the bytes of their replies. Threads may not share these scans."""
+        sink: List[Result] = []
+        for scan in scans:
+            scan._program.send(sink, scan._commands.next_whole, scan._number(), limit)
+        end: Optional[errors.CastleError] = None
+        try:
+            scans[0]._program.settle(sink)
+        except errors.CastleError as error:
+            end = error
+        refused = next((reply for reply in sink if isinstance(reply, errors.CastleError)), end)  # before the end that came of it
+        if refused is not None:
+            raise refused
+        for scan, reply in zip(scans, sink):
+            scan._more = frames.page_counts(cast(bytes, reply))[0]
+            if not scan._more:
+                scan.give_back()
+        return cast(List[bytes], sink)
+
+    def pairs_of(self, reply: bytes) -> List[Pair]:
+        """The pairs of one of these replies."""
+        try:
+            return frames.page(reply).pairs
+        except (IndexError, struct.error):
+            raise self._program.refuse(f"a reply of status {frames.PAIRS} can't be read") from None
+
+    def count(self) -> int:
+        """How many pairs follow. They are read, and not looked at."""
+        count = 0
+        while self._more:
+            count += frames.page_counts(self.replies([self])[0])[1]
+        return count
 
     def give_back(self) -> None:
         """Has its cursor closed. What was read is given still; more is missed as `StoreClosed`."""
@@ -98,7 +160,7 @@ class Differences(Reading[Difference]):
 
     def __init__(self, before: Scan, after: Scan) -> None:
         self._scans = before, after
-        self._found = merged(before, after)
+        self._found = differences(before, after)  # which has the scans and not this, so that it goes where nobody has this
 
     def __next__(self) -> Difference:
         try:
@@ -111,6 +173,50 @@ class Differences(Reading[Difference]):
         for scan in self._scans:
             scan.close()
         self._found = iter(())
+
+
+def differences(before: Scan, after: Scan) -> Iterator[Difference]:
+    """What differs between two scans.
+
+    They are compared piece by piece. Behind a key that one side alone has, the other one reads as many pairs as it lacks, so
+    that the pieces that follow are equal as bytes again. Where that was not enough it reads a whole piece.
+    """
+    old: List[Pair] = []  # pairs that were read, and are not compared yet
+    new: List[Pair] = []
+    last: Optional[Scan] = None  # the side that read what it lacked, if that came last
+    while old or new or before.more or after.more:
+        if not old and not new and before.more and after.more:
+            old, new = _unequal(before, after)
+            last = None
+        elif not old and before.more:
+            old = _next_pairs(before, frames.PAGE_MAX if before is last else len(new))
+            last = before
+        elif not new and after.more:
+            new = _next_pairs(after, frames.PAGE_MAX if after is last else len(old))
+            last = after
+        ends = [pairs[-1][0] for pairs, scan in ((old, before), (new, after)) if pairs and scan.more]
+        known, also = _up_to(old, ends), _up_to(new, ends)
+        yield from merged(iter(old[:known]), iter(new[:also]))
+        old, new = old[known:], new[also:]
+
+
+def _unequal(before: Scan, after: Scan) -> Tuple[List[Pair], List[Pair]]:
+    """The next pieces that differ. Those that are the same bytes are passed over."""
+    while before.more and after.more:
+        old, new = Scan.replies([before, after])
+        if old != new:
+            return before.pairs_of(old), after.pairs_of(new)
+    return [], []
+
+
+def _next_pairs(scan: Scan, limit: int) -> List[Pair]:
+    """The next pairs of a scan: as many as the limit, or a whole piece where that is 0."""
+    return scan.pairs_of(Scan.replies([scan], limit or frames.PAGE_MAX)[0])
+
+
+def _up_to(pairs: List[Pair], ends: List[bytes]) -> int:
+    """How many pairs are up to the least of these keys; all where there is none."""
+    return bisect.bisect_left(pairs, (min(ends) + b"\0",)) if ends else len(pairs)
 
 
 def merged(before: Iterator[Pair], after: Iterator[Pair]) -> Iterator[Difference]:

@@ -9,17 +9,21 @@ import stat
 import threading
 import warnings
 import weakref
+from collections import deque
 from types import TracebackType
 from typing import List, NoReturn, Optional, Tuple, Type, Union, cast
 from weakref import WeakSet
 
-from . import errors, files, frames
+from . import backup, branches, errors, files, frames, outfile
+from .backup import Counts, Loading
 from .batch import Batch
+from .branches import Snapshot
 from .commands import Commands, Data, Version
 from .copies import PrivateCopy
 from .frames import Info, Page, Stat
 from .levels import Levels, read
 from .lock import Lock
+from .merge import Merge, merge
 from .names import Names, remove_names
 from .process import Process, find_program, printed
 from .program import LIMIT, Program
@@ -269,15 +273,15 @@ class Store:
             batch.info(number)
         return cast(List[Info], batch.finish())
 
-    def diff(self, before: Version, after: Version) -> Differences:
-        """The keys whose values differ between two versions as they are at this call, in order.
+    def diff(self, before: Version, after: Version, *, prefix: Data = b"") -> Differences:
+        """The keys that begin with `prefix` and whose values differ between two versions as they are at this call, in order.
 
-        It scans all of both side by side, in memory of one piece each. It raises what `scan` does, and ends as a scan
-        does.
+        It scans both side by side, in memory of one piece each. Pieces that are the same bytes are not looked into, so few
+        differences cost little more than the reading. It raises what `scan` does, and ends as a scan does.
         """
-        first = self.scan(before)
+        first = self.scan(before, prefix=prefix)
         try:
-            return Differences(first, self.scan(after))
+            return Differences(first, self.scan(after, prefix=prefix))
         except BaseException:
             first.close()
             raise
@@ -293,6 +297,64 @@ class Store:
     def number(self, version: Version) -> int:
         """The number of a version, which may be given by its name."""
         return self._commands.number(version)
+
+    # Branches
+
+    def snapshot(self, branch: str, name: str, description: str = "") -> Snapshot:
+        """Keeps the version of a branch under another name, frozen, and has the branch go on in a clone.
+
+        A branch is any name of a version. The clone is made first, and then one write gives both names. Where that is not
+        reached, as after a kill, every name is as it was, and the clone has none: do it again. It raises what `clone`
+        does, `UnknownName`, and `NameFault` for a name that stands already or can't be.
+        """
+        with self._program.lock:
+            return branches.snapshot(self, branch, name, description)
+
+    def release(self, source: str, target: str, description: Optional[str] = None) -> Snapshot:
+        """Moves the name `target` to the version of the branch `source`, frozen, and has that branch go on in a clone.
+
+        Both names stand already. What `target` was before stays under its number and its other names. Names are
+        written as by `snapshot`. A description is that of `target`; without one it keeps its own.
+        """
+        with self._program.lock:
+            return branches.release(self, source, target, description)
+
+    def merge(self, ours: Version, theirs: Version, into: Version, *, wins: Optional[str] = None) -> Merge:
+        """Makes a version that has the changes of two versions since their common ancestor.
+
+        `into` is one of the two, by number or name, or a new name. The merge is made in a clone: of that version, or of the
+        common ancestor for a new name. Then the name `into` is given to the clone, by one write. Any error leaves every
+        name as it was.
+
+        A key that both have changed to different values, or deleted on one side, is a conflict. Conflicts raise
+        `MergeConflict` before anything is written, unless `wins` is `"ours"` or `"theirs"`. The call takes memory for the keys
+        that have changed, and a recovery (`levels`). It raises `MergeFault`, `VersionLimit` and `ChangeLimit` before
+        anything is written, and what `diff` does.
+        """
+        with self._program.lock:
+            return merge(self, ours, theirs, into, wins)
+
+    # The whole store as text
+
+    def dump_all(self, path: Path) -> None:
+        """Writes every version and name into a file of text, which takes its place whole, or not at all."""
+        file = os.fsdecode(path)
+        outfile.write(file, backup.lines_of(self, os.path.basename(self.path)), self.path)
+
+    def load_all(self, path: Path) -> Counts:
+        """Loads such a file into this store, which has to be fresh, with the same numbers of versions, and tells how much it was.
+
+        The whole file is read before anything is changed. `DumpFault` tells of one that was cut off or altered, `NotFresh`
+        of a store that has changes or names, `VersionLimit` and `ChangeLimit` of a store that is too small: then nothing
+        was changed. If it ends early later on, make the store anew.
+        """
+        file = os.fsdecode(path)
+        loading = Loading(self, file)
+        with self._program.lock, outfile.told(file, "read"), backup.twice(file) as lines:
+            deque(loading.check(lines), 0)
+            lines.seek(0)
+            deque(loading.load(lines), 0)
+        return loading.counts
 
 
 def _located(path: Path) -> Tuple[str, str]:

@@ -1,17 +1,16 @@
-"""What the shell has at a terminal: Ctrl-C, the streams' encodings, history and completion."""
+"""Ctrl-C in the shell, and the encodings of its streams."""
 
 from __future__ import annotations
 
 import codecs
-import glob
+import contextlib
 import os
 import signal
 import sys
 from types import FrameType, TracebackType
-from typing import Any, Callable, Iterable, Iterator, List, Optional, Sequence, Tuple, Type, TypeVar
+from typing import Any, Callable, Iterable, Iterator, Optional, Tuple, Type, TypeVar
 
-from .errors import TextFault
-from .text import cell, encoded, hexed, unescaped
+from .text import encoded, hexed
 
 Item = TypeVar("Item")
 
@@ -66,12 +65,41 @@ class Interrupts:
         finally:
             self._is_reading = False
 
+    def check(self) -> None:
+        """Raises `Stopped` where Ctrl-C came amid the command."""
+        if self.count:
+            raise Stopped("stopped")
+
     def items(self, items: Iterable[Item]) -> Iterator[Item]:
         """The same items, up to a Ctrl-C: then it raises `Stopped`."""
         for item in items:
-            if self.count:
-                raise Stopped("stopped")
+            self.check()
             yield item
+
+    def lines(self, file: Iterable[str]) -> Iterator[str]:
+        """The lines of a file, up to a Ctrl-C, also where it comes while a line is waited for."""
+        source = iter(file)
+        while True:
+            self.check()
+            self._is_reading = True
+            try:
+                line = next(source, None)
+            except KeyboardInterrupt:
+                raise Stopped("stopped") from None
+            finally:
+                self._is_reading = False
+            if line is None:
+                return
+            yield line
+
+    @contextlib.contextmanager
+    def ignored(self) -> Iterator[None]:
+        """Within it Ctrl-C is another program's, as of one that has the terminal."""
+        before = signal.signal(signal.SIGINT, signal.SIG_IGN)
+        try:
+            yield
+        finally:
+            signal.signal(signal.SIGINT, before)
 
 
 # Streams
@@ -99,69 +127,3 @@ def prepare_streams() -> None:
             stream.reconfigure(errors=errors)
         else:
             stream.reconfigure(encoding="utf-8", errors="surrogateescape")
-
-
-# Completion and history
-
-def completions(before: Sequence[str], written: str, commands: Iterable[str], names: Iterable[str]) -> List[str]:
-    """What may stand in place of the beginning of a word, behind the words before it."""
-    if not before or before == ["help"]:
-        found = list(commands)
-    elif written.startswith("@"):
-        found = [f"@{name}" for name in names]
-    elif before == ["load"] or before[-1] == "--svg" or (before[0] == "dump" and len(before) == 2):
-        return files(written)
-    elif before[0] in ("use", "info", "diff", "dump", "names"):
-        found = [*names, *(("set", "remove") if before == ["names"] else ())]
-    else:
-        found = ["--svg"] if written and before in (["tree"], ["levels"]) else []
-    return sorted(f"{word} " for word in found if word.startswith(written))
-
-
-def files(written: str) -> List[str]:
-    """The files whose paths begin so, as words without quotes."""
-    try:
-        start = os.fsdecode(unescaped(written))
-    except TextFault:
-        return []
-    found = sorted(glob.glob(glob.escape(start) + "*"))
-    return [as_bare(path + "/") if os.path.isdir(path) else as_bare(path) for path in found]
-
-
-def as_bare(path: str) -> str:
-    """A path as a word without quotes."""
-    word = cell(os.fsencode(path)).replace(" ", r"\x20")
-    return hexed(word[0].encode()) + word[1:] if word[:1] in ("@", '"') and word else word
-
-
-def complete(commands: Iterable[str], names: Iterable[str]) -> None:
-    """Has Tab complete commands, names of versions and files, and keeps the history of lines in ~/.castle_history."""
-    try:
-        import readline
-    except ImportError:
-        return
-    import atexit
-
-    def offer(written: str, state: int) -> Optional[str]:
-        before = readline.get_line_buffer()[:readline.get_begidx()].split()
-        found = completions(before, written, commands, names)
-        return found[state] if state < len(found) else None
-
-    readline.set_completer(offer)
-    readline.set_completer_delims(" \t")
-    has_libedit = "libedit" in (readline.__doc__ or "")
-    readline.parse_and_bind("bind ^I rl_complete" if has_libedit else "tab: complete")
-    history = os.path.join(os.path.expanduser("~"), ".castle_history")
-    try:
-        readline.read_history_file(history)
-    except OSError:
-        pass
-    readline.set_history_length(1000)
-
-    def keep() -> None:
-        try:
-            readline.write_history_file(history)
-        except OSError:
-            pass
-
-    atexit.register(keep)

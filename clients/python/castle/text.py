@@ -121,6 +121,15 @@ def words(line: str) -> List[Word]:
     return found_words
 
 
+QUOTED = re.compile(r'"((?:[^"\\]|\\.)*)"', re.S)
+
+
+def argument(written: str) -> Word:
+    """The word that an argument of a process stands for: as in a line, but blanks within it need no quotes."""
+    quoted = QUOTED.fullmatch(written)
+    return Word(unescaped(quoted[1] if quoted else written), quoted is None, written)
+
+
 def counted(count: int, noun: str) -> str:
     """As `1 pair`, `2 pairs`, `3 entries`."""
     return f"{count:,} {noun if count == 1 else f'{noun[:-1]}ies' if noun.endswith('ry') else f'{noun}s'}"

@@ -11,7 +11,7 @@ import select
 import signal
 import sys
 import time
-from typing import Dict, List, Optional, Tuple
+from typing import Callable, Dict, List, Optional, Tuple
 
 from support import DEADLINE, SHELL
 
@@ -26,10 +26,24 @@ CTRL_C, CTRL_D = b"\x03", b"\x04"
 
 def carried_out(store: Store, *lines: str) -> Tuple[str, str, int]:
     """Output, complaints and status of a script over a store that is open in this process."""
+    return _told(store, lambda shell: shell.script(f"{line}\n" for line in lines))
+
+
+def carried_out_alone(store: Store, *words: str) -> Tuple[str, str, int]:
+    """Output, complaints and status of one command over such a store."""
+    return _told(store, lambda shell: shell.single(words))
+
+
+def _told(store: Store, act: Callable[[Shell], int]) -> Tuple[str, str, int]:
     out, complaints = io.StringIO(), io.StringIO()
     with contextlib.redirect_stderr(complaints):
-        status = Shell(store, out).script(f"{line}\n" for line in lines)
+        status = act(Shell(store, out))
     return out.getvalue(), complaints.getvalue(), status
+
+
+def untimed(said: str) -> str:
+    """What was printed without the times of names, and without the blanks around them."""
+    return re.sub(r" {2,}\d{4}-\d\d-\d\d \d\d:\d\d UTC", "", said)
 
 
 class Session:

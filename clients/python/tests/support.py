@@ -12,7 +12,7 @@ import tempfile
 import time
 import traceback
 import unittest
-from typing import Callable, Iterator, List, Optional, Tuple
+from typing import Callable, Dict, Iterator, List, Optional, Tuple
 from unittest import mock
 
 TOP = pathlib.Path(__file__).resolve().parents[3]
@@ -25,7 +25,7 @@ NOBODY = 65534  # the number of a user and a group without rights
 
 sys.path.insert(0, PACKAGE)
 
-from castle import Store  # noqa: E402
+from castle import Store, frames  # noqa: E402
 from castle.process import Process  # noqa: E402
 
 
@@ -85,6 +85,31 @@ def alarm_amid(store: Store) -> Iterator[None]:
     stop(store.pid)
     with mock.patch.object(Process, "ready", waiting):
         yield
+
+
+@contextlib.contextmanager
+def frames_sent(store: Store) -> Iterator[Dict[str, int]]:
+    """How many frames of each kind reach the store's program within it, by the names of `frames.NAMES`; there at its end."""
+    counts: Dict[str, int] = {}
+    sent, write, inp = bytearray(), os.write, store._program.process.inp
+
+    def written(descriptor: int, data: bytes) -> int:
+        taken = write(descriptor, data)
+        if descriptor == inp:
+            sent.extend(data[:taken])
+        return taken
+
+    with mock.patch("os.write", written):
+        yield counts
+        store.stat()  # closings of cursors go out together with a command
+    while sent:
+        size = 4 + int.from_bytes(sent[:4], "big")
+        name = frames.NAMES[sent[8]]
+        counts[name] = counts.get(name, 0) + 1
+        del sent[:size]
+    counts["stat"] -= 1
+    if not counts["stat"]:
+        del counts["stat"]
 
 
 def in_child(run: Callable[[], object], limit: int = CHILD, fork: Callable[[], int] = os.fork) -> int:
@@ -150,6 +175,10 @@ class StoreCase(unittest.TestCase):
         with open(os.path.join(self.folder, name), "rb") as file:
             return file.read()
 
+    def names_told(self) -> List[str]:
+        """The lines of the file of names, without their times and descriptions."""
+        return [" ".join(line.split()[:2]) for line in self.bytes_of("a.store.names").decode().splitlines()]
+
     def pretending(self, answers: str) -> Store:
         """A store whose program pretends: it opens, and does what the words say at the first command."""
         return Store(self.written("pretended", answers), program=PRETENDER)
@@ -162,7 +191,10 @@ class StoreCase(unittest.TestCase):
 
     def shell(self, script: str, path: Optional[str] = None) -> Tuple[str, str, int]:
         """Output, complaints and status of the shell over a script."""
-        words: List[str] = [sys.executable, SHELL, self.path if path is None else path]
-        ran = subprocess.run(words, input=script.encode("utf-8", "surrogateescape"), capture_output=True,
-                             cwd=self.folder, timeout=DEADLINE)
+        return self.ran(self.path if path is None else path, script=script)
+
+    def ran(self, *arguments: str, script: str = "") -> Tuple[str, str, int]:
+        """Output, complaints and status of the shell with these arguments, and this on standard input."""
+        ran = subprocess.run([sys.executable, SHELL, *arguments], input=script.encode("utf-8", "surrogateescape"),
+                             capture_output=True, cwd=self.folder, timeout=DEADLINE)
         return ran.stdout.decode("utf-8", "surrogateescape"), ran.stderr.decode(), ran.returncode

@@ -206,12 +206,28 @@ class StepsTest(StoreCase):
             store.names["a"] = at % 2
 
         for at in self.steps(call, "names files", least=20):
-            names, on_disk = dict(store.names), self.bytes_of("a.store.names")
+            names, on_disk = dict(store.names), self.names_told()
             self.assertIn(names, (had, {"a": at % 2}))
-            self.assertIn(on_disk, [b"a %d\n" % version for version in (names["a"], at % 2)])
+            self.assertIn(on_disk, [[f"a {version}"] for version in (names["a"], at % 2)])
             self.assertEqual([name for name in os.listdir(self.folder) if name.startswith(".castle")], [], f"at {at}")
             had = names
         self.assertEqual(dict(store.names), {"a": at % 2 ^ 1})
+
+
+    def test_a_snapshot_that_is_interrupted_at_any_step_has_moved_both_names_or_none(self) -> None:
+        store, kinds = self.made(64, 10000, 1000), set()
+        store.names["work"] = store.clone(0)
+        had = {"work": 1}
+        for at in self.steps(lambda at: store.snapshot("work", f"s{at}"), "branches names files", least=40):
+            names = dict(store.names)
+            moved = {**had, f"s{at}": had["work"], "work": store.stat().versions - 1}
+            self.assertIn(names, (had, moved), f"at {at}")
+            on_disk = {name: int(version) for name, version in map(str.split, self.names_told())}
+            self.assertIn(on_disk, (names, moved), f"at {at}")
+            kinds.add(names == moved)
+            store.names.pop(f"s{at}", None)  # so that the steps do not become more
+            had = dict(store.names)
+        self.assertEqual(kinds, {False, True})
 
 
 class SignalsTest(StoreCase):

@@ -95,7 +95,7 @@ class LockTest(StoreCase):
                 call()
         store.put("base", "a", "1")
         self.assertEqual(sorted(os.listdir(self.folder)), ["a.store.lock", "a.store.moved", "a.store.names"])
-        self.assertEqual(self.bytes_of("a.store.names"), b"base 0\n")
+        self.assertEqual(self.names_told(), ["base 0"])
         os.rename(self.path + ".moved", self.path)
         store.names["other"] = 0
         self.assertEqual(store.levels().changes, 1)

@@ -10,7 +10,7 @@ import sys
 from typing import Iterator
 from unittest import mock
 
-from session import carried_out
+from session import carried_out, untimed
 from support import DEADLINE, SHELL, StoreCase, unprivileged
 
 from castle import CastleError, Store, outfile
@@ -153,7 +153,7 @@ class WrittenFileTest(StoreCase):
 
         def scanned(version: int) -> Iterator[object]:
             for count, pair in enumerate(scan(version)):
-                shell._interrupts.count = int(count > 300)
+                shell.interrupts.count = int(count > 300)
                 yield pair
 
         for line in (f"dump 0 {self.folder}/x", f"tree --svg {self.folder}/x"):
@@ -192,7 +192,7 @@ class WrittenFileTest(StoreCase):
             'put a 1\ndump 0 "my file.dump"\nload "my file.dump"\nload my\\x20file.dump\ntree --svg "a\\"b.svg"\n'
             'levels --svg "\\xff.svg"\nclone "staging"\nuse "staging"\nnames set "x" "0"\nnames remove "x"\nnames\nget a @staging\n')
         self.assertEqual((complaint, status), ("", 0))
-        self.assertEqual(out, 'done\nwrote "my file.dump"\nloaded 1 pair into version 0\nloaded 1 pair into version 0\nwrote "a\\"b.svg"\n'
+        self.assertEqual(untimed(out), 'done\nwrote "my file.dump"\nloaded 1 pair into version 0\nloaded 1 pair into version 0\nwrote "a\\"b.svg"\n'
                               "wrote \\xff.svg\nmade version 1 (staging)\n1 staging\n1\n")
         self.assertEqual(set(os.listdir(os.fsencode(self.folder))),
                          {b"a.store", b"a.store.lock", b"a.store.names", b"my file.dump", b'a"b.svg', b"\xff.svg"})

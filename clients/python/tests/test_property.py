@@ -101,7 +101,7 @@ class World:
             self.at[path] = File(path)
         self.draws: List[Tuple[int, Callable[[], None]]] = [
             (14, self.open), (3, self.look), (12, self.change), (8, self.ask), (6, self.scan), (6, self.read_on), (4, self.batch),
-            (3, self.clone), (5, self.name), (4, self.threads), (4, self.fork), (2, self.linger), (3, self.child_opens),
+            (3, self.clone), (5, self.name), (4, self.branch), (4, self.threads), (4, self.fork), (2, self.linger), (3, self.child_opens),
             (3, self.child_ends), (4, self.move), (2, self.link), (2, self.unlink), (3, self.kill), (2, self.kill_amid),
             (5, self.close), (4, self.drop), (4, self.interrupt)]
 
@@ -302,6 +302,22 @@ class World:
             it.names[name] = version
         self.names[it.path], it.strays = dict(it.names), False
         expect(dict(names) == it.names, "names")
+
+    def branch(self) -> None:
+        """Takes a snapshot of a branch, which goes on in a clone. It is refused where the file was moved."""
+        it = self.living()
+        if it is None or it.store is None or not it.names or len(it.file.versions) > 150:
+            return
+        store, branch, name = it.store, self.chance.choice(sorted(it.names)), f"s{next(self.counter)}"
+        if self.at.get(it.path) is not it.file:
+            self.refused(it, errors.StoreMoved, lambda: store.snapshot(branch, name))
+            return
+        version, clone = it.names[branch], len(it.file.versions)
+        expect(store.snapshot(branch, name) == (version, clone), "a snapshot")
+        self.cloned(it, version)
+        it.names.update({name: version, branch: clone})
+        self.names[it.path], it.strays = dict(it.names), False
+        expect(dict(store.names) == it.names, "names")
 
     def threads(self) -> None:
         """Threads change and read keys of their own, and the process forks meanwhile."""

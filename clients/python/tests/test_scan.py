@@ -456,13 +456,13 @@ class CursorTest(Filled):
         shell = Shell(store, out)
         for line in ("scan", "scan 00", "diff 0 0", "dump"):
             out.seek(0)
-            shell._interrupts.count = 0
+            shell.interrupts.count = 0
             shell.run(line)
             self.assertEqual((len(out.getvalue()) > 0, self.cursors(store)), (True, 0))
         store.clone(0)
         store.put(1, "0000", "other")
         for line in ("scan", "diff 0 1", "dump", "tree --svg " + os.path.join(self.folder, "tree.svg")):
-            shell._interrupts.count = 1
+            shell.interrupts.count = 1
             with self.assertRaisesRegex(Stopped, "^stopped$"):
                 shell.run(line)
             self.assertEqual(self.cursors(store), 0)

@@ -10,15 +10,18 @@ import sys
 from typing import Callable, List, Tuple
 from unittest import mock
 
-from session import carried_out
+from session import carried_out, untimed
 from support import DEADLINE, SHELL, TOP, StoreCase, comes_to, unprivileged
 
 import castle
 from castle import Batch, Store
+from castle.cli import main
+from castle.loading import WINDOW
 from castle.process import find_program
-from castle.shell import PIECE, Shell, main
+from castle.shell import Shell
 
 DUMP = "# castle dump 1\n"
+NAMES_USAGE = "names [set NAME [V] | describe NAME TEXT | remove NAME]"
 UNBUFFERED = {**os.environ, "PYTHONUNBUFFERED": "1"}
 ENVIRONMENTS = UNBUFFERED, {name: value for name, value in os.environ.items() if name != "PYTHONUNBUFFERED"}
 
@@ -35,7 +38,8 @@ class ScriptTest(StoreCase):
                   "put user/2 Bob @staging\ndelete user/1 @1\ninfo staging\nnames\nget user/2 @staging\nget user/2 @0\n")
         want = ('done\ndone\nmade version 1 (staging)\n"Ann B"\nabsent\ndone\ndone\n'
                 "version 1 (staging): a clone of version 0, 1 ancestor, takes puts and deletes\n1 staging\nBob\nabsent\n")
-        self.assertEqual(self.shell(script), (want, "", 0))
+        out, complaint, status = self.shell(script)
+        self.assertEqual((untimed(out), complaint, status), (want, "", 0))
 
     def test_a_script_stops_at_an_error_in_line_3(self) -> None:
         self.made().close()
@@ -47,7 +51,7 @@ class ScriptTest(StoreCase):
                            ("get a @7", "a.store: get a at version 7: the store has no version of this number. Use 0"),
                            ("get a @none", "a.store: no version has the name none. Names: no version has one."),
                            ('put "a', "the quotes from column 5 on have no end."), (r"put \q 1", r"\q is no escape"),
-                           ("clone 7up", "'7up' can't be a name"), ("names remove none", "no version has the name none"),
+                           ("clone 7", "'7' can't be a name"), ("names remove none", "no version has the name none"),
                            ("load none.dump", "none.dump: the file can't be read: No such file or directory. Look at its path"),
                            ("load .", ".: the file can't be read: Is a directory"), ("use 0 @0", "two versions are named: 0 and 0"),
                            ("x" * 10000, f"unknown command {'x' * 60}.. (10,000 characters); `help`"),
@@ -71,11 +75,12 @@ class ScriptTest(StoreCase):
         self.assertRegex(self.shell("stat\n")[1], r"^castle-shell: .*a\.store: the store is open already, by process \d+\. ")
 
     def test_usage_is_told(self) -> None:
-        cases: List[Tuple[List[str], int]] = [([], 2), (["a", "b"], 2), (["--frob"], 2), (["--help"], 0), (["-h"], 0)]
+        cases: List[Tuple[List[str], int]] = [([], 2), (["--frob"], 2), (["a", "--frob"], 2), (["a", "-c"], 2), (["--json"], 2),
+                                              (["a", "-c", "stat", "stat"], 2), (["--help"], 0), (["a", "-h"], 0)]
         for words, status in cases:
             ran = subprocess.run([sys.executable, SHELL, *words], capture_output=True, stdin=subprocess.DEVNULL)
             self.assertEqual(ran.returncode, status)
-            self.assertIn(b"usage: castle-shell FILE\n", ran.stderr if status else ran.stdout)
+            self.assertIn(b"usage: castle-shell [--json]", ran.stderr if status else ran.stdout)
 
     def test_the_version_of_the_shell_is_that_of_the_package(self) -> None:
         ran = subprocess.run([sys.executable, SHELL, "--version"], capture_output=True, stdin=subprocess.DEVNULL)
@@ -85,15 +90,15 @@ class ScriptTest(StoreCase):
         self.made().close()
         out, _, _ = self.shell("help\nhelp diff\n")
         for name in ("put", "get", "delete", "clone", "scan", "info", "stat", "names", "tree", "diff", "levels", "dump", "load",
-                     "help", "quit", "use"):
+                     "help", "quit", "use", "switch", "snapshot", "release", "merge"):
             self.assertRegex(out, rf"(?m)^  {name}\b")
-        self.assertTrue(out.endswith("diff A [B]\n    shows what has to change in A to get B\n"))
+        self.assertTrue(out.endswith("diff A [B] [--stat] [-p PREFIX]\n    shows what has to change in A to get B\n"))
 
     def test_names_are_set_and_removed(self) -> None:
         self.made().close()
         out, _, status = self.shell("names\nclone\nnames set base 0\nnames set work\nuse 1\nnames set work\nnames\n"
                                     "clone next\nuse next\nnames remove work\nnames\ntree\n")
-        self.assertEqual((out, status), ("no version has a name\nmade version 1\n0 base\n1 work\nmade version 2 (next)\n0 base\n"
+        self.assertEqual((untimed(out), status), ("no version has a name\nmade version 1\n0 base\n1 work\nmade version 2 (next)\n0 base\n"
                                          "2 next\n0 base ─ 1 ─ 2 next (here)\n", 0))
         self.assertIn("version 2 has the name next", self.shell("clone next @2\n")[1])
         self.assertEqual(self.opened().stat().versions, 3)
@@ -127,7 +132,7 @@ class ScriptTest(StoreCase):
     def test_the_shell_runs_as_a_module(self) -> None:
         self.made().close()
         environment = {**os.environ, "PYTHONPATH": str(TOP / "clients" / "python")}
-        for module in ("castle", "castle.shell"):
+        for module in ("castle", "castle.cli"):
             ran = subprocess.run([sys.executable, "-m", module, "a.store"], input=f"put {module} 1\nget {module}\nnonsense\n".encode(),
                                  cwd=self.folder, env=environment, capture_output=True, timeout=DEADLINE)
             self.assertEqual((ran.stdout, ran.returncode), (b"done\n1\n", 1))
@@ -146,9 +151,9 @@ class ScriptTest(StoreCase):
             self.assertTrue(complaint.startswith(f"castle-shell: line 1: {word} does not stand at the end, where @ and a version stand"),
                             complaint)
         for line, usage in (("put a @staging", "put KEY VALUE [@V]. Write a key or value that begins with @ in quotes."),
-                            ("put a b c @staging", "put KEY VALUE [@V]"), ("tree @1", "tree [--svg FILE]"), ("stat @1", "stat"),
+                            ("put a b c @staging", "put KEY VALUE [@V]"), ("tree @1", "tree [--long | --svg FILE]"), ("stat @1", "stat"),
                             ("levels @1", "levels [--svg FILE]"), ("help @1", "help [COMMAND]"), ("quit @1", "quit"),
-                            ("names @1", "names [set NAME [V] | remove NAME]"), ("names remove staging @1", "names [set NAME [V] | remove NAME]")):
+                            ("names @1", NAMES_USAGE), ("names remove staging @1", NAMES_USAGE)):
             self.assertEqual(carried_out(store, line), ("", f"castle-shell: line 1: usage: {usage}\n", 1))
         for word in ("@", '""'):
             self.assertIn(f"line 1: {word} names no version. Write its number or its name", carried_out(store, f"use {word}")[1])
@@ -248,8 +253,8 @@ class ScanningTest(StoreCase):
         self.assertEqual(status, 1)
         self.assertRegex(out, r"^castle-shell: line 1: .*put 0\d\d\d at version 0, with \d+ of 1,000 pairs loaded: the program was ended by SIGKILL")
         told = int(out.split(", with ")[1].split()[0])
-        self.assertIn(told, range(2 * PIECE, 3 * PIECE + 1))
-        self.assertIn(len(self.opened().at(0)) - told, range(PIECE))
+        self.assertIn(told, range(2 * WINDOW, 3 * WINDOW + 1))
+        self.assertIn(len(self.opened().at(0)) - told, range(WINDOW))
 
     def test_a_load_that_fills_the_device_says_how_far_it_came(self) -> None:
         if not hasattr(resource, "prlimit"):
@@ -263,16 +268,16 @@ class ScanningTest(StoreCase):
         told = int(complaint.split(", with ")[1].split()[0])
         store.close()
         self.assertIn(len(self.opened().at(0)) - told, (0, 1))  # the put that met it was made or not
-        self.assertTrue(told % PIECE, told)
+        self.assertTrue(told % WINDOW, told)
 
     def test_ctrl_c_stops_a_load_behind_a_piece(self) -> None:
         self.made(64, 100000, 10).close()
         self.written("many.dump", dumped(*(f"{key:04}\t1" for key in range(1000))))
         with self.opened() as store:
             told = self.in_piece(store, 3, lambda: os.kill(os.getpid(), signal.SIGINT))
-            self.assertEqual(told, (f"castle-shell: line 1: stopped, with {3 * PIECE} of 1,000 pairs loaded\n", 130))
-            self.assertEqual([int(key) for key in store.at(0)], list(range(3 * PIECE)))
-            self.assertEqual(store.stat().updates, 3 * PIECE)
+            self.assertEqual(told, (f"castle-shell: line 1: stopped, with {3 * WINDOW} of 1,000 pairs loaded\n", 130))
+            self.assertEqual([int(key) for key in store.at(0)], list(range(3 * WINDOW)))
+            self.assertEqual(store.stat().updates, 3 * WINDOW)
 
     def in_piece(self, store: Store, number: int, act: Callable[[], None]) -> Tuple[str, int]:
         """Complaints and status of a shell that loads many.dump, where something happens amid the piece of this number."""
@@ -379,10 +384,11 @@ class OpeningTest(StoreCase):
         out, complaint, status = self.opened_shell(
             "get a\nget a @staging\nscan\ntree\ndiff base staging\ninfo staging\nuse 1\ndump\nnames\nlevels\n")
         self.assertEqual((complaint, status), (told, 0))
-        self.assertEqual(out, "1\n2\na = 1\n1 pair\n0 base (here) ─ 1 staging\n~ a = 1 -> 2\n0 removed, 0 added, 1 changed\n"
+        self.assertEqual(untimed(out), "1\n2\na = 1\n1 pair\n0 base (here) ─ 1 staging\n~ a = 1 -> 2\n0 removed, 0 added, 1 changed\n"
                               "version 1 (staging): a clone of version 0 (base), 1 ancestor, takes puts and deletes\n"
                               "# castle dump 1, version 1 (staging) of a.store\na\t2\n# end, 1 pair\n0 base\n1 staging\n" + levels)
-        for line in ("put b 1 @staging", "delete a @staging", "clone", "clone new", "names set new 0", "names remove base",
+        for line in ("put b 1 @staging", "delete a @staging", "clone", "clone new", "names set new 0", "names remove base", "names describe base x",
+                     "snapshot new @staging", "release staging base", "merge base staging new", f"load --all {self.folder}/a.dump",
                      f"load {self.folder}/a.dump @staging"):
             out, complaint, status = self.opened_shell(f"{line}\n")
             self.assertEqual((out, status), ("", 1), line)
@@ -405,7 +411,8 @@ class OpeningTest(StoreCase):
         with self.made() as store:
             store.names["next"] = store.clone(0)
         names = self.written("a.store.names", "base 0\nnext 1\nlost 7\n")
-        self.assertEqual(self.shell("names\nclone lost\nnames\n"), (
+        out, complaint, status = self.shell("names\nclone lost\nnames\n")
+        self.assertEqual((untimed(out), complaint, status), (
             "0 base\n1 next\nmade version 2 (lost)\n0 base\n1 next\n2 lost\n",
             f"castle-shell: {names}: names of versions that the store doesn't have are left out: lost 7\n", 0))
         self.assertEqual(self.shell("names\n")[1], "")

@@ -117,8 +117,7 @@ class NamesTest(StoreCase):
             self.assertEqual(store.get(2, "a"), b"1")
             self.assertEqual(store.info("staging").parent, 0)
             store.names["staging"] = 0
-        with open(self.path + ".names", encoding="utf-8") as file:
-            self.assertEqual(file.read(), "staging 0\nÜbung_1.b-c 2\n")
+        self.assertEqual(self.names_told(), ["staging 0", "Übung_1.b-c 2"])
         self.assertEqual(sorted(os.listdir(self.folder)), ["a.store", "a.store.lock", "a.store.names"])
         with self.opened() as store:
             self.assertEqual((dict(store.names), store.names.of(2)), ({"staging": 0, "Übung_1.b-c": 2}, ["Übung_1.b-c"]))
@@ -141,7 +140,7 @@ class NamesTest(StoreCase):
 
     def test_a_file_of_names_that_can_not_be_read_leaves_the_store_open_and_is_left_alone(self) -> None:
         self.made().close()
-        cases = [(b"a 0\nb\n", "line 2 is not a name and a version"), (b"a 0 1\n", "line 1 is not a name and a version"),
+        cases = [(b"a 0\nb\n", "line 2 is not a name and a version"), (b"a 0 1\n", "line 1: 1 is no time"),
                  (b"0 a\n", "line 1 is not"), (b"a x\n", "line 1 is not"), (b"a 0\n\xff 0\n", "it is no text of UTF-8"),
                  (b"a 0\nb 0\na 0\n", "line 3 has the name a a second time")]
         for data, what in cases:
@@ -216,7 +215,7 @@ class NamesTest(StoreCase):
         store = self.made()
         store.names.update(a=0, b=0, c=store.clone(0))
         del store.names["a"]
-        self.assertEqual((dict(store.names), self.bytes_of("a.store.names")), ({"b": 0, "c": 1}, b"b 0\nc 1\n"))
+        self.assertEqual((dict(store.names), self.names_told()), ({"b": 0, "c": 1}, ["b 0", "c 1"]))
 
     def test_an_unknown_name_is_told_with_a_few_that_there_are(self) -> None:
         store = self.made()

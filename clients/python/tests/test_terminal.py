@@ -107,8 +107,108 @@ class PromptTest(TerminalCase):
                             ("load tw\t @1", ["loaded 1 pair into version 1 (staging)"]),
                             ("tree --s\tpict\ta.svg", ["wrote pictures/a.svg"]), ("dump st\tproduct\t", ["wrote product.dump"]),
                             ("help lev\t", ["levels [--svg FILE]", "    draws what is stored, level by level, or writes a picture of it"]),
+                            ("load --a\tprod\t", ["error: the store is not fresh: it has changes or names",
+                                                  "       Make a new one with `castle format`, and load into that."]),
+                            ("merge --th\tst\tst\tx", ["error: merge: both are version 1", "       Name two versions."]),
+                            ("dump --a\tproduct\t", ["wrote product.dump"]), ("names desc\tst\t x", []), ("switch st\t", []),
                             ("names rem\tst\t", [])):
             self.assertEqual(session.type(typed)[:-1], want, typed)
+
+
+    def test_keys_are_completed(self) -> None:
+        self.filled({key: b"1" for key in (b"user/1", b"user/10", b"user/2 x", b"users", b"\xff\xfe", "日/a".encode(), b"-x", b"@a", b"lone")})
+        session = self.session()
+        for typed, want in (("get lo\t", "1"), ("get user/2\t", "1"), ("get us\t/10\t", "1"), ("get \\xf\t", "1"), ("get 日\t", "1"), ("get -\t", "1"),
+                            ("get \\x40\t", "1"), ("exists lon\t", "yes"), ("del lon\t", "done"), ("ls user/2\t", '"user/2 x" = 1'),
+                            ("diff 0 0 -p us\t --st\t", "0 removed, 0 added, 0 changed"), ("scan --li\t1 user/2\t", '"user/2 x" = 1'),
+                            ("scan user/2 us\ters", '"user/2 x" = 1'), ("put use\tr/2\t 1", "done")):
+            self.assertEqual(session.type(typed)[0], want, typed)
+
+    def test_keys_are_completed_as_far_as_all_are_alike(self) -> None:
+        self.filled({**{f"user/{number:03}".encode(): b"" for number in range(300)}, b"user:x": b"1", b"z": b""})
+        with self.opened() as store:
+            shell = Shell(store, io.StringIO())
+            self.assertEqual(len(shell.keys(b"us")), 257)
+            self.assertEqual(os.path.commonprefix(shell.keys(b"us")), b"user")
+            self.assertEqual(os.path.commonprefix(shell.keys(b"user/")), b"user/")
+            self.assertEqual(os.path.commonprefix(shell.keys(b"")), b"")
+            self.assertEqual((shell.keys(b"z"), shell.keys(b"y")), ([b"z"], []))
+
+    def test_files_are_completed_where_a_file_is_meant(self) -> None:
+        self.made().close()
+        self.written("rows.csv", "a,1\n")
+        session = self.session()
+        self.assertEqual(session.type("load --cs\trow\t")[0], "loaded 1 pair into version 0")
+        self.assertEqual(session.type("get row\ts.csv")[0], "absent")
+
+    def test_lines_that_begin_with_a_blank_stay_out_of_the_history(self) -> None:
+        self.made().close()
+        session = self.session()
+        for line in ("put a 1", " put b secret", "get a", "get a", "quit"):
+            session.type(line, None if line == "quit" else PROMPT)
+        self.assertEqual(session.close(), 0)
+        with open(os.path.join(self.folder, ".castle_history"), encoding="utf-8") as file:
+            self.assertEqual(file.read().splitlines()[-3:], ["put a 1", "get a", "quit"])
+
+    def test_a_scan_at_a_prompt_shows_some_and_says_how_to_see_more(self) -> None:
+        self.filled({f"k{number:04}".encode(): b"v" for number in range(1100)})
+        *lines, last, _ = self.session().type("scan")
+        self.assertEqual((len(lines), last), (1000, '1,000 pairs, and others follow: `scan k1000 ""` goes on, --limit N shows more'))
+
+    def test_standard_input_is_not_loaded_at_a_prompt(self) -> None:
+        self.made().close()
+        self.assertEqual(self.session().type("load -")[:-1], [
+            "error: standard input is where the commands come from", "       Name a file, or run castle-shell STORE load -."])
+
+
+@unittest.skipUnless(importlib.util.find_spec("readline"), "this Python has no readline")
+class PagerTest(TerminalCase):
+    """Output that is longer than the screen, of 24 rows and 80 columns."""
+
+    def paging(self, pager: str, pairs: int = 100) -> Session:
+        """A shell with this pager, over so many pairs."""
+        self.filled({f"k{number:04}".encode(): b"v" for number in range(pairs)})
+        return self.session(environment={"TERM": "xterm", "COLUMNS": "80", "LINES": "24", "PAGER": pager})
+
+    def test_what_is_longer_than_the_screen_goes_through_the_pager(self) -> None:
+        session = self.paging("sed 's/^/| /'")
+        self.assertEqual(session.type("scan")[-4:], ["| k0098 = v", "| k0099 = v", "| 100 pairs", "a.store @0> "])
+        self.assertEqual(session.type("scan --limit 22")[:1], ["k0000 = v"])
+        self.assertEqual(session.type("get k0001")[:1], ["v"])
+        self.assertEqual(session.type("put long " + "v" * 1000)[-2:], ["done", "a.store @0> "])
+        self.assertEqual(session.type("get long")[:-1], ["v" * 1000])
+        self.assertEqual(session.type("dump")[-2], "| # end, 101 pairs")
+
+    def test_a_pager_that_is_left_ends_the_command_alone(self) -> None:
+        session = self.paging("head -2", 1000)
+        self.assertEqual(session.type("scan"), ["k0000 = v", "k0001 = v", "a.store @0> "])
+        self.assertEqual(session.type("stat")[3:], ["cursors  0", "a.store @0> "])
+        session.type("quit", None)
+        self.assertEqual(session.close(), 0)
+
+    def test_a_pager_that_can_not_be_run_is_told(self) -> None:
+        session = self.paging("no-such-pager-here")
+        said = session.type("scan")
+        self.assertEqual(said[-3:], ["error: the pager no-such-pager-here can't be run",
+                                     "       Set PAGER to another one, or to cat for none.", "a.store @0> "])
+
+    def test_no_pager_is_wanted_by_cat_or_by_a_dumb_terminal(self) -> None:
+        session = self.paging("cat")
+        self.assertEqual(len(session.type("scan")), 102)
+        session.kill()
+        session = self.session(environment={"TERM": "dumb", "PAGER": "head -1"})
+        self.assertEqual(len(session.type("scan")), 102)
+
+    def test_ctrl_c_is_the_pagers_while_it_is_read(self) -> None:
+        session = self.paging("trap '' INT; cat > /dev/null; echo ready; read line < /dev/tty; echo left")
+        session.send(b"scan\n")
+        session.until("ready\n$")
+        for _ in range(4):
+            session.send(CTRL_C)
+            time.sleep(0.1)
+        session.send(b"\n")
+        self.assertRegex(session.until(PROMPT), r"left\na\.store @0> $")
+        self.assertEqual(session.type("get k0001"), ["v", "a.store @0> "])
 
 
 def program_of(session: Session) -> int:
