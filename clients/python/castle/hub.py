@@ -26,6 +26,7 @@ from .store import Store
 MODE = 0o600
 CLIENTS = 256
 CLIENTS_MAX = 100000
+READING = 3.0  # seconds that clients have to read what is theirs at the end, and one too many to ask something
 FILES = 64  # open files that are no client's, at most
 SIGNALS = signal.SIGTERM, signal.SIGINT, signal.SIGHUP
 
@@ -75,18 +76,17 @@ class Hub:
     async def _meet(self, reader: asyncio.StreamReader, writer: asyncio.StreamWriter) -> None:
         """Serves a new client, or refuses it where there are as many as may be."""
         task = asyncio.current_task()
-        if task is None or self._stopping.is_set() or len(self._clients) >= self._clients_max:
-            if not self._stopping.is_set():
-                body = NO_TAG + bytes([errors.HubFull.status])
-                writer.write(SIZE.pack(len(body)) + body)
+        if task is None or self._stopping.is_set():
             writer.close()
-            return
-        client = Client(self._exchange, reader, writer)
-        self._clients[client] = task
-        try:
-            await client.serve()
-        finally:
-            del self._clients[client]
+        elif len(self._clients) >= self._clients_max:
+            await _refuse(reader, writer)
+        else:
+            client = Client(self._exchange, reader, writer)
+            self._clients[client] = task
+            try:
+                await client.serve()
+            finally:
+                del self._clients[client]
 
     def _ended(self) -> Ended:
         """Tells those that wait how the program ended."""
@@ -99,11 +99,20 @@ class Hub:
 
     async def _part(self) -> None:
         """Waits until clients have read what is theirs, and then drops those that don't read."""
-        for wait in (LIMIT, 1.0):  # seconds
+        for wait in (READING, 1.0):
             if self._clients:
                 await asyncio.wait(set(self._clients.values()), timeout=wait)
             for client in self._clients:
                 client.drop()
+
+
+async def _refuse(reader: asyncio.StreamReader, writer: asyncio.StreamWriter) -> None:
+    """Refuses a client that is one too many, once it has asked something, so that it looks for an answer."""
+    with contextlib.suppress(OSError, asyncio.TimeoutError):
+        await asyncio.wait_for(reader.read(1), READING)
+    body = NO_TAG + bytes([errors.HubFull.status])
+    writer.write(SIZE.pack(len(body)) + body)
+    writer.close()
 
 
 def shell_status(status: int) -> int:

@@ -110,19 +110,19 @@ class NoNames(Names):
     """No names. They are in a file beside the store, and whoever serves the store has that."""
 
     def __init__(self, address: str, count: Callable[[], int], lock: "threading._RLock") -> None:
-        self._address = address
-        super().__init__("", address, count, self._refuse, lock)  # there is no file of no name
+        super().__init__("", address, count, partial(_refuse_names, address), lock)  # no file has an empty path
         self.warning = f"{address}: names can't be had over a hub; versions go by their numbers"
-
-    def _refuse(self) -> NoReturn:
-        raise errors.NotOverHub("names can't be had over a hub", "Give versions by their numbers.", file=self._address)
 
     def version(self, name: str) -> int:
         """A `NotOverHub`."""
-        self._refuse()
+        _refuse_names(self._store)
 
     def __getitem__(self, name: str) -> int:
-        self._refuse()
+        _refuse_names(self._store)
+
+
+def _refuse_names(address: str) -> NoReturn:
+    raise errors.NotOverHub("names can't be had over a hub", "Give versions by their numbers.", file=address)
 
 
 class HubStore(Store):
