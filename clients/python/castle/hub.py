@@ -10,6 +10,7 @@ from __future__ import annotations
 import argparse
 import asyncio
 import contextlib
+import re
 import resource
 import signal
 import sys
@@ -161,22 +162,20 @@ def serve(path: str, socket_path: str, mode: int, clients_max: int) -> int:
 
 def mode_of(text: str) -> int:
     """The mode that octal digits say."""
-    mode = int(text, 8)
-    if not 0 <= mode <= 0o777:
-        raise ValueError
-    return mode
+    if not re.fullmatch("0*[0-7]{1,3}", text):
+        raise argparse.ArgumentTypeError(f"{text!r} is no mode: give octal digits up to 777, as 660")
+    return int(text, 8)
 
 
 def count_of(text: str) -> int:
     """How many clients there may be."""
-    count = int(text)
-    if not 1 <= count <= CLIENTS_MAX:
-        raise ValueError
-    return count
+    if not re.fullmatch("[0-9]{1,6}", text) or not 1 <= int(text) <= CLIENTS_MAX:
+        raise argparse.ArgumentTypeError(f"{text!r} is no number from 1 to {CLIENTS_MAX}")
+    return int(text)
 
 
-def options_of(arguments: Optional[List[str]]) -> argparse.Namespace:
-    """What the words say. Wrong ones end the process with status 2."""
+def parser() -> argparse.ArgumentParser:
+    """What reads the words. Wrong ones end the process with status 2."""
     parser = argparse.ArgumentParser("castle-hub", description="Serves the store in FILE to many clients, at the Unix socket SOCKET.",
                                      epilog='A client opens Store("unix:SOCKET"), or castle-shell unix:SOCKET. It is not proved.')
     parser.add_argument("file", metavar="FILE", help="the store's file, which `castle format` made")
@@ -185,7 +184,7 @@ def options_of(arguments: Optional[List[str]]) -> argparse.Namespace:
     parser.add_argument("--clients", type=count_of, default=CLIENTS, metavar="N",
                         help=f"how many may be connected at a time: {CLIENTS} if none are given")
     parser.add_argument("--version", action="version", version=f"castle-hub {__version__}")
-    return parser.parse_args(arguments)
+    return parser
 
 
 def allow_files(count: int) -> None:
@@ -200,7 +199,7 @@ def allow_files(count: int) -> None:
 
 def main(arguments: Optional[List[str]] = None) -> int:
     """Runs the hub with these arguments, and gives the exit status: 0 after a signal, 1 where it can't begin, or the program's."""
-    options = options_of(arguments)
+    options = parser().parse_args(arguments)
     try:
         allow_files(options.clients + FILES)
         return serve(options.file, options.socket, options.mode, options.clients)
