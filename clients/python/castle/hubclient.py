@@ -27,13 +27,12 @@ def share_of(body: bytes) -> int:
 class Client:
     """One connection. What it sends is read as far as its budget goes, and no other client waits for it.
 
-    In memory are at most the 128 KiB that the system and asyncio have read, its budget of replies and those that it has
-    not read.
+    In memory are at most 128 KiB that asyncio has read ahead, as much that the program has not taken, its budget of replies,
+    and those that it has not read.
     """
 
     def __init__(self, exchange: Exchange, reader: asyncio.StreamReader, writer: asyncio.StreamWriter) -> None:
         self.cursors: Set[bytes] = set()
-        self.has_left = False
         self.under_way = 0  # bytes of the budget
         self._exchange = exchange
         self._reader = reader
@@ -47,7 +46,7 @@ class Client:
         self._taking = asyncio.ensure_future(self._take_frames())
         try:
             await asyncio.wait({self._taking})
-            while self.under_way and not self._writer.transport.is_closing():
+            while self.under_way:  # also where it is gone: a client that comes again and again has no more under way than another
                 await self._ease()
             if not self._taking.cancelled() and self._taking.result():
                 self.take(NO_TAG + bytes([errors.FrameTooLong.status]))
@@ -87,7 +86,7 @@ class Client:
                 await self._writer.drain()  # where it does not read its replies
                 while self.under_way and self.under_way + share > BUDGET:
                     await self._ease()
-                await self._exchange.send(self, body, share)
+                self._exchange.post(self, body, share)
         return False
 
     async def _ease(self) -> None:

@@ -24,8 +24,6 @@ class Sender(Protocol):
 
     cursors: Set[bytes]
     """The numbers of its open cursors."""
-    has_left: bool
-    """Whether it takes no more replies, and had its cursors closed."""
     under_way: int
     """The shares of its commands that are to be answered."""
 
@@ -57,7 +55,7 @@ class Waiting(NamedTuple):
 class Exchange:
     """The program of a store between several clients.
 
-    Commands are passed on in the order of `send`, and so each client's in its own order. Each gets a tag of the hub's on
+    Commands are passed on in the order of `post`, and so each client's in its own order. Each gets a tag of the hub's on
     the way, and the reply the client's tag again. A client meets its own cursors alone: for the number of another's
     the program gets 0, which is none's.
     """
@@ -70,9 +68,6 @@ class Exchange:
         self._tag = 0
         self._unsent = bytearray()
         self._got = bytearray()
-        self._turns = asyncio.Lock()
-        self._has_room = asyncio.Event()
-        self._has_room.set()
         self._is_idle = asyncio.Event()
         self._is_idle.set()
         self.ended: "asyncio.Future[str]" = self._loop.create_future()
@@ -81,18 +76,10 @@ class Exchange:
         self._loop.add_reader(process.out, self._read)
         self._loop.add_reader(process.err, self._read_errors)
 
-    async def send(self, sender: Sender, body: bytes, share: int) -> None:
-        """Passes a command on once its turn comes, and waits until the program takes more."""
-        async with self._turns:
-            self._post(sender, body, share)
-            await self._has_room.wait()
-
     def leave(self, sender: Sender) -> None:
-        """Has a client's cursors closed, and drops what comes for it from now on."""
-        sender.has_left = True
+        """Has the cursors closed of a client that has nothing under way, and no command any more."""
         for number in sender.cursors:
-            self._close(number)
-        sender.cursors.clear()
+            self.post(None, NO_TAG + bytes([frames.CLOSE_CURSOR]) + number, 0)
 
     async def idle(self) -> None:
         """Waits until all is answered, or the program has ended."""
@@ -112,8 +99,8 @@ class Exchange:
 
     # To the program
 
-    def _post(self, sender: Optional[Sender], body: bytes, share: int) -> None:
-        """Adds a command to what is being sent."""
+    def post(self, sender: Optional[Sender], body: bytes, share: int) -> None:
+        """Passes a command on, for which the client is given this share until the reply comes."""
         if self.ended.done():
             return
         opcode, cursor = body[4] if len(body) > 4 else 0, b""
@@ -132,12 +119,6 @@ class Exchange:
         if not self._unsent:
             self._loop.add_writer(self._process.inp, self._write)
         self._unsent += SIZE.pack(len(body)) + tag + body[4:]
-        if len(self._unsent) > CHUNK:
-            self._has_room.clear()
-
-    def _close(self, number: bytes) -> None:
-        """Closes a cursor that is nobody's any more. There are few of them, so that nothing has to wait for room."""
-        self._post(None, NO_TAG + bytes([frames.CLOSE_CURSOR]) + number, 0)
 
     def _write(self) -> None:
         try:
@@ -148,8 +129,6 @@ class Exchange:
             self._unsent.clear()
         if not self._unsent:
             self._loop.remove_writer(self._process.inp)
-        if len(self._unsent) <= CHUNK // 2:
-            self._has_room.set()
 
     # From the program
 
@@ -183,12 +162,9 @@ class Exchange:
         if not self._waiting or len(body) < 5 or body[:4] != self._waiting[0].expected:
             return False
         it = self._waiting.popleft()
-        if body[4] == frames.OPENED and it.sender is not None:
-            if it.sender.has_left:
-                self._close(body[5:])
-            else:
-                it.sender.cursors.add(body[5:])
-        elif body[4] == frames.DONE and it.opcode == frames.CLOSE_CURSOR and it.sender is not None:
+        if it.sender is not None and body[4] == frames.OPENED:
+            it.sender.cursors.add(body[5:])
+        elif it.sender is not None and body[4] == frames.DONE and it.opcode == frames.CLOSE_CURSOR:
             it.sender.cursors.discard(it.cursor)
         it.give(body[4:])
         return True
@@ -202,7 +178,6 @@ class Exchange:
     def _end(self, fault: str) -> None:
         self.stop()
         self._unsent.clear()
-        self._has_room.set()
         self._is_idle.set()
         if not self.ended.done():
             self.ended.set_result(fault)

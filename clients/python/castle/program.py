@@ -24,7 +24,6 @@ if TYPE_CHECKING:
     from .hubstore import Connection
 
 KEPT = 4096  # answered commands that are kept at most, before the list of commands is cut
-UNTAGGED = errors.FrameTooLong.status, errors.HubFull.status  # refusals with tag 0, after which none comes
 FAILURES = errno.EBADF, errno.EINVAL, errno.EIO  # of a pipe
 LIMIT = 5.0  # seconds that the program may take to end, once it has nothing to answer
 
@@ -362,7 +361,7 @@ class Program:
             stop = at + 4 + length
             if stop > end:
                 break
-            if tag != expected and status not in UNTAGGED:
+            if tag != expected and status != errors.FrameTooLong.status:
                 fault = f"a reply has tag {tag}, which is not that of the command"
                 break
             if status == found:

@@ -9,6 +9,7 @@ import struct
 import time
 from pathlib import Path
 from typing import List, Tuple
+from unittest import mock
 
 import test_batch
 import test_mapping
@@ -20,6 +21,7 @@ from support import in_child, stop
 
 from castle import Stat, Store, errors, frames
 from castle.hubclient import BUDGET, UNREAD
+from castle.process import find_program
 
 MALFORMED = errors.Malformed.status
 FOUND, DONE, OPENED = frames.FOUND, frames.DONE, frames.OPENED
@@ -111,18 +113,14 @@ class FramesTest(HubCase):
             for number in range(300):
                 batch.put(0, b"%03d" % number, b"v" * 1024)
         page = other.page(0)
-        before, sent = resident(hub.pid), 0
-        client.socket.settimeout(0.5)
-        with self.assertRaises(socket.timeout):
-            while sent < 1000000:
-                sent += client.socket.send(frames.scan(1, 0, b"", b"", 256))
-        self.assertLess(sent, 500000)
+        before, scans = resident(hub.pid), 100
+        self.assertGreater(scans * len(b"".join(value for _, value in page.pairs)), 20 * (BUDGET + UNREAD))
+        client.send(frames.scan(1, 0, b"", b"", 256) * scans)
         for number in range(200):
             other.put(0, "k", str(number))
             self.assertEqual(other.get(0, "k"), b"%d" % number)
         self.assertLess(resident(hub.pid) - before, 8 * (BUDGET + UNREAD))
-        client.socket.settimeout(30)
-        for _ in range(sent // len(frames.scan(1, 0, b"", b"", 256))):
+        for _ in range(scans):
             reply = client.reply()
             assert reply
             self.assertEqual((reply.tag, reply.status, frames.page(reply.fields)), (1, frames.PAIRS, page))
@@ -145,6 +143,16 @@ class FramesTest(HubCase):
             with self.assertRaises(BlockingIOError):
                 while True:
                     client.socket.recv(1 << 16)
+
+
+def frames_of(sent: bytes) -> List[bytes]:
+    """The bodies of frames."""
+    bodies = []
+    while sent:
+        size = int.from_bytes(sent[:4], "big")
+        bodies.append(sent[4:4 + size])
+        sent = sent[4 + size:]
+    return bodies
 
 
 def resident(pid: int) -> int:
@@ -218,6 +226,23 @@ class CursorsTest(HubCase):
         self.assertEqual(one.ask(frames.close_cursor(7, number)), Reply(7, DONE))
         self.assertEqual(one.ask(frames.close_cursor(8, number)), Reply(8, errors.UnknownCursor.status))
 
+    def test_no_cursor_is_closed_that_its_client_has_closed(self) -> None:
+        copied = os.path.join(self.folder, "frames")
+        stub = self.written("stub", f'#!/bin/sh\n[ "$1" = serve ] || exec "{find_program()}" "$@"\n'
+                                    f'tee "{copied}" | "{find_program()}" "$@"\n')
+        os.chmod(stub, 0o755)
+        with mock.patch.dict(os.environ, CASTLE_PROGRAM=stub):
+            self.served()
+        client = self.raw()
+        for number in self.opened_by(client, 50):
+            self.assertEqual(client.ask(frames.close_cursor(1, int.from_bytes(number, "big"))), Reply(1, DONE))
+        self.opened_by(client, 3)
+        client.close()
+        self.until_none_is_open(self.client())
+        self.assertEqual(self.ended(signal.SIGTERM), (0, ""))
+        closings = [body for body in frames_of(self.bytes_of("frames")) if body[4] == frames.CLOSE_CURSOR]
+        self.assertEqual(len(closings), 53)
+
     def test_scans_that_are_dropped_by_clients_which_go_on_are_closed(self) -> None:
         self.served()
         one, two = self.client(), self.client()
@@ -266,7 +291,12 @@ class InterfaceTest(HubCase):
         store.put(0, "a", "1")
         scan = store.scan(0)
 
+        connection = os.fstat(store._program.process.out).st_ino
+
         def refused() -> None:
+            open_files = [os.stat(f"/proc/self/fd/{name}").st_ino for name in os.listdir("/proc/self/fd")
+                          if os.path.exists(f"/proc/self/fd/{name}")]
+            assert connection not in open_files, "the child has the connection"
             for call in (lambda: store.get(0, "a"), lambda: store.put(0, "a", "2"), lambda: next(scan), store.stat):
                 try:
                     call()

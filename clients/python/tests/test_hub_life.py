@@ -1,6 +1,7 @@
 """How a hub begins and ends: its socket, its lock, its signals, and what its clients are told of its end."""
 
 import contextlib
+import fcntl
 import io
 import os
 import resource
@@ -12,8 +13,8 @@ import time
 from typing import Any, List
 from unittest import mock
 
-from hubs import HubCase, Reply, child_of, has_come, puts
-from support import PRETENDER, comes_to, is_gone, stop, unprivileged
+from hubs import HubCase, Raw, Reply, child_of, has_come, puts
+from support import PRETENDER, is_gone, stop, unprivileged
 
 from castle import Store, errors, frames, hub
 from castle.errors import CastleError
@@ -90,6 +91,17 @@ class SocketTest(HubCase):
         self.written("socket", "another's")
         self.assertEqual(self.ended(signal.SIGTERM), (0, ""))
         self.assertEqual(self.bytes_of("socket"), b"another's")
+
+    def test_nobody_looks_at_a_stale_socket_while_another_one_replaces_it(self) -> None:
+        folder = os.open(self.folder, os.O_RDONLY)
+        self.addCleanup(os.close, folder)
+        fcntl.flock(folder, fcntl.LOCK_EX)
+        with mock.patch("castle.hubsocket.PATIENCE", 0.1), \
+                self.assertRaisesRegex(errors.SocketFault, "another program has the folder of the socket locked"):
+            Listening(self.socket, 0o600)
+        self.assertFalse(os.path.exists(self.socket))
+        fcntl.flock(folder, fcntl.LOCK_UN)
+        Listening(self.socket, 0o600).close()
 
     def test_two_hubs_that_begin_at_once_at_a_stale_socket_are_one(self) -> None:
         paths = [os.path.join(self.folder, f"{number}.store") for number in range(4)]
@@ -187,17 +199,22 @@ class EndTest(HubCase):
         self.assertTrue(has_come(program, size))
         return program, clients
 
+    def until_nobody_listens(self) -> None:
+        """Waits until the hub has taken a signal, while its program stands still."""
+        deadline = time.monotonic() + 10
+        with self.assertRaises(ConnectionRefusedError):
+            while time.monotonic() < deadline:
+                Raw(self.socket).close()
+                time.sleep(0.01)
+
     def test_what_was_taken_before_a_signal_is_answered(self) -> None:
         for number in (signal.SIGTERM, signal.SIGINT, signal.SIGHUP):
             self.served()
             idle = self.client()
             program, clients = self.waiting(*(frames.put(5, 0, b"%d" % client, b"v") for client in range(10)))
             self.hub.send_signal(number)
-            while os.path.exists(self.socket):
-                time.sleep(0.01)
-                if self.hub.poll() is not None:
-                    break
-                os.kill(program, signal.SIGCONT)
+            self.until_nobody_listens()
+            os.kill(program, signal.SIGCONT)
             self.assertEqual([client.replies(2) for client in clients], [[Reply(5, 0), None]] * 10)
             self.assertEqual(self.ended(), (0, ""))
             with self.assertRaisesRegex(errors.HubGone, f"{self.address}: get a at version 0: the hub ended, or closed the conn"):
@@ -220,10 +237,9 @@ class EndTest(HubCase):
 
     def test_a_second_signal_waits_for_no_program(self) -> None:
         self.served()
-        program, (client,) = self.waiting(frames.put(5, 0, b"a", b"1"))
+        program, _ = self.waiting(frames.put(5, 0, b"a", b"1"))
         self.hub.send_signal(signal.SIGTERM)
-        self.assertTrue(comes_to(self.hub.pid, "S"))
-        time.sleep(0.2)
+        self.until_nobody_listens()
         self.assertIsNone(self.hub.poll())
         status, said = self.ended(signal.SIGTERM)
         self.assertEqual(status, 128 + signal.SIGKILL)
