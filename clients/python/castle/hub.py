@@ -17,7 +17,7 @@ import sys
 import warnings
 from typing import Dict, List, Optional
 
-from . import __version__, errors, hubsocket
+from . import __version__, errors, hubsocket, terminal
 from .errors import CastleError, Ended
 from .hubclient import Client
 from .hubexchange import NO_TAG, SIZE, Exchange
@@ -200,6 +200,7 @@ def allow_files(count: int) -> None:
 def main(arguments: Optional[List[str]] = None) -> int:
     """Runs the hub with these arguments, and gives the exit status: 0 after a signal, 1 where it can't begin, or the program's."""
     options = parser().parse_args(arguments)
+    terminal.prepare_streams()  # since a path may have any bytes
     try:
         allow_files(options.clients + FILES)
         return serve(options.file, options.socket, options.mode, options.clients)

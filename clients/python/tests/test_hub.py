@@ -1,5 +1,6 @@
 """The hub: what its clients are answered, and what none of them can do to another."""
 
+import gc
 import os
 import random
 import resource
@@ -7,6 +8,7 @@ import signal
 import socket
 import struct
 import time
+import warnings
 from pathlib import Path
 from typing import List, Tuple
 from unittest import mock
@@ -18,6 +20,7 @@ import test_store
 import test_threads
 from hubs import HubCase, OverHub, Raw, Reply, child_of, has_come, puts
 from support import in_child, stop
+from test_interrupts import interrupted
 
 from castle import Stat, Store, errors, frames
 from castle.hubclient import BUDGET, UNREAD
@@ -327,6 +330,51 @@ class InterfaceTest(HubCase):
         self.assertIn("line 5: ", said)
         self.assertEqual(self.client().stat(), Stat(2, 2, 3, 0))
 
+
+
+class StepsOverHubTest(HubCase):
+    """Interrupts between any two steps of the client over a hub."""
+
+    def setUp(self) -> None:
+        super().setUp()
+        quiet = warnings.catch_warnings()
+        quiet.__enter__()
+        self.addCleanup(quiet.__exit__, None, None, None)
+        warnings.simplefilter("ignore", ResourceWarning)
+        self.served()
+        self.other = self.client()
+
+    def test_a_get_over_a_hub_that_is_interrupted_at_any_step_leaves_the_store_open(self) -> None:
+        store = self.client()
+        store.put(0, "a", "1")
+        store.put(0, "b", "2")
+        at = 1
+        while interrupted(lambda: store.get(0, "a"), at, "program hubstore commands frames"):
+            self.assertEqual((store.get(0, "b"), store.get(0, "c")), (b"2", None), f"at {at}")
+            at += 1
+        self.assertGreater(at, 50)
+
+    def test_a_close_over_a_hub_that_is_interrupted_at_any_step_may_be_done_again(self) -> None:
+        at, has_come = 1, True
+        while has_come:
+            store = Store(self.address)
+            scan = store.scan(0)
+            has_come = interrupted(store.close, at, "store program hubstore")
+            store.close()
+            for call in (store.stat, lambda: next(scan)):
+                with self.assertRaises(errors.StoreClosed):
+                    call()
+            self.assertEqual(self.other.stat().cursors, 0, f"at {at}")
+            at += 1
+        self.assertGreater(at, 30)
+
+    def test_an_opening_over_a_hub_that_is_interrupted_at_any_step_leaves_no_connection(self) -> None:
+        at, before = 1, os.listdir("/proc/self/fd")
+        while interrupted(lambda: Store(self.address).close(), at, "store program hubstore hubsocket"):
+            gc.collect()
+            self.assertEqual(os.listdir("/proc/self/fd"), before, f"at {at}")
+            at += 1
+        self.assertGreater(at, 60)
 
 
 class CommandsOverHubTest(OverHub, test_store.CommandsTest):

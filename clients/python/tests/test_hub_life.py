@@ -8,12 +8,14 @@ import resource
 import signal
 import socket
 import struct
+import subprocess
+import sys
 import threading
 import time
 from typing import Any, List
 from unittest import mock
 
-from hubs import HubCase, Raw, Reply, child_of, has_come, puts
+from hubs import HUB, HubCase, Raw, Reply, child_of, has_come, puts
 from support import PRETENDER, is_gone, stop, unprivileged
 
 from castle import Store, errors, frames, hub
@@ -84,6 +86,17 @@ class SocketTest(HubCase):
                 Listening(path, 0o600)
         self.assertEqual((self.bytes_of("plain"), os.readlink(linked)), (b"text", "nowhere"))
         self.opened()
+
+    def test_the_path_of_a_socket_may_have_any_bytes(self) -> None:
+        Store.format(self.path, 4, 10, 10)
+        path = os.fsencode(self.folder) + b"/\xff \n"
+        with subprocess.Popen([sys.executable, HUB, self.path, path], stdout=subprocess.PIPE) as hub:
+            assert hub.stdout
+            self.assertEqual(hub.stdout.read(len(path) + len(self.path) + 32)[-len(path) - 1:], path + b"\n")
+            with Store(b"unix:" + path) as store:
+                store.put(0, "a", "1")
+            hub.terminate()
+        self.assertEqual(hub.returncode, 0)
 
     def test_a_socket_that_another_one_has_replaced_is_not_removed(self) -> None:
         self.served()
