@@ -21,6 +21,7 @@ from . import __version__, errors, hubsocket, terminal
 from .errors import CastleError, Ended
 from .hubclient import Client
 from .hubexchange import NO_TAG, SIZE, Exchange
+from .process import Process
 from .program import LIMIT
 from .store import Store
 
@@ -37,7 +38,9 @@ class Hub:
 
     def __init__(self, store: Store, listening: hubsocket.Listening, clients_max: int) -> None:
         self._path = store.path
-        self._process = store._program.process  # with which the store itself speaks no more before its end
+        process = store._program.process  # with which the store itself speaks no more before its end
+        assert isinstance(process, Process)
+        self._process = process
         self._listening = listening
         self._clients_max = clients_max
         self._clients: Dict[Client, "asyncio.Task[None]"] = {}
