@@ -19,6 +19,7 @@ from support import DEADLINE, TOP, StoreCase
 from castle import Store, frames
 
 HUB = str(TOP / "castle-hub")
+PATIENCE = 60  # seconds that something may take which takes some thousandths on a machine with nothing else to do
 
 
 class Reply(NamedTuple):
@@ -86,8 +87,8 @@ def child_of(pid: int) -> int:
 
 
 def has_come(pid: int, size: int) -> bool:
-    """Whether so many bytes come to a process's standard input within some seconds, where it reads none of them."""
-    deadline, found = time.monotonic() + 10, array.array("i", [0])
+    """Whether so many bytes come to a process's standard input, where it reads none of them."""
+    deadline, found = time.monotonic() + PATIENCE, array.array("i", [0])
     number = os.open(f"/proc/{pid}/fd/0", os.O_RDONLY | os.O_NONBLOCK)
     try:
         while time.monotonic() < deadline:

@@ -18,12 +18,12 @@ import test_mapping
 import test_scan
 import test_store
 import test_threads
-from hubs import HubCase, OverHub, Raw, Reply, child_of, has_come, puts
+from hubs import PATIENCE, HubCase, OverHub, Raw, Reply, child_of, has_come, puts
 from support import in_child, stop
 from test_interrupts import interrupted
 
 from castle import Stat, Store, errors, frames
-from castle.hubclient import BUDGET, UNREAD
+from castle.hubclient import BUDGET, SHARE, UNREAD
 from castle.process import find_program
 
 MALFORMED = errors.Malformed.status
@@ -133,16 +133,17 @@ class FramesTest(HubCase):
         self.served(limits=(64, 10000000, 10))
         other, client, tag = self.client(), self.raw(), 0
         client.socket.setblocking(False)
-        for number in range(100):
+        for _ in range(100):
             try:
                 while True:
                     client.socket.send(frames.put(tag, 0, b"busy", b"v"))
                     tag += 1
             except BlockingIOError:
                 pass
-            started = time.monotonic()
+            before = other.stat().changes
             self.assertEqual(other.get(0, "none"), None)
-            self.assertLess(time.monotonic() - started, 5)
+            # each of the other's commands waits for those that the busy client has under way, and for no more of them
+            self.assertLessEqual(other.stat().changes - before, 2 * (BUDGET // SHARE) + 1)
             with self.assertRaises(BlockingIOError):
                 while True:
                     client.socket.recv(1 << 16)
@@ -175,7 +176,7 @@ class CursorsTest(HubCase):
         return [it.fields for it in replies if it]
 
     def until_none_is_open(self, store: Store) -> None:
-        deadline = time.monotonic() + 10
+        deadline = time.monotonic() + PATIENCE
         while store.stat().cursors:
             self.assertLess(time.monotonic(), deadline, "cursors are open still")
             time.sleep(0.01)

@@ -7,8 +7,8 @@ import signal
 import time
 from typing import Any, Dict, Iterator, List, NamedTuple, Optional
 
-from hubs import HubCase
-from support import CHILD, in_child
+from hubs import PATIENCE, HubCase
+from support import in_child
 
 from castle import Store
 
@@ -160,7 +160,7 @@ class CrowdTest(HubCase):
 
     def killed(self, pids: List[int]) -> None:
         """Kills some clients, each once it has done a drawn part of its work."""
-        chance, deadline = random.Random(1), time.monotonic() + CHILD
+        chance, deadline = random.Random(1), time.monotonic() + PATIENCE
         left = {mine: chance.randrange(1, 2 * TURNS) for mine in KILLED}
         while left:
             self.assertLess(time.monotonic(), deadline, f"{len(left)} clients don't come so far")
@@ -203,7 +203,7 @@ class CrowdTest(HubCase):
         self.logs = [Log(os.path.join(self.folder, f"log{mine}")) for mine in range(CLIENTS)]
         for log in self.logs:
             self.addCleanup(log.close)
-        pids = [in_child(lambda mine=mine: self.worked(mine, versions[mine], shared)) for mine in range(CLIENTS)]
+        pids = [in_child(lambda mine=mine: self.worked(mine, versions[mine], shared), PATIENCE) for mine in range(CLIENTS)]
         self.killed(pids)
         for mine, pid in enumerate(pids):
             self.assertEqual(os.waitpid(pid, 0)[1], signal.SIGKILL if mine in KILLED else 0, f"client {mine}")

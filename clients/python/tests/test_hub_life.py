@@ -15,7 +15,7 @@ import time
 from typing import Any, List
 from unittest import mock
 
-from hubs import HUB, HubCase, Raw, Reply, child_of, has_come, puts
+from hubs import HUB, PATIENCE, HubCase, Raw, Reply, child_of, has_come, puts
 from support import PRETENDER, is_gone, stop, unprivileged
 
 from castle import Store, errors, frames, hub
@@ -185,7 +185,7 @@ class BeginningTest(HubCase):
         raw = self.raw()
         self.assertEqual((raw.ask(frames.stat(7)), raw.reply()), (Reply(0, errors.HubFull.status), None))
         one.close()
-        deadline = time.monotonic() + 10
+        deadline = time.monotonic() + PATIENCE
         while True:
             try:
                 self.client().stat()
@@ -214,7 +214,7 @@ class EndTest(HubCase):
 
     def until_nobody_listens(self) -> None:
         """Waits until the hub has taken a signal, while its program stands still."""
-        deadline = time.monotonic() + 10
+        deadline = time.monotonic() + PATIENCE
         with self.assertRaises(ConnectionRefusedError):
             while time.monotonic() < deadline:
                 Raw(self.socket).close()
@@ -339,7 +339,7 @@ class EndTest(HubCase):
                     self.hub.kill()
         done = len([result for result in batch.results if result is None])
         self.hub.wait()
-        deadline = time.monotonic() + 10
+        deadline = time.monotonic() + PATIENCE
         while True:
             try:
                 again = Store(self.path)
