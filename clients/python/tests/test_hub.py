@@ -130,23 +130,22 @@ class FramesTest(HubCase):
         self.assertEqual(other.get(0, "k"), b"199")
 
     def test_a_client_that_sends_without_end_leaves_others_their_turn(self) -> None:
-        self.served(limits=(64, 10000000, 10))
-        other, client, tag = self.client(), self.raw(), 0
+        hub = self.served()
+        other, client, program = self.raw(), self.raw(), child_of(hub.pid)
+        for each in (other, client):
+            each.ask(frames.stat(1))
+        frame, most = frames.put(2, 0, b"busy", b"v"), BUDGET // SHARE
         client.socket.setblocking(False)
-        for _ in range(100):
-            try:
-                while True:
-                    client.socket.send(frames.put(tag, 0, b"busy", b"v"))
-                    tag += 1
-            except BlockingIOError:
-                pass
-            before = other.stat().changes
-            self.assertEqual(other.get(0, "none"), None)
-            # each of the other's commands waits for those that the busy client has under way, and for no more of them
-            self.assertLessEqual(other.stat().changes - before, 2 * (BUDGET // SHARE) + 1)
-            with self.assertRaises(BlockingIOError):
-                while True:
-                    client.socket.recv(1 << 16)
+        stop(program)
+        with self.assertRaises(BlockingIOError):
+            while True:
+                client.socket.send(frame)
+        self.assertTrue(has_come(program, most * len(frame)))
+        other.send(frames.stat(3))
+        self.assertTrue(has_come(program, most * len(frame) + len(frames.stat(3))))
+        os.kill(program, signal.SIGCONT)
+        # it waited for those that the busy client had under way, and for no more of them
+        self.assertEqual(other.reply(), Reply(3, frames.COUNTS, struct.pack(">IIII", 1, most, most, 0)))
 
 
 def frames_of(sent: bytes) -> List[bytes]:
