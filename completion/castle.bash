@@ -1,4 +1,4 @@
-# Completion for bash of castle and castle-shell: `. completion/castle.bash`, or where ./install puts it.
+# Completion for bash of castle, castle-shell and castle-hub: `. completion/castle.bash`, or where ./install puts it.
 
 _castle_shell() {
     local word=${COMP_WORDS[COMP_CWORD]} place=0 each
@@ -23,6 +23,16 @@ _castle_shell() {
 _castle() {
     local word=${COMP_WORDS[COMP_CWORD]} at=$COMP_CWORD
     COMPREPLY=()
+    if [ "${COMP_WORDS[0]##*/}" = castle-hub ]; then
+        if [[ $word == -* ]]; then
+            COMPREPLY=($(compgen -W "--mode --clients --help --version" -- "$word"))
+        else
+            compopt -o filenames 2>/dev/null
+            local IFS=$'\n'
+            COMPREPLY=($(compgen -f -- "$word"))
+        fi
+        return
+    fi
     if [ "${COMP_WORDS[0]##*/}" = castle-shell ]; then
         _castle_shell
         return
@@ -46,4 +56,4 @@ _castle() {
         fi
     fi
 }
-complete -F _castle castle castle-shell
+complete -F _castle castle castle-shell castle-hub

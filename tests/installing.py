@@ -209,6 +209,8 @@ def the_client_is_a_package_without_a_registry(folder):
         expect(f"from the {name}, files", has - set(os.listdir(os.path.join(target, "castle"))), set())
         usage = python(os.path.join(target, "bin", "castle-shell"), "--help")
         expect(f"from the {name}, the shell", usage.splitlines()[0], "usage: castle-shell FILE")
+        usage = python(os.path.join(target, "bin", "castle-hub"), "--help")
+        expect(f"from the {name}, the hub", usage.split()[:2], ["usage:", "castle-hub"])
         del environment["PYTHONPATH"]
     pip_install("--prefix", os.path.join(folder, "editable"), "--ignore-installed", "--editable", source)
     site = next(pathlib.Path(folder, "editable").rglob("castle.pth")).parent
@@ -258,6 +260,7 @@ def bash_completes_words_and_files(folder):
         (["castle-shell", "--json", "a"], {"a b.store", "a.store"}), (["castle-shell", "--json", "a.store", "sc"], {"scan"}),
         (["castle-shell", "a.store", "-c", "ge"], set()), (["castle-shell", "a.store", "diff", "0", "1", "--st"], {"--stat"}),
         (["castle-shell", "a.store", "load", "--csv", "o"], {"other"}),
+        (["castle-hub", "-"], {"--mode", "--clients", "--help", "--version"}), (["castle-hub", "a.store", "o"], {"other"}),
     ):
         expect(f"{words}", bash_offers(folder, *words), wanted)
 

@@ -102,8 +102,8 @@ def citations(tree):
 # Functions and files
 
 def scripts(tree):
-    """The Python of the checks, the benches, the launcher and the clients."""
-    for folder in ("tests", "bench", "launcher", "clients"):
+    """The Python of the checks, the benches, the launcher, the clients and their examples."""
+    for folder in ("tests", "bench", "launcher", "clients", "examples"):
         for file in tree.files(f"{folder}/**/*"):
             name = pathlib.PurePath(file)
             if name.suffix == ".py" or (not name.suffix and re.match(r"#!.*\bpython", tree.text(file))):

@@ -196,7 +196,7 @@ class Tree:
 
     def all_code(self):
         """Each file of code, of definitions, of proofs and of tests, in whatever language."""
-        patterns = ("crates/*/proofs/**/*.antt", "tests/**/*", "clients/python/**/*.py", "bench/*", "launcher/*", "castle*", "install")
+        patterns = ("crates/*/proofs/**/*.antt", "tests/**/*", "clients/python/**/*.py", "examples/*.py", "bench/*", "launcher/*", "castle*", "install")
         names = [name for pattern in patterns for name in self.files(pattern) if not name.endswith((".pyc", ".md"))]
         return [*self.sources(), *self.specs(), *names]
 

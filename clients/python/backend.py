@@ -11,6 +11,7 @@ import zipfile
 
 HERE = pathlib.Path(__file__).resolve().parent
 PROJECT = dict(re.findall(r'^([\w-]+) = "(.*)"$', (HERE / "pyproject.toml").read_text(encoding="utf-8"), re.M))
+SCRIPTS = "castle-shell", "castle-hub"
 NAME = f"{PROJECT['name']}-{PROJECT['version']}"
 METADATA = (f"Metadata-Version: 2.1\nName: {PROJECT['name']}\nVersion: {PROJECT['version']}\nSummary: {PROJECT['description']}\n"
             f"Requires-Python: {PROJECT['requires-python']}\nDescription-Content-Type: text/markdown\n\n"
@@ -23,7 +24,7 @@ def wheel_of(folder, files):
     info = f"{NAME}.dist-info"
     files = {**files, f"{info}/METADATA": METADATA.encode(),
              f"{info}/WHEEL": b"Wheel-Version: 1.0\nGenerator: castle\nRoot-Is-Purelib: true\nTag: py3-none-any\n",
-             f"{info}/entry_points.txt": f"[console_scripts]\ncastle-shell = {PROJECT['castle-shell']}\n".encode()}
+             f"{info}/entry_points.txt": "".join(["[console_scripts]\n", *(f"{name} = {PROJECT[name]}\n" for name in SCRIPTS)]).encode()}
     sums = {path: base64.urlsafe_b64encode(hashlib.sha256(data).digest()).rstrip(b"=").decode() for path, data in files.items()}
     rows = [f"{path},sha256={sums[path]},{len(data)}\n" for path, data in files.items()]
     files[f"{info}/RECORD"] = "".join([*rows, f"{info}/RECORD,,\n"]).encode()

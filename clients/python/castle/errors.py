@@ -135,6 +135,23 @@ class Damaged(Refused):
     block: Optional[int] = None
 
 
+class Unanswered(Refused):
+    """A hub's own answer, and the connection ends with it. `cause` is its program's exit status, as a shell tells it."""
+
+    status = 64
+    what = "the hub's program ended before it answered; a change was made or it was not"
+    remedy = "Look at what the hub said, start it again, open the store again, and look whether the change is there."
+    cause: Optional[int] = None
+
+
+class HubFull(Refused):
+    """A hub's own answer, and the connection ends with it."""
+
+    status = 65
+    what = "the hub has as many clients as it takes"
+    remedy = "End another one first, or have the hub take more (--clients)."
+
+
 REFUSALS: Dict[int, Type[Refused]] = {kind.status: kind for kind in Refused.__subclasses__()}
 
 
@@ -147,7 +164,24 @@ def refusal(status: int, fields: bytes, file: str, command: str) -> Refused:
     if isinstance(error, Damaged) and len(fields) == 4:
         error.block = int.from_bytes(fields, "big")
         error.what = f"block {error.block} of the file is damaged"
+    if isinstance(error, Unanswered) and len(fields) == 2:
+        error.cause = int.from_bytes(fields, "big")
+        error.what = f"the hub's program {_told(error.cause)} before it answered; a change was made or it was not"
     return error
+
+
+def _told(status: int) -> str:
+    """How a program ended whose status a shell would tell so."""
+    if status > 128:
+        return f"was ended by {_signal_name(status - 128)}"
+    return f"ended with status {status}{f' ({ENDS[status].text})' if status in ENDS and ENDS[status].text else ''}"
+
+
+def _signal_name(number: int) -> str:
+    try:
+        return signal.Signals(number).name
+    except ValueError:
+        return f"signal {number}"
 
 
 # How the program ends
@@ -273,17 +307,20 @@ class Interrupted(Ended):
     remedy = "Open the store again, and look whether changes without a reply are there."
 
 
+class HubGone(Ended):
+    """Of a store over a hub."""
+
+    what = "the hub ended, or closed the connection; a change without a reply was made or it was not"
+    remedy = "Start the hub again if it ended, open the store again, and look whether the change is there."
+
+
 ENDS: Dict[int, Type[Ended]] = {kind.status: kind for kind in Ended.__subclasses__() if kind.status}
 
 
 def ended(status: int, file: str, command: str, printed: str = "") -> Ended:
     """The exception for a run that ended with this status, or by the signal of minus this number, after it printed this."""
     if status < 0:
-        try:
-            name = signal.Signals(-status).name
-        except ValueError:
-            name = f"signal {-status}"
-        error: Ended = Killed(f"the program was ended by {name}", file=file, command=command)
+        error: Ended = Killed(f"the program was ended by {_signal_name(-status)}", file=file, command=command)
     elif status in ENDS:
         error = ENDS[status](file=file, command=command)
     else:
@@ -377,6 +414,26 @@ class Busy(CastleError):
 
     what = "a command of this thread is under way, and this one came in its midst"
     remedy = "Have a signal handler set a flag or raise an exception, and send commands behind it."
+
+
+class NoHub(CastleError):
+    """No hub is at this address, or this user may not speak to it."""
+
+    what = "no hub listens there"
+    remedy = "Look at the address, unix:SOCKET. `castle-hub FILE SOCKET` starts a hub."
+
+
+class NotOverHub(CastleError):
+    """What a store over a hub does not have. Nothing was sent."""
+
+    what = "this can't be had over a hub"
+    remedy = "Open the store's own file, once the hub has ended."
+
+
+class SocketFault(CastleError):
+    """A hub can't listen at this path."""
+
+    remedy = "Name another path for the socket."
 
 
 class UnknownName(CastleError):

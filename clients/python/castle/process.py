@@ -69,6 +69,7 @@ class Process:
     def __init__(self, program: str, words: Sequence[str], file: str, lock: Optional[Lock] = None) -> None:
         """Starts it. It inherits the locks, and has them until it ends."""
         self._words = words
+        self._file = file
         self._said = b""  # the beginning of a line on standard error
         self._owner = os.getpid()
         self.was_killed = False  # since it did not end in time
@@ -92,7 +93,7 @@ class Process:
         forks.own(self)
         self.inp, self.out, self.err = (pipe.fileno() for pipe in self._files)
         os.set_blocking(self.inp, False)  # of this end of the pipe alone; the program's own end waits
-        self._reads, self._both = _polls(self.out, self.err), _polls(self.out, self.err, writes=self.inp)
+        self._reads, self._both = poll_of(self.out, self.err), poll_of(self.out, self.err, writes=self.inp)
 
     @property
     def pid(self) -> int:
@@ -114,7 +115,7 @@ class Process:
         *lines, self._said = (self._said + data).split(b"\n")
         if not data:
             lines, self._said = [*lines, *filter(None, [self._said])], b""
-            self._reads, self._both = _polls(self.out), _polls(self.out, writes=self.inp)
+            self._reads, self._both = poll_of(self.out), poll_of(self.out, writes=self.inp)
         pass_on(_others(lines, self._words))
         return bool(data)
 
@@ -139,7 +140,7 @@ class Process:
     def _drained(self, deadline: Optional[float]) -> bool:
         """Reads what it writes until it has ended, and tells whether that was before the deadline."""
         left = {file.fileno() for file in self._files[1:] if not file.closed}  # an earlier call may have been cut off
-        polls = _polls(*left)
+        polls = poll_of(*left)
         while left:
             wait = None if deadline is None else (deadline - time.monotonic()) * 1000
             if wait is not None and wait < 0:
@@ -149,6 +150,10 @@ class Process:
                     polls.unregister(pipe)
                     left.discard(pipe)
         return True
+
+    def end(self, limit: float, command: str) -> errors.Ended:
+        """Why it ended, for a command that it did not answer. See `finish`."""
+        return errors.ended(self.finish(limit), self._file, command)
 
     def kill(self, number: int) -> None:
         """Ends it by a signal, with what it started, as while the launcher builds it."""
@@ -169,8 +174,8 @@ class Process:
             pipe.close()
 
 
-def _polls(*reads: int, writes: Optional[int] = None) -> "select.poll":
-    """Waits for these descriptors."""
+def poll_of(*reads: int, writes: Optional[int] = None) -> "select.poll":
+    """What waits until one of these descriptors can be read, or that one written."""
     polls = select.poll()
     for number in reads:
         polls.register(number, select.POLLIN)

@@ -1,4 +1,4 @@
-"""Exchanges frames with a run of the program: many may be under way, and it writes while it reads.
+"""Exchanges frames with a run of the program, or with a hub: many may be under way, and it writes while it reads.
 
 Any thread may speak, one at a time. An exception may come between any two steps, as a KeyboardInterrupt does, and the next
 command goes on where it came: what is known of the exchange is replaced as a whole, by one assignment, and what the
@@ -14,12 +14,14 @@ import sys
 import threading
 from collections import deque
 from itertools import islice
-from typing import Callable, Deque, Iterator, List, NamedTuple, NoReturn, Optional, Sequence, Tuple, Union
+from typing import TYPE_CHECKING, Callable, Deque, Iterator, List, NamedTuple, NoReturn, Optional, Sequence, Tuple, Union
 
 from . import errors, forks, frames
 from .frames import NUMBER_MAX
-from .lock import Lock
 from .process import CHUNK, Process
+
+if TYPE_CHECKING:
+    from .hubstore import Connection
 
 KEPT = 4096  # answered commands that are kept at most, before the list of commands is cut
 FAILURES = errno.EBADF, errno.EINVAL, errno.EIO  # of a pipe
@@ -88,14 +90,14 @@ class Sending(NamedTuple):
 
 
 class Program:
-    """One run of the program.
+    """One run of the program, or one connection to a hub.
 
     Commands are added and answered in order, and each answer goes into the list that it was added for. Nothing waits
     for a pipe that the other side can't empty, however many commands are under way.
     """
 
-    def __init__(self, program: str, words: Sequence[str], file: str, lock: Optional[Lock] = None) -> None:
-        """Starts it. It inherits the locks, and has them until it ends."""
+    def __init__(self, file: str, start: Callable[[], Union[Process, "Connection"]]) -> None:
+        """Starts it by this call. Errors have the file."""
         self.file = file
         self.tag = 0
         """That of the command which is being made."""
@@ -109,7 +111,7 @@ class Program:
         self._end: Optional[errors.CastleError] = None
         with forks.starting:
             forks.own(self)
-            self.process = Process(program, words, file, lock)
+            self.process = start()
 
     @property
     def pid(self) -> int:
@@ -297,6 +299,8 @@ class Program:
             while unsent > most_unsent or most_open is not None and len(self._heard.commands) - self._heard.done > most_open:
                 unsent = self._turn(unsent > 0)
         except OSError as error:
+            if error.errno == errno.ECONNRESET:
+                self._fail()
             if error.errno not in FAILURES:
                 raise  # a TimeoutError of a signal handler, as like as not
             raise self._ended(errors.Interrupted(f"the pipes to the program failed: {error.strerror}", file=self.file)) from error
@@ -334,7 +338,7 @@ class Program:
             counts.extend(map(os.write, (self.process.inp,), (data[sent:sent + CHUNK],)))
         except BlockingIOError:
             pass
-        except BrokenPipeError:
+        except (BrokenPipeError, ConnectionResetError):
             self._sending = Sending(b"", [], after)
             while True:  # it ended; what it answered before is still to be read, and its end raised
                 self._turn(False)
@@ -396,10 +400,9 @@ class Program:
 
     def _fail(self) -> NoReturn:
         """The program ended before it was asked to."""
-        status = self.process.finish(LIMIT)
         heard = self._heard
         asked = next((frame for frame in heard.commands[heard.done:] if type(frame) is not Unheard), b"")
-        raise self._ended(errors.ended(status, self.file, frames.describe(asked) if asked else "")) from None  # and not from the pipe
+        raise self._ended(self.process.end(LIMIT, frames.describe(asked) if asked else "")) from None  # and not from the pipe
 
     def _ended(self, error: errors.CastleError) -> errors.CastleError:
         """Takes no more commands. What is kept is a copy: one that is raised has the frames that it passed, and so all this."""

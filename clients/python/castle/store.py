@@ -10,11 +10,12 @@ import threading
 import warnings
 import weakref
 from collections import deque
+from functools import partial
 from types import TracebackType
-from typing import List, NoReturn, Optional, Tuple, Type, Union, cast
+from typing import TYPE_CHECKING, List, NoReturn, Optional, Tuple, Type, Union, cast
 from weakref import WeakSet
 
-from . import backup, branches, errors, files, frames, outfile
+from . import backup, branches, errors, files, frames, hubsocket, outfile
 from .backup import Counts, Loading
 from .batch import Batch
 from .branches import Snapshot
@@ -29,6 +30,9 @@ from .process import Process, find_program, printed
 from .program import LIMIT, Program
 from .scan import Differences, Scan
 from .view import VersionView
+
+if TYPE_CHECKING:
+    from .hubstore import Connection
 
 Path = Union[str, bytes, "os.PathLike[str]", "os.PathLike[bytes]"]
 
@@ -53,6 +57,12 @@ class Store:
     read_only = False
     """Whether it is a private copy, which takes no changes."""
 
+    def __new__(cls, path: Path, program: Optional[str] = None, *, read_only: bool = False) -> "Store":
+        if cls is Store and hubsocket.path_of(path) is not None:
+            from .hubstore import HubStore  # which is made of this class
+            return super().__new__(HubStore)
+        return super().__new__(cls)
+
     def __init__(self, path: Path, program: Optional[str] = None, *, read_only: bool = False) -> None:
         """Opens the store of a file: locks it, runs the program on it, and waits until that has opened it.
 
@@ -62,6 +72,8 @@ class Store:
         Where the file may be read and not written, or with `read_only`, a private copy of it is opened, in the folder for
         temporary files and as long as the store is open. It needs no lock, but `StoreLocked` tells of a program that
         serves the file: a copy taken meanwhile would mix different times. It shows the store as it was at this call.
+
+        `unix:SOCKET`, as text or bytes, is the address of a hub that serves a store (`HubStore`).
         """
         self.path, self._real = _located(path)
         _check_file(self._real, self.path)
@@ -73,9 +85,9 @@ class Store:
             self._copy = copy = PrivateCopy(self._real, self.path) if self.read_only else None
             self._served = copy.path if copy else self._real
             self._lock = lock = Lock(self._served, self.path)
-            self._program = run = Program(self._found, ["serve", self._served], self.path, lock)
+            self._program = run = Program(self.path, partial(Process, self._found, ["serve", self._served], self.path, lock))
             self._open()
-            self._closing = weakref.finalize(run, _abandon, run.process, run.lock, lock, copy, self.path)
+            self._closing = weakref.finalize(run, abandon, run.process, run.lock, lock, copy, self.path)
         except BaseException:
             if run is not None:
                 run.process.kill(signal.SIGTERM)
@@ -360,6 +372,8 @@ class Store:
 def _located(path: Path) -> Tuple[str, str]:
     """A path as text, and the same without symbolic links."""
     file = os.fsdecode(path)
+    if hubsocket.path_of(path) is not None:
+        raise errors.NotOverHub(file=file)
     if not file or "\0" in file:
         what = "the path has a zero byte" if file else "the path is empty"
         raise errors.StoreMissing(what, "Give the path of a store's file.", file=file.replace("\0", "\\x00"))
@@ -426,11 +440,13 @@ def _remove(copy: Optional[PrivateCopy]) -> None:
         copy.remove()
 
 
-def _abandon(process: Process, guard: "threading._RLock", lock: Lock, copy: Optional[PrivateCopy], file: str) -> None:
+def abandon(process: Union[Process, "Connection"], guard: "threading._RLock", lock: Optional[Lock], copy: Optional[PrivateCopy],
+            file: str) -> None:
     """Frees a store that nobody closed, where nobody has it any more or Python ends."""
     if not process.is_own or not guard.acquire(timeout=1):
         return  # a child, or at the end of Python a thread that is amid a command
     process.finish(LIMIT)
-    lock.release()
+    if lock is not None:
+        lock.release()
     _remove(copy)
     warnings.warn(f"unclosed store {file}", ResourceWarning)

@@ -12,7 +12,7 @@ import tempfile
 import time
 import traceback
 import unittest
-from typing import Callable, Dict, Iterator, List, Optional, Tuple
+from typing import Any, Callable, Dict, Iterator, List, Optional, Tuple
 from unittest import mock
 
 TOP = pathlib.Path(__file__).resolve().parents[3]
@@ -26,7 +26,6 @@ NOBODY = 65534  # the number of a user and a group without rights
 sys.path.insert(0, PACKAGE)
 
 from castle import Store, frames  # noqa: E402
-from castle.process import Process  # noqa: E402
 
 
 @contextlib.contextmanager
@@ -72,10 +71,11 @@ def stop(pid: int) -> None:
 
 @contextlib.contextmanager
 def alarm_amid(store: Store) -> Iterator[None]:
-    """Within it the store's program stands still, and SIGALRM comes once, as soon as a command waits for its answer."""
-    ready, has_come = Process.ready, False
+    """Within it the store's program, or its hub, stands still, and SIGALRM comes once, as soon as a command waits for its answer."""
+    kind = type(store._program.process)
+    ready, has_come = kind.ready, False
 
-    def waiting(process: Process, writes: bool) -> List[int]:
+    def waiting(process: Any, writes: bool) -> List[int]:
         nonlocal has_come
         if not (writes or has_come) and process.pid == store.pid:
             has_come = True
@@ -83,7 +83,7 @@ def alarm_amid(store: Store) -> Iterator[None]:
         return ready(process, writes)
 
     stop(store.pid)
-    with mock.patch.object(Process, "ready", waiting):
+    with mock.patch.object(kind, "ready", waiting):
         yield
 
 

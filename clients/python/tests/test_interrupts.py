@@ -21,7 +21,7 @@ FOLDER = str(pathlib.Path(PACKAGE) / "castle")
 
 def is_of_an_end(frame: Optional[FrameType]) -> bool:
     """Whether this runs amid the end of an object, where Python raises nothing."""
-    while frame is not None and frame.f_code.co_name not in ("__del__", "_abandon", "_remove"):
+    while frame is not None and frame.f_code.co_name not in ("__del__", "abandon", "_remove"):
         frame = frame.f_back
     return frame is not None
 
