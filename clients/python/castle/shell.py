@@ -7,9 +7,10 @@ import sys
 import warnings
 from typing import Callable, Dict, Iterable, Iterator, List, NamedTuple, Optional, Sequence, TextIO, TypeVar
 
-from . import __version__, dump, levels, outfile, terminal, tree
+from . import __version__, dump, levels, outfile, picture_levels, picture_tree, report, terminal, tree
 from .errors import CastleError, Ended, NamesWarning, UnknownName, UnknownVersion
 from .frames import NUMBER_MAX, Info, Pair
+from .keycount import count_keys
 from .store import Store
 from .terminal import INTERRUPTED, Interrupts, Stopped
 from .text import Word, cell, counted, encoded, hexed, is_text, shortened, shown, words
@@ -293,8 +294,8 @@ class Shell:
             raise Wrong(f"usage: {COMMANDS['tree'].usage}")
         outfile.check(rest[1].path, self.store.path)
         drawn = tree.Tree([info.parent for info in infos], names)
-        keys = {version: sum(1 for _ in self._until_stopped(self.store.scan(version))) for version in drawn.single()}
-        self._save(rest[1], tree.svg(drawn, keys, self._heading(infos)))
+        keys = count_keys(self.store, drawn.single(), self._until_stopped)
+        self._save(rest[1], picture_tree.svg(drawn, keys, self._heading(infos)))
 
     def levels(self, rest: List[Word]) -> None:
         found = self.store.levels()
@@ -304,11 +305,15 @@ class Shell:
             return
         if rest[0].text != "--svg" or len(rest) != 2:
             raise Wrong(f"usage: {COMMANDS['levels'].usage}")
-        self._save(rest[1], levels.svg(found, self.name))
+        self._save(rest[1], picture_levels.svg(found, self.name))
 
     def _heading(self, infos: List[Info]) -> str:
         changes = counted(self.store.stat().changes, "change")
         return f"{self.name}: {counted(len(infos), 'version')}, {changes}"
+
+    def report(self, rest: List[Word]) -> None:
+        outfile.check(rest[0].path, self.store.path)
+        self._save(rest[0], report.page(report.gathered(self.store, self._until_stopped)))
 
     def diff(self, rest: List[Word]) -> None:
         before, after = self.version_of(rest[0]), self.version(rest[1:])
@@ -412,6 +417,8 @@ COMMANDS: Dict[str, Command] = {
     "stat": Command(VERSIONS, "stat", "shows how many versions and changes there are", Shell.stat, 0, 0, False),
     "levels": Command(FILES, "levels [--svg FILE]", "draws what is stored, level by level, or writes a picture of it",
                       Shell.levels, 0, 2, False),
+    "report": Command(FILES, "report FILE", "writes a page of HTML: the tree, the levels, and what is used and left",
+                      Shell.report, 1, 1, False),
     "dump": Command(FILES, "dump [V [FILE]]", "writes a version's pairs as lines of text", Shell.dump, 0, 2),
     "load": Command(FILES, "load FILE [@V]", "puts the pairs of a dump into a version", Shell.load, 1, 1),
     "help": Command(SHELL, "help [COMMAND]", "shows this, or one command", Shell.help, 0, 1, False),

@@ -109,7 +109,7 @@ def completions(before: Sequence[str], written: str, commands: Iterable[str], na
         found = list(commands)
     elif written.startswith("@"):
         found = [f"@{name}" for name in names]
-    elif before == ["load"] or before[-1] == "--svg" or (before[0] == "dump" and len(before) == 2):
+    elif before in (["load"], ["report"]) or before[-1] == "--svg" or (before[0] == "dump" and len(before) == 2):
         return files(written)
     elif before[0] in ("use", "info", "diff", "dump", "names"):
         found = [*names, *(("set", "remove") if before == ["names"] else ())]
