@@ -52,7 +52,8 @@ def _rows(drawing: Drawing, levels: Levels, top: float) -> float:
 
     Each row has a scale of its own: it is as long as the level has room for leads, or for its entries where these are more.
     """
-    _label(drawing, top, "journal", f"{levels.journal_changes:,} of {counted(levels.mem, 'change')}", counted(levels.journal_updates, "update"))
+    _label(drawing, top, "journal", f"{levels.journal_changes:,} of {counted(levels.mem, 'change')}",
+           counted(levels.journal_updates, "update"))
     drawing.box("capacity", LEFT, top, WIDE, BOX)
     if levels.journal_changes:
         drawing.box("journal", LEFT, top, WIDE * min(1.0, levels.journal_changes / levels.mem), BOX)

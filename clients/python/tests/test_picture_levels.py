@@ -35,7 +35,8 @@ def text_of(count: int, versions: int, mem: int = 64) -> str:
             number += 1
             entries = draw.randrange(1, max(2, (mem << level) // here))
             leads, least = draw.randrange((entries + 1) // 2, entries + 1), draw.randrange(-(-entries // 3), entries + 1)
-            arrays.append((f"array {number} density {least}/{entries} lead {leads}/{entries} versions {levels.listed(part)}", leads, entries))
+            line = f"array {number} density {least}/{entries} lead {leads}/{entries} versions {levels.listed(part)}"
+            arrays.append((line, leads, entries))
         sums = [sum(array[place] for array in arrays) for place in (1, 2)]
         lines += [f"level {level} horizon {versions} leads {sums[0]} entries {sums[1]}", *(array[0] for array in arrays)]
         stored += sums[1]
@@ -135,8 +136,8 @@ class LevelsPictureTest(unittest.TestCase):
     def test_the_bars_show_what_is_used_of_limits_and_of_proved_bounds(self) -> None:
         picture = Picture("".join(svg(levels.read(TEXT), "a.store")))
         # docs/FORMATS.md: M is 8, and of 9 changes one is in the journal; level 1 has room for 16, so d is 1
-        for said in ("1 of 8 changes until it is emptied (M)", "9 of 100 changes of the store's life (C)", "4 of 10 versions of the store's life (V)",
-                     "8 of 12 entries: 2 for each of 6 updates", "7 of 32 entries: 4 x 1 level x 8 changes"):
+        for said in ("1 of 8 changes until it is emptied (M)", "9 of 100 changes of the store's life (C)",
+                     "4 of 10 versions of the store's life (V)", "8 of 12 entries: 2 for each of 6 updates", "7 of 32 entries: 4 x 1 level x 8 changes"):
             self.assertIn(said, picture.written())
         shares = [full.width / most.width for full, most in zip(picture.of("full"), picture.of("most"))]
         for share, wanted in zip(shares, (1 / 8, 9 / 100, 4 / 10, 8 / 12, 7 / 32)):
@@ -167,7 +168,8 @@ class LevelsPictureTest(unittest.TestCase):
         self.assertLess(picture.height, 2200)
         self.assertFalse(any(text.startswith("array ") for text in picture.written()), "rows of the grid are too low for numbers")
         few = Picture("".join(svg(LEVELS, "a.store"))).written()
-        for text in ("1: 67%, v 0-1", "2: 75%, v 2-3", "level 1", "5 of 16 leads", "2 arrays, horizon 4", "array 1", "array 2", "1 of 8 changes"):
+        for text in ("1: 67%, v 0-1", "2: 75%, v 2-3", "level 1", "5 of 16 leads", "2 arrays, horizon 4", "array 1", "array 2",
+                     "1 of 8 changes"):
             self.assertIn(text, few)
         many = Picture("".join(svg(EMPTY._replace(levels=(Level(1, 1, 1, 16384, 16384 * (LEVELS.arrays[0],)),)), "a")))
         self.assertLess(many.width, 1300)
@@ -186,4 +188,5 @@ class LevelsPictureTest(unittest.TestCase):
     def test_what_is_told_of_an_array_says_what_it_has(self) -> None:
         picture = Picture("".join(svg(LEVELS, "a")))
         self.assertEqual([box.text for box in picture.of("array")],
-                         ["array 1: 3 entries, 3 leads, density 2/3, versions 0-1", "array 2: 4 entries, 2 leads, density 3/4, versions 2-3"])
+                         ["array 1: 3 entries, 3 leads, density 2/3, versions 0-1",
+                          "array 2: 4 entries, 2 leads, density 3/4, versions 2-3"])

@@ -73,8 +73,8 @@ class ReportTest(unittest.TestCase):
         named = Page(page(shown(names={0: ["base", "first"]}))).tables()[2]
         self.assertEqual(named[1], ["0", "base, first", "", "0", "frozen", "2 keys", ""])
         leaves = LISTED + 5
-        many = shown(versions=[Info(None, 0, True), *leaves * [Info(0, 1, False)]], keys={version: Count(0) for version in range(leaves + 1)})
-        found = Page(page(many))
+        versions_ = [Info(None, 0, True), *leaves * [Info(0, 1, False)]]
+        found = Page(page(shown(versions=versions_, keys={version: Count(0) for version in range(leaves + 1)})))
         self.assertEqual((len(found.tables()[2]) - 1, f"These are the first {LISTED} of {leaves}." in found.text), (LISTED, True))
 
     def test_a_page_has_the_levels_and_both_pictures(self) -> None:
@@ -90,7 +90,8 @@ class ReportTest(unittest.TestCase):
         every = [bytes([byte]) for byte in range(256)]
         for name in HOSTILE:
             data = name.encode()
-            found = Page(page(shown(name=name, names={1: [name, name + "2"]}, samples={1: [data, *every], 2: ["\ufffe\U0010ffff".encode()]})))
+            samples = {1: [data, *every], 2: ["\ufffe\U0010ffff".encode()]}
+            found = Page(page(shown(name=name, names={1: [name, name + "2"]}, samples=samples)))
             self.assertEqual([tag for tag in found.tags() if tag in ACTIVE], [])
             self.assertFalse([attribute for part in found.root.iter() for attribute in part.keys()
                               if attribute.startswith("on") or attribute in ("href", "src", "action")])
@@ -131,8 +132,8 @@ class StoreReportTest(StoreCase):
 
     def test_a_report_that_can_not_be_written_says_why(self) -> None:
         store = self.made()
-        for line, complaint in (("report", "usage: report FILE"), ("report a b", "usage: report FILE"), ("report a.html @0", "usage: report FILE"),
-                                (f"report {self.path}", "the file is the store itself"), (f"report {self.folder}", "the file is a folder"),
+        for line, complaint in (("report", "usage: report FILE"), ("report a b", "usage: report FILE"),
+                                ("report a.html @0", "usage: report FILE"), (f"report {self.path}", "the file is the store itself"), (f"report {self.folder}", "the file is a folder"),
                                 (f"report {self.folder}/none/a.html", "there is no folder")):
             self.assertIn(complaint, carried_out(store, line)[1])
         self.assertEqual((store.stat().changes, sorted(os.listdir(self.folder))), (0, ["a.store", "a.store.lock"]))
