@@ -170,8 +170,8 @@ def _histogram(drawing: Drawing, arrays: Sequence[Array], top: float) -> float:
     drawing.path("axis", f"M{HISTOGRAM} {floor:.1f}H{end}", end, floor)
     third = HISTOGRAM + BINS * BIN / 3
     drawing.path("third", f"M{third:.1f} {floor - HIGH:.1f}V{floor + 4:.1f}", third, floor + 4)
-    for place, text in ((0, "0"), (1 / 3, "1/3, the least that is proved"), (1, "1")):
-        drawing.text("small", HISTOGRAM + place * BINS * BIN, floor + 16, text, "middle")
+    for density, text in ((0.0, "0"), (1 / 3, "1/3, the least that is proved"), (1.0, "1")):
+        drawing.text("small", HISTOGRAM + density * BINS * BIN, floor + 16, text, "middle")
     return floor + 20
 
 

@@ -13,6 +13,7 @@ from test_levels import EMPTY, LEVELS, TEXT
 
 from castle import Array, Level, Levels, levels
 from castle.picture_levels import svg
+from castle.text import counted
 
 SIZES = (0, 1, 10, 100, 500)  # arrays of a picture
 ARRAY = re.compile(r"array (\d+) density (\d+)/(\d+) lead (\d+)/\d+ versions (\S+)")
@@ -30,16 +31,16 @@ def text_of(count: int, versions: int, mem: int = 64) -> str:
         parts: List[List[int]] = [[] for _ in range(here)]
         for version in range(versions):
             parts[version if version < here else draw.randrange(here)].append(version)
-        arrays = []
+        arrays: List[Tuple[str, int, int]] = []
         for part in parts:
             number += 1
             entries = draw.randrange(1, max(2, (mem << level) // here))
             leads, least = draw.randrange((entries + 1) // 2, entries + 1), draw.randrange(-(-entries // 3), entries + 1)
             line = f"array {number} density {least}/{entries} lead {leads}/{entries} versions {levels.listed(part)}"
             arrays.append((line, leads, entries))
-        sums = [sum(array[place] for array in arrays) for place in (1, 2)]
-        lines += [f"level {level} horizon {versions} leads {sums[0]} entries {sums[1]}", *(array[0] for array in arrays)]
-        stored += sums[1]
+        all_leads, all_entries = sum(leads for _, leads, _ in arrays), sum(entries for _, _, entries in arrays)
+        lines += [f"level {level} horizon {versions} leads {all_leads} entries {all_entries}", *(line for line, _, _ in arrays)]
+        stored += all_entries
     updates = stored // 2 + 7
     return "\n".join([f"store generation 9 mem {mem} changes {2 * updates} of 9999999 versions {versions} of 16384",
                       "journal changes 3 updates 2", *lines, f"stored {stored + 2} updates {updates} written {3 * stored}", ""])
@@ -108,7 +109,7 @@ class LevelsPictureTest(unittest.TestCase):
             self.assertAlmostEqual((third - start) / (end - start), 1 / 3, delta=0.01)
             wide, most = (end - start) / 30, max(counts.values(), default=0)
             self.assertEqual({int((bar.left - start) / wide): bar.text for bar in bars},
-                             {place: f"{levels.counted(many, 'array')} of a density from {place}/30 on" for place, many in counts.items()})
+                             {place: f"{counted(many, 'array')} of a density from {place}/30 on" for place, many in counts.items()})
             for bar in bars:
                 self.assertAlmostEqual(bar.height, max(1, 110 * counts[int((bar.left - start) / wide)] / most), delta=0.2)
                 self.assertAlmostEqual(bar.bottom, floor, delta=0.2)
@@ -151,7 +152,7 @@ class LevelsPictureTest(unittest.TestCase):
         most = 2 ** 24
         largest = Levels(2 ** 63, 4, most, most, 16384, 16384, 4, 4, (Level(22, 16384, most, 2 * most, (
             Array(2 ** 63, 2 * most, most, most, tuple(range(0, 16384, 2))),)),), 2 * most, most, 88 * most)
-        deep = LEVELS._replace(levels=tuple(Level(number, 1, 7, 7, LEVELS.arrays[:2]) for number in range(1, 23)))
+        deep = LEVELS._replace(levels=tuple(Level(number, 1, 7, 7, LEVELS.levels[0].arrays) for number in range(1, 23)))
         found = [EMPTY, LEVELS, largest, deep, *(levels.read(text_of(count, 300)) for count in SIZES)]
         for several in found:
             for title in ("a.store", "日本語 a long name " * 30):

@@ -3,7 +3,7 @@
 import os
 import random
 import unittest
-from typing import Dict, List, Mapping, Optional, Sequence
+from typing import Dict, List, Mapping, Optional, Sequence, Tuple
 from unittest import mock
 
 from support import StoreCase
@@ -67,8 +67,12 @@ class TreePictureTest(unittest.TestCase):
 
     def test_every_part_lies_within_the_picture_and_apart_from_others(self) -> None:
         wide: List[Optional[int]] = [None, 0, 0, 0, *range(3, 12)]
-        trees = [(wide, {1: ["n" * 64], 2: ["m" * 60, "日" * 40]}, "s"), ([None], {}, "store " * 60), ([None, 0, 0, 1, 1], {}, "s"),
-                 ([None, *(CROWDED + 1) * [0]], {3: ["m" * 60, "日" * 40]}, "s"), (drawn(500, 1), {9: ["a"], 99: ["b", "c"]}, "s")]
+        trees: List[Tuple[List[Optional[int]], Names, str]] = [
+            (wide, {1: ["n" * 64], 2: ["m" * 60, "日" * 40]}, "s"),
+            ([None], {}, "store " * 60),
+            ([None, 0, 0, 1, 1], {}, "s"),
+            ([None, *(CROWDED + 1) * [0]], {3: ["m" * 60, "日" * 40]}, "s"),
+            (drawn(500, 1), {9: ["a"], 99: ["b", "c"]}, "s")]
         for parents, names, heading in trees:
             picture = picture_of(parents, names, heading)
             self.assertEqual((picture.beyond(), overlaps(picture.boxes), overlaps(picture.texts)), ([], [], []))

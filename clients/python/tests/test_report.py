@@ -4,7 +4,7 @@ from __future__ import annotations
 
 import os
 import unittest
-from typing import Iterable, List, Sequence
+from typing import Any, Iterable, List, Sequence
 from xml.etree import ElementTree
 
 from support import StoreCase
@@ -24,7 +24,7 @@ VERSIONS = (Info(None, 0, True), Info(0, 1, False), Info(0, 1, False), Info(0, 1
 HOSTILE = ("<script>alert(1)</script>", "]]>", "&amp;\"'", "--><img src=x onerror=alert(1)>")
 
 
-def shown(**changed: object) -> Shown:
+def shown(**changed: Any) -> Shown:
     """What a page shows of the store of `test_levels.LEVELS`, but for some fields."""
     keys = {version: Count(2 + version) for version in range(4)}
     return Shown("a.store", "2026-11-30 05:00:00 +0000", 10_571_776, 45_056, False, LEVELS, VERSIONS, {1: ["staging"]}, keys,
