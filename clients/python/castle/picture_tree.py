@@ -8,9 +8,9 @@ from .keycount import Count
 from .picture import HEADING, MARGIN, Drawing, width_of
 from .tree import Node, Tree
 
-GAP = 46  # between columns
+GAP, INDENT = 46, 22  # between columns, and between a version and those cloned from it where these are below it
 TALL, FLAT = (58, 40), (26, 20)  # the heights of a row and of its boxes, which have two lines or one
-CROWDED = 24  # with more leaves than this, boxes have one line
+CROWDED = 24  # with more leaves than this, each version has a row of its own, with one line
 SIGNS = (("open", "a leaf: takes puts and deletes"), ("frozen", "frozen: has a child"), ("open named", "has a name"),
          ("row", "several versions in a row"))
 
@@ -30,14 +30,16 @@ class Place(NamedTuple):
 
 
 def svg(tree: Tree, keys: Mapping[int, Count], heading: str) -> Iterator[str]:
-    """The tree as a picture, from left to right: each version with its names, its number of keys and what it is.
+    """The tree as a picture: each version with its names, its number of keys and what it is.
 
-    `keys` has a count for each version that is drawn by itself, as `Tree.single` lists them.
+    It goes from left to right, and from top to bottom where it has many leaves. `keys` has a count for each version that is
+    drawn by itself, as `Tree.single` lists them.
     """
     drawing = Drawing()
     drawing.head(heading, SIGNS)
     texts = [_texts(tree, node, keys) for node in tree.nodes]
-    places = _places(tree, texts)
+    is_crowded = sum(not node.children for node in tree.nodes) > CROWDED
+    places = _below(tree, texts) if is_crowded else _beside(tree, texts)
     for node, place in zip(tree.nodes, places):
         for child in node.children:
             _edge(drawing, place, places[child])
@@ -55,19 +57,28 @@ def _texts(tree: Tree, node: Node, keys: Mapping[int, Count]) -> Tuple[str, str]
     return f"{first} {names}".rstrip(), f"{keys[first]}, {'frozen' if node.children else 'leaf'}"
 
 
-def _places(tree: Tree, texts: List[Tuple[str, str]]) -> List[Place]:
-    """Where each box is: its column by its depth, and its row by the leaves under it."""
+def _beside(tree: Tree, texts: List[Tuple[str, str]]) -> List[Place]:
+    """Where each box is, right of the version that it was cloned from."""
     columns, rows = _grid(tree)
-    is_flat = sum(not node.children for node in tree.nodes) > CROWDED
-    row, height = FLAT if is_flat else TALL
+    row, height = TALL
     widths: Dict[int, float] = {}
     for column, (first, second) in zip(columns, texts):
-        wide = width_of(f"{first}  ") + width_of(second, 11) if is_flat else max(width_of(first), width_of(second, 11))
-        widths[column] = max(widths.get(column, 0), wide + 24)
+        widths[column] = max(widths.get(column, 0), width_of(first) + 24, width_of(second, 11) + 24)
     lefts = [float(MARGIN)]
     for column in range(len(widths)):
         lefts.append(lefts[-1] + widths[column] + GAP)
     return [Place(lefts[column], HEADING + place * row, widths[column], height) for column, place in zip(columns, rows)]
+
+
+def _below(tree: Tree, texts: List[Tuple[str, str]]) -> List[Place]:
+    """Where each box is, below the version that it was cloned from, and right of it too unless that has one clone alone."""
+    row, height = FLAT
+    lefts = [float(MARGIN)] * len(tree.nodes)
+    for number, node in enumerate(tree.nodes):
+        for child in node.children:
+            lefts[child] = lefts[number] + (INDENT if len(node.children) > 1 else 0)
+    widths = [width_of(f"{first}  ") + width_of(second, 11) + 24 for first, second in texts]
+    return [Place(left, HEADING + number * row, width, height) for number, (left, width) in enumerate(zip(lefts, widths))]
 
 
 def _grid(tree: Tree) -> Tuple[List[int], List[float]]:
@@ -87,11 +98,15 @@ def _grid(tree: Tree) -> Tuple[List[int], List[float]]:
 
 
 def _edge(drawing: Drawing, above: Place, below: Place) -> None:
-    """A curve from a version to one that was cloned from it."""
+    """A line from a version to one that was cloned from it, which is beside it or below."""
     right = above.left + above.width
-    half = (right + below.left) / 2
-    way = (f"M{right:.1f} {above.middle:.1f} C{half:.1f} {above.middle:.1f} "
-           f"{half:.1f} {below.middle:.1f} {below.left:.1f} {below.middle:.1f}")
+    if below.left > right:
+        half = (right + below.left) / 2
+        way = (f"M{right:.1f} {above.middle:.1f} C{half:.1f} {above.middle:.1f} "
+               f"{half:.1f} {below.middle:.1f} {below.left:.1f} {below.middle:.1f}")
+    else:
+        way = f"M{above.left + INDENT / 2:.1f} {above.top + above.height:.1f}V{below.middle:.1f}"
+        way += f"H{below.left:.1f}" if below.left > above.left else ""
     drawing.path("edge", way, below.left, below.middle)
 
 

@@ -45,25 +45,35 @@ class TreePictureTest(unittest.TestCase):
         self.assertIn("over 256 keys, leaf", picture.written())
         self.assertEqual([str(Count(0)), str(Count(1)), str(Count(2000, True))], ["0 keys", "1 key", "over 2,000 keys"])
 
-    def test_each_version_stands_right_of_its_parent_and_an_edge_leads_to_it(self) -> None:
-        for count in (2, 9, 60):
+    def test_each_version_stands_right_of_its_parent_or_below_it_and_an_edge_leads_to_it(self) -> None:
+        for count in (2, 9, 30, 300):
             parents = drawn(count, count)
             names: Dict[int, List[str]] = {version: [f"n{version}"] for version in range(count)}  # so that each is drawn by itself
             picture = picture_of(parents, names)
             boxes = {int(text.text.split()[0]): box for text in picture.texts for box in picture.boxes
                      if text.kind == "name" and text.overlaps(box)}
             self.assertEqual(set(boxes), set(range(count)))
-            starts = sorted(picture.ends("edge"))
-            wanted = sorted((round(boxes[parent].right, 1), round((boxes[parent].top + boxes[parent].bottom) / 2, 1))
-                            for parent in parents if parent is not None)
-            self.assertEqual(len(starts), len(wanted))
-            for start, place in zip(starts, wanted):
+            is_crowded = count - len(set(parents) - {None}) > CROWDED
+            self.assertEqual(is_crowded, count == 300)
+            starts = []
+            for version, parent in enumerate(parents):
+                box = boxes[version]
+                self.assertEqual("frozen" in box.kind, version in parents)
+                if parent is None:
+                    continue
+                above, siblings = boxes[parent], parents.count(parent)
+                if is_crowded:
+                    starts.append((above.left + 11, above.bottom))
+                    self.assertGreater(box.top, above.bottom)
+                    self.assertAlmostEqual(box.left - above.left, 0 if siblings == 1 else 22, delta=0.2)
+                else:
+                    starts.append((above.right, (above.top + above.bottom) / 2))
+                    self.assertGreater(box.left, above.right)
+            found = picture.ends("edge")
+            self.assertEqual(len(found), len(starts))
+            for start, place in zip(sorted(found), sorted(starts)):
                 self.assertAlmostEqual(start[0], place[0], delta=0.2)
                 self.assertAlmostEqual(start[1], place[1], delta=0.2)
-            for version, parent in enumerate(parents):
-                if parent is not None:
-                    self.assertGreater(boxes[version].left, boxes[parent].right)
-                self.assertEqual("frozen" in boxes[version].kind, version in parents)
 
     def test_every_part_lies_within_the_picture_and_apart_from_others(self) -> None:
         wide: List[Optional[int]] = [None, 0, 0, 0, *range(3, 12)]
