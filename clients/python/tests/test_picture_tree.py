@@ -82,7 +82,7 @@ class TreePictureTest(unittest.TestCase):
             ([None], {}, "store " * 60),
             ([None, 0, 0, 1, 1], {}, "s"),
             ([None, *(CROWDED + 1) * [0]], {3: ["m" * 60, "日" * 40]}, "s"),
-            (drawn(500, 1), {9: ["a"], 99: ["b", "c"]}, "s")]
+            (drawn(250, 1), {9: ["a"], 99: ["b", "c"]}, "s")]
         for parents, names, heading in trees:
             picture = picture_of(parents, names, heading)
             self.assertEqual((picture.beyond(), overlaps(picture.boxes), overlaps(picture.texts)), ([], [], []))
