@@ -2,6 +2,7 @@
 
 from __future__ import annotations
 
+from contextlib import closing
 from itertools import islice
 from typing import TYPE_CHECKING, Callable, Dict, Iterable, Iterator, NamedTuple, Sequence
 
@@ -33,7 +34,7 @@ def count_keys(store: Store, versions: Sequence[int],
     most = max(PAGE_MAX, BUDGET // max(1, len(versions)))
     found = {}
     for version in versions:
-        with store.scan(version) as pairs:
+        with closing(store.scan(version)) as pairs:
             keys = sum(1 for _ in islice(until_stopped(pairs), most + 1))
         found[version] = Count(min(keys, most), keys > most)
     return found

@@ -25,7 +25,7 @@ def svg(levels: Levels, title: str) -> Iterator[str]:
     drawing.head(said, SIGNS, array=shade(2 / 3))
     bottom = _rows(drawing, levels, HEADING)
     bottom = max(_gauges(drawing, levels, bottom + GAP), _histogram(drawing, levels.arrays, bottom + GAP))
-    if levels.levels:
+    if levels.arrays:
         _grid(drawing, levels, bottom + GAP)
     yield from drawing.svg(said)
 

@@ -138,7 +138,7 @@ class StoreReportTest(StoreCase):
             self.assertIn(complaint, carried_out(store, line)[1])
         self.assertEqual((store.stat().changes, sorted(os.listdir(self.folder))), (0, ["a.store", "a.store.lock"]))
 
-    def test_a_report_of_damaged_levels_says_so_and_writes_nothing(self) -> None:
+    def test_a_report_of_a_damaged_store_says_so_and_writes_nothing(self) -> None:
         store = self.damaged()
         complaint = carried_out(store, f"report {self.folder}/a.html")[1]
         self.assertIn("block 7 of the file is damaged", complaint)
