@@ -118,7 +118,7 @@ class StoreReportTest(StoreCase):
             self.assertTrue(gathered(copy).is_copy)
 
     def test_the_shell_writes_a_report_of_a_store_with_any_bytes(self) -> None:
-        path = os.path.join(os.fsencode(self.folder), b"a<b>&\xff.store")
+        path = os.path.join(self.folder, "a<b>&\n\x1b.store")  # a path is UTF-8
         Store.format(path, 64, 1000, 10)
         with Store(path) as store:
             for place, key in enumerate([b"\x00\x1b[31m\xff", b"<script>alert(1)</script>", b"]]>"]):
@@ -128,7 +128,7 @@ class StoreReportTest(StoreCase):
         with open(os.path.join(self.folder, "a.html"), encoding="utf-8") as file:
             found = Page(file)
         self.assertEqual(found.tables()[2][1][6], r'\x00\x1b[31m\xff, <script>alert(1)</script>, ]]>')
-        self.assertEqual(found.root.findtext(f"{XHTML}body/{XHTML}h1"), r"a<b>&\xff.store: 1 version, 3 changes")
+        self.assertEqual(found.root.findtext(f"{XHTML}body/{XHTML}h1"), r"a<b>&\x0a\x1b.store: 1 version, 3 changes")
 
     def test_a_report_that_can_not_be_written_says_why(self) -> None:
         store = self.made()
