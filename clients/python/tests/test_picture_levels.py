@@ -1,18 +1,20 @@
 """The picture of levels: what it shows is computed here from the text that the program prints."""
 
+import os
 import random
 import re
 import unittest
 from fractions import Fraction
 from typing import Dict, List, Tuple
 
-import support  # noqa: F401: finds the package
+from support import TOP, StoreCase
 
 from drawing import Picture, overlaps
 from test_levels import EMPTY, LEVELS, TEXT
 
 from castle import Array, Level, Levels, levels
 from castle.picture_levels import svg
+from castle.process import find_program, printed
 from castle.text import counted
 
 SIZES = (0, 1, 10, 100, 500)  # arrays of a picture
@@ -191,3 +193,11 @@ class LevelsPictureTest(unittest.TestCase):
         self.assertEqual([box.text for box in picture.of("array")],
                          ["array 1: 3 entries, 3 leads, density 2/3, versions 0-1",
                           "array 2: 4 entries, 2 leads, density 3/4, versions 2-3"])
+
+
+class StoreLevelsPictureTest(StoreCase):
+    def test_the_picture_of_the_client_page_is_that_of_its_workload(self) -> None:
+        path = os.path.join(self.folder, "drawn.store")
+        self.assertEqual(printed(find_program(), ["workload", path, "1", "2000"], path)[1], 0)
+        self.assertEqual(self.shell("levels --svg levels.svg\n", path), ("wrote levels.svg\n", "", 0))
+        self.assertEqual(self.bytes_of("levels.svg").decode(), (TOP / "docs" / "levels.svg").read_text(encoding="utf-8"), "docs/levels.svg")
