@@ -8,9 +8,9 @@ from .keycount import Count
 from .picture import HEADING, MARGIN, Drawing, width_of
 from .tree import Node, Tree
 
-GAP, INDENT = 46, 22  # between columns, and between a version and those cloned from it where these are below it
+GAP, INDENT = 46, 16  # between columns, and between a version and those cloned from it where these are below it
 TALL, FLAT = (58, 40), (26, 20)  # the heights of a row and of its boxes, which have two lines or one
-CROWDED = 24  # with more leaves than this, each version has a row of its own, with one line
+LEAVES, WIDEST = 24, 1400  # with more leaves, or beyond this width, each version has a row of its own, with one line
 SIGNS = (("open", "a leaf: takes puts and deletes"), ("frozen", "frozen: has a child"), ("open named", "has a name"),
          ("row", "several versions in a row"))
 
@@ -32,14 +32,15 @@ class Place(NamedTuple):
 def svg(tree: Tree, keys: Mapping[int, Count], heading: str) -> Iterator[str]:
     """The tree as a picture: each version with its names, its number of keys and what it is.
 
-    It goes from left to right, and from top to bottom where it has many leaves. `keys` has a count for each version that is
-    drawn by itself, as `Tree.single` lists them.
+    It goes from left to right, and from top to bottom where it has many leaves or would be wide. `keys` has a count for each
+    version that is drawn by itself, as `Tree.single` lists them.
     """
     drawing = Drawing()
     drawing.head(heading, SIGNS)
     texts = [_texts(tree, node, keys) for node in tree.nodes]
-    is_crowded = sum(not node.children for node in tree.nodes) > CROWDED
-    places = _below(tree, texts) if is_crowded else _beside(tree, texts)
+    places = _beside(tree, texts)
+    if sum(not node.children for node in tree.nodes) > LEAVES or max(place.left + place.width for place in places) > WIDEST:
+        places = _below(tree, texts)
     for node, place in zip(tree.nodes, places):
         for child in node.children:
             _edge(drawing, place, places[child])

@@ -12,7 +12,7 @@ from drawing import Picture, overlaps
 
 from castle import keycount
 from castle.keycount import Count, count_keys
-from castle.picture_tree import CROWDED, svg
+from castle.picture_tree import LEAVES, svg
 from castle.tree import Tree
 
 Names = Mapping[int, Sequence[str]]
@@ -46,15 +46,15 @@ class TreePictureTest(unittest.TestCase):
         self.assertEqual([str(Count(0)), str(Count(1)), str(Count(2000, True))], ["0 keys", "1 key", "over 2,000 keys"])
 
     def test_each_version_stands_right_of_its_parent_or_below_it_and_an_edge_leads_to_it(self) -> None:
-        for count in (2, 9, 30, 300):
-            parents = drawn(count, count)
+        trees = [(drawn(2, 1), False), (drawn(9, 1), False), ([None, *LEAVES * [0]], False), ([None, *(LEAVES + 1) * [0]], True),
+                 ([None, *range(40)], True), (drawn(300, 1), True)]
+        for parents, is_crowded in trees:
+            count = len(parents)
             names: Dict[int, List[str]] = {version: [f"n{version}"] for version in range(count)}  # so that each is drawn by itself
             picture = picture_of(parents, names)
             boxes = {int(text.text.split()[0]): box for text in picture.texts for box in picture.boxes
                      if text.kind == "name" and text.overlaps(box)}
             self.assertEqual(set(boxes), set(range(count)))
-            is_crowded = count - len(set(parents) - {None}) > CROWDED
-            self.assertEqual(is_crowded, count == 300)
             starts = []
             for version, parent in enumerate(parents):
                 box = boxes[version]
@@ -63,9 +63,9 @@ class TreePictureTest(unittest.TestCase):
                     continue
                 above, siblings = boxes[parent], parents.count(parent)
                 if is_crowded:
-                    starts.append((above.left + 11, above.bottom))
+                    starts.append((above.left + 8, above.bottom))
                     self.assertGreater(box.top, above.bottom)
-                    self.assertAlmostEqual(box.left - above.left, 0 if siblings == 1 else 22, delta=0.2)
+                    self.assertAlmostEqual(box.left - above.left, 0 if siblings == 1 else 16, delta=0.2)
                 else:
                     starts.append((above.right, (above.top + above.bottom) / 2))
                     self.assertGreater(box.left, above.right)
@@ -81,7 +81,7 @@ class TreePictureTest(unittest.TestCase):
             (wide, {1: ["n" * 64], 2: ["m" * 60, "日" * 40]}, "s"),
             ([None], {}, "store " * 60),
             ([None, 0, 0, 1, 1], {}, "s"),
-            ([None, *(CROWDED + 1) * [0]], {3: ["m" * 60, "日" * 40]}, "s"),
+            ([None, *(LEAVES + 1) * [0]], {3: ["m" * 60, "日" * 40]}, "s"),
             (drawn(250, 1), {9: ["a"], 99: ["b", "c"]}, "s")]
         for parents, names, heading in trees:
             picture = picture_of(parents, names, heading)
@@ -91,11 +91,13 @@ class TreePictureTest(unittest.TestCase):
                     is_within = box.left < text.left and text.right < box.right and box.top < text.top and text.bottom < box.bottom
                     self.assertTrue(is_within or not text.overlaps(box), (text, box))
 
-    def test_many_leaves_have_flat_boxes(self) -> None:
-        few, many = (picture_of([None, *count * [0]]) for count in (CROWDED, CROWDED + 1))
+    def test_a_large_tree_has_flat_boxes_and_is_no_wider_than_a_screen(self) -> None:
+        few, many = (picture_of([None, *count * [0]]) for count in (LEAVES, LEAVES + 1))
         self.assertEqual([{round(box.height) for box in picture.of("open")} for picture in (few, many)], [{40}, {20}])
         self.assertLess(picture_of([None, *500 * [0]]).height, 500 * 27 + 200)
         self.assertIn("7 keys, leaf", many.written())
+        for parents in ([None, *range(500)], [None, *500 * [0]], drawn(500, 2)):
+            self.assertLess(picture_of(parents, {version: [f"release-{version}"] for version in range(0, 500, 3)}).width, 1500)
 
     def test_any_name_is_text(self) -> None:
         for name in ("a<b>&\"c'", "]]>", "<script>alert(1)</script>"):
