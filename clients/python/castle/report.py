@@ -35,7 +35,7 @@ STYLE = """
 POLICY = "default-src 'none'; style-src 'unsafe-inline'"  # the page fetches nothing and runs nothing
 
 
-class Shown(NamedTuple):
+class Overview(NamedTuple):
     """What a page shows of a store."""
 
     name: str
@@ -55,7 +55,7 @@ class Shown(NamedTuple):
     """The first keys of some versions."""
 
 
-def gathered(store: Store, until_stopped: Callable[[Iterable[Pair]], Iterator[Pair]] = iter) -> Shown:
+def gathered(store: Store, until_stopped: Callable[[Iterable[Pair]], Iterator[Pair]] = iter) -> Overview:
     """What a page shows of a store as it is now. Changes meanwhile may be in some of its parts and not in others.
 
     It reads the levels as `Store.levels` does, asks for the place of each version, and counts keys as `count_keys` does.
@@ -67,7 +67,7 @@ def gathered(store: Store, until_stopped: Callable[[Iterable[Pair]], Iterator[Pa
     samples = {version: [key for key, _ in store.page(version, limit=SAMPLE).pairs]
                for version in listed(single, names, versions)[:LISTED]}
     found = os.stat(store.path)
-    return Shown(cell(os.fsencode(os.path.basename(store.path))), time.strftime("%Y-%m-%d %H:%M:%S %z"), found.st_size,
+    return Overview(cell(os.fsencode(os.path.basename(store.path))), time.strftime("%Y-%m-%d %H:%M:%S %z"), found.st_size,
                  found.st_blocks * 512, store.read_only, levels, versions, names, keys, samples)
 
 
@@ -76,29 +76,29 @@ def listed(single: Iterable[int], names: Mapping[int, Sequence[str]], versions: 
     return sorted(version for version in single if names.get(version) or not versions[version].frozen)
 
 
-def page(shown_: Shown) -> Iterator[str]:
+def page(overview: Overview) -> Iterator[str]:
     """The page, piece by piece."""
-    title = f"{shown_.name}: {counted(len(shown_.versions), 'version')}, {counted(shown_.levels.changes, 'change')}"
+    title = f"{overview.name}: {counted(len(overview.versions), 'version')}, {counted(overview.levels.changes, 'change')}"
     yield '<!DOCTYPE html>\n<html lang="en" xmlns="http://www.w3.org/1999/xhtml">\n<head>\n<meta charset="utf-8"/>\n'
     yield f'<meta http-equiv="Content-Security-Policy" content="{POLICY}"/>\n'
     yield f"<title>{escape(title)}</title>\n<style>{STYLE}</style>\n</head>\n<body>\n<h1>{escape(title)}</h1>\n"
-    copy = " It shows a private copy, since the file can't be written." if shown_.is_copy else ""
-    yield f"<p>Taken on {escape(shown_.time)} by castle {escape(__version__)}.{copy}</p>\n"
-    yield from _used(shown_)
-    yield from _tree(shown_, title)
-    yield from _levels(shown_)
+    copy = " It shows a private copy, since the file can't be written." if overview.is_copy else ""
+    yield f"<p>Taken on {escape(overview.time)} by castle {escape(__version__)}.{copy}</p>\n"
+    yield from _used(overview)
+    yield from _tree(overview, title)
+    yield from _levels(overview)
     yield "</body>\n</html>\n"
 
 
-def _used(shown_: Shown) -> Iterator[str]:
+def _used(overview: Overview) -> Iterator[str]:
     """How much of each limit is used and left, and how far the proved bounds are."""
-    levels = shown_.levels
+    levels = overview.levels
     yield "<h2>Used and left</h2>\n"
     rows = [[gauge.name, meter(gauge), f"{gauge.used:,}", f"{gauge.most:,}", f"{gauge.most - gauge.used:,}", gauge.meaning]
             for gauge in limited(levels)]
     yield from table(["", "", "#used", "#of", "#left", ""], rows)
-    yield (f"<p>The journal was emptied {counted(levels.generation - 1, 'time')}. The file has {shown_.size:,} bytes, of which "
-           f"{shown_.allocated:,} are on the disk. The limits are for life. A store that has used up C or V is read as "
+    yield (f"<p>The journal was emptied {counted(levels.generation - 1, 'time')}. The file has {overview.size:,} bytes, of which "
+           f"{overview.allocated:,} are on the disk. The limits are for life. A store that has used up C or V is read as "
            "before.</p>\n")
     yield "<h2>Proved bounds</h2>\n"
     rows = [[gauge.name, meter(gauge), f"{gauge.used:,}", f"{gauge.most:,}", gauge.meaning] for gauge in bounded(levels)]
@@ -113,25 +113,25 @@ def meter(gauge: Gauge) -> Markup:
     return Markup(f'<meter min="0" max="{max(1, gauge.most)}" value="{gauge.used}">{gauge.used}</meter>')
 
 
-def _tree(shown_: Shown, title: str) -> Iterator[str]:
+def _tree(overview: Overview, title: str) -> Iterator[str]:
     """The tree as a picture, and its versions that have a name or take changes."""
-    tree = Tree([info.parent for info in shown_.versions], shown_.names)
+    tree = Tree([info.parent for info in overview.versions], overview.names)
     yield "<h2>Versions</h2>\n<figure>\n"
-    yield from picture_tree.svg(tree, shown_.keys, title)
+    yield from picture_tree.svg(tree, overview.keys, title)
     yield "</figure>\n<h2>Versions with a name, and leaves</h2>\n"
-    versions = listed(tree.single(), shown_.names, shown_.versions)
-    rows = [_version(shown_, version) for version in versions[:LISTED]]
+    versions = listed(tree.single(), overview.names, overview.versions)
+    rows = [_version(overview, version) for version in versions[:LISTED]]
     yield from table(["#version", "names", "#clone of", "#ancestors", "", "#keys", "first keys"], rows)
     if len(versions) > LISTED:
         yield f"<p>These are the first {LISTED} of {len(versions):,}.</p>\n"
 
 
-def _version(shown_: Shown, version: int) -> List[str]:
+def _version(overview: Overview, version: int) -> List[str]:
     """A version's row."""
-    info = shown_.versions[version]
-    sample = ", ".join(quoted(key) for key in shown_.samples.get(version, ()))
-    return [f"{version}", ", ".join(shown_.names.get(version, ())), "" if info.parent is None else f"{info.parent}",
-            f"{info.depth:,}", "frozen" if info.frozen else "takes changes", str(shown_.keys[version]), sample]
+    info = overview.versions[version]
+    sample = ", ".join(quoted(key) for key in overview.samples.get(version, ()))
+    return [f"{version}", ", ".join(overview.names.get(version, ())), "" if info.parent is None else f"{info.parent}",
+            f"{info.depth:,}", "frozen" if info.frozen else "takes changes", str(overview.keys[version]), sample]
 
 
 def quoted(key: bytes) -> str:
@@ -139,11 +139,11 @@ def quoted(key: bytes) -> str:
     return shortened(shown(key))
 
 
-def _levels(shown_: Shown) -> Iterator[str]:
+def _levels(overview: Overview) -> Iterator[str]:
     """The levels as a picture and as a table."""
-    levels = shown_.levels
+    levels = overview.levels
     yield "<h2>Levels</h2>\n<figure>\n"
-    yield from picture_levels.svg(levels, shown_.name)
+    yield from picture_levels.svg(levels, overview.name)
     yield "</figure>\n"
     yield from table(["#level", "#horizon", "#arrays", "#leads", "#room for leads", "#entries", "#copies", "#least density"],
                      [_level(levels, level) for level in levels.levels])

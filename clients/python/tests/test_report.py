@@ -15,7 +15,7 @@ from session import carried_out
 
 from castle import Info, report
 from castle.keycount import Count
-from castle.report import LISTED, Shown, gathered, listed, page
+from castle.report import LISTED, Overview, gathered, listed, page
 from castle.store import Store
 
 XHTML = "{http://www.w3.org/1999/xhtml}"
@@ -24,10 +24,10 @@ VERSIONS = (Info(None, 0, True), Info(0, 1, False), Info(0, 1, False), Info(0, 1
 HOSTILE = ("<script>alert(1)</script>", "]]>", "&amp;\"'", "--><img src=x onerror=alert(1)>")
 
 
-def shown(**changed: Any) -> Shown:
+def overview(**changed: Any) -> Overview:
     """What a page shows of the store of `test_levels.LEVELS`, but for some fields."""
     keys = {version: Count(2 + version) for version in range(4)}
-    return Shown("a.store", "2026-11-30 05:00:00 +0000", 10_571_776, 45_056, False, LEVELS, VERSIONS, {1: ["staging"]}, keys,
+    return Overview("a.store", "2026-11-30 05:00:00 +0000", 10_571_776, 45_056, False, LEVELS, VERSIONS, {1: ["staging"]}, keys,
                  {1: [b"a", b"b"]})._replace(**changed)
 
 
@@ -51,39 +51,39 @@ class Page:
 
 class ReportTest(unittest.TestCase):
     def test_a_page_says_how_much_is_used_and_left_and_how_far_the_bounds_are(self) -> None:
-        limits, bounds, _, _ = Page(page(shown())).tables()
+        limits, bounds, _, _ = Page(page(overview())).tables()
         self.assertEqual(limits[1:], [["journal", "1", "1", "8", "7", "changes until it is emptied (M)"],
                                       ["changes", "9", "9", "100", "91", "changes of the store's life (C)"],
                                       ["versions", "4", "4", "10", "6", "versions of the store's life (V)"]])
         self.assertEqual(bounds[1:], [["stored", "8", "8", "12", "entries: 2 for each of 6 updates"],
                                       ["written", "7", "7", "32", "entries: 4 x 1 level x 8 changes"]])
-        found = Page(page(shown()))
+        found = Page(page(overview()))
         meters = [(part.get("value"), part.get("max"), part.get("min")) for part in found.root.iter(f"{XHTML}meter")]
         self.assertEqual(meters, [("1", "8", "0"), ("9", "100", "0"), ("4", "10", "0"), ("8", "12", "0"), ("7", "32", "0")])
         for text in ("The journal was emptied 1 time.", "10,571,776 bytes, of which 45,056 are on the disk", "2026-11-30 05:00:00 +0000"):
             self.assertIn(text, found.text)
         self.assertEqual("private copy" in found.text, False)
-        self.assertIn("private copy", "".join(page(shown(is_copy=True))))
+        self.assertIn("private copy", "".join(page(overview(is_copy=True))))
 
     def test_a_page_lists_the_versions_that_have_a_name_or_take_changes(self) -> None:
-        versions = Page(page(shown())).tables()[2]
+        versions = Page(page(overview())).tables()[2]
         self.assertEqual(versions, [["version", "names", "clone of", "ancestors", "", "keys", "first keys"],
                                     ["1", "staging", "0", "1", "takes changes", "3 keys", "a, b"],
                                     ["2", "", "0", "1", "takes changes", "4 keys", ""], ["3", "", "0", "1", "takes changes", "5 keys", ""]])
-        named = Page(page(shown(names={0: ["base", "first"]}))).tables()[2]
+        named = Page(page(overview(names={0: ["base", "first"]}))).tables()[2]
         self.assertEqual(named[1], ["0", "base, first", "", "0", "frozen", "2 keys", ""])
         leaves = LISTED + 5
         versions_ = [Info(None, 0, True), *leaves * [Info(0, 1, False)]]
-        found = Page(page(shown(versions=versions_, keys={version: Count(0) for version in range(leaves + 1)})))
+        found = Page(page(overview(versions=versions_, keys={version: Count(0) for version in range(leaves + 1)})))
         self.assertEqual((len(found.tables()[2]) - 1, f"These are the first {LISTED} of {leaves}." in found.text), (LISTED, True))
 
     def test_a_page_has_the_levels_and_both_pictures(self) -> None:
-        found = Page(page(shown()))
+        found = Page(page(overview()))
         self.assertEqual(found.tables()[3][1:], [["1", "4", "2", "5", "16", "7", "2", "2/3"]])
         tree, levels = found.pictures()
         self.assertEqual((len(tree.of("open")), len(tree.of("open named")), len(tree.of("frozen"))), (2, 1, 1))
         self.assertEqual((len(levels.of("array")), len(levels.of("copies"))), (2, 1))
-        empty = shown(levels=EMPTY, versions=[Info(None, 0, False)], names={}, keys={0: Count(0)}, samples={})
+        empty = overview(levels=EMPTY, versions=[Info(None, 0, False)], names={}, keys={0: Count(0)}, samples={})
         self.assertEqual([len(table) - 1 for table in Page(page(empty)).tables()], [3, 2, 1, 0])
 
     def test_whatever_stands_in_keys_and_names_is_text_and_the_page_fetches_and_runs_nothing(self) -> None:
@@ -91,7 +91,7 @@ class ReportTest(unittest.TestCase):
         for name in HOSTILE:
             data = name.encode()
             samples = {1: [data, *every], 2: ["\ufffe\U0010ffff".encode()]}
-            found = Page(page(shown(name=name, names={1: [name, name + "2"]}, samples=samples)))
+            found = Page(page(overview(name=name, names={1: [name, name + "2"]}, samples=samples)))
             self.assertEqual([tag for tag in found.tags() if tag in ACTIVE], [])
             self.assertFalse([attribute for part in found.root.iter() for attribute in part.keys()
                               if attribute.startswith("on") or attribute in ("href", "src", "action")])
