@@ -97,8 +97,8 @@ def _used(overview: Overview) -> Iterator[str]:
     rows = [[gauge.name, meter(gauge), f"{gauge.used:,}", f"{gauge.most:,}", f"{gauge.most - gauge.used:,}", gauge.meaning]
             for gauge in limited(levels)]
     yield from table(["", "", "#used", "#of", "#left", ""], rows)
-    yield (f"<p>The journal was emptied {counted(levels.generation - 1, 'time')}. The file has {overview.size:,} bytes, of which "
-           f"{overview.allocated:,} are on the disk. The limits are for life. A store that has used up C or V is read as "
+    yield (f"<p>The journal was emptied {counted(levels.generation - 1, 'time')}. The file has {overview.size:,} bytes, of "
+           f"which {overview.allocated:,} are on the disk. The limits are for life. A store that has used up C or V is read as "
            "before.</p>\n")
     yield "<h2>Proved bounds</h2>\n"
     rows = [[gauge.name, meter(gauge), f"{gauge.used:,}", f"{gauge.most:,}", gauge.meaning] for gauge in bounded(levels)]

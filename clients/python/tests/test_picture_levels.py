@@ -155,13 +155,12 @@ class LevelsPictureTest(unittest.TestCase):
         largest = Levels(2 ** 63, 4, most, most, 16384, 16384, 4, 4, (Level(22, 16384, most, 2 * most, (
             Array(2 ** 63, 2 * most, most, most, tuple(range(0, 16384, 2))),)),), 2 * most, most, 88 * most)
         deep = LEVELS._replace(levels=tuple(Level(number, 1, 7, 7, LEVELS.levels[0].arrays) for number in range(1, 23)))
-        found = [EMPTY, LEVELS, largest, deep, *(levels.read(text_of(count, 300)) for count in SIZES)]
-        for several in found:
-            for title in ("a.store", "日本語 a long name " * 30):
-                picture = Picture("".join(svg(several, title)))
-                self.assertEqual(picture.beyond(), [])
-                self.assertEqual(overlaps(picture.texts), [])
-                self.assertEqual(overlaps(picture.texts, picture.boxes), [])
+        drawn = [(found, "a.store") for found in (EMPTY, largest, deep, *(levels.read(text_of(count, 300)) for count in SIZES))]
+        for found, title in [*drawn, (LEVELS, "日本語 a long name " * 30)]:
+            picture = Picture("".join(svg(found, title)))
+            self.assertEqual(picture.beyond(), [])
+            self.assertEqual(overlaps(picture.texts), [])
+            self.assertEqual(overlaps(picture.texts, picture.boxes), [])
 
     def test_what_is_small_is_left_out_and_no_text_is_tiny(self) -> None:
         picture = Picture("".join(svg(levels.read(text_of(500, 500)), "a.store")))
@@ -174,7 +173,7 @@ class LevelsPictureTest(unittest.TestCase):
         for text in ("1: 67%, v 0-1", "2: 75%, v 2-3", "level 1", "5 of 16 leads", "2 arrays, horizon 4", "array 1", "array 2",
                      "1 of 8 changes"):
             self.assertIn(text, few)
-        many = Picture("".join(svg(EMPTY._replace(levels=(Level(1, 1, 1, 16384, 16384 * (LEVELS.arrays[0],)),)), "a")))
+        many = Picture("".join(svg(EMPTY._replace(levels=(Level(1, 1, 1, 4096, 4096 * (LEVELS.arrays[0],)),)), "a")))
         self.assertLess(many.width, 1300)
 
     def test_the_denser_an_array_the_darker_it_is(self) -> None:
