@@ -195,6 +195,8 @@ class LevelsPictureTest(unittest.TestCase):
 
 
 class StoreLevelsPictureTest(StoreCase):
+    in_memory = True
+
     def test_the_picture_of_the_client_page_is_that_of_its_workload(self) -> None:
         path = os.path.join(self.folder, "drawn.store")
         self.assertEqual(printed(find_program(), ["workload", path, "1", "2000"], path)[1], 0)
