@@ -1,6 +1,7 @@
 #!/usr/bin/env python3
 """Tries the benches: that they notice a wrong answer, and print what they measured: `tests/bench.py [WORD..]` at the top."""
 
+import argparse
 import contextlib
 import importlib.machinery
 import importlib.util
@@ -16,14 +17,15 @@ from program import PROGRAM, TOP, StoreFile, Wrong, expect, run_checks
 CASTLE, SQLITE = "castle", "SQLite"
 
 
-def bench_as_library():
-    loader = importlib.machinery.SourceFileLoader("bench_run", str(TOP / "bench" / "run"))
+def bench_as_library(name):
+    loader = importlib.machinery.SourceFileLoader(f"bench_{name}", str(TOP / "bench" / name))
     module = importlib.util.module_from_spec(importlib.util.spec_from_loader(loader.name, loader))
     loader.exec_module(module)
     return module
 
 
-bench = bench_as_library()
+bench = bench_as_library("run")
+clones = bench_as_library("clones")
 
 
 @contextlib.contextmanager
@@ -165,6 +167,92 @@ def the_wear_is_within_its_bounds(folder):
     expect("its rows", rows, [(b"100", b"0.54", b"4", b"0.91"), (b"2,000", b"3.55", b"20", b"1.19")])
 
 
+# bench/clones
+
+SMALL = ["--pairs", "300", "--clones", "3", "--edits", "40", "--looks", "2"]
+STEPS = [*(f"{step}, seconds" for step in ("load", "clones", "edits", "scans", "differences", "dumps")), "bytes on the disk"]
+
+
+def cloned(folder, *words):
+    """Status, output and complaints of the bench over a few clones."""
+    out, errors = io.StringIO(), io.StringIO()
+    given = changed(sys, "argv", ["clones", *SMALL, "--folder", folder, *words])
+    with given, contextlib.redirect_stdout(out), contextlib.redirect_stderr(errors):
+        status = clones.main()
+    return status, out.getvalue(), errors.getvalue()
+
+
+def many_clones_are_measured_beside_other_stores(folder):
+    ran = subprocess.run([sys.executable, str(TOP / "bench" / "clones"), *SMALL, "--folder", folder],
+                         capture_output=True, timeout=60, text=True)
+    has_lmdb = importlib.util.find_spec("lmdb") is not None
+    titles = ["castle", "SQLite, overlay", "SQLite, files", *(["LMDB, files"] if has_lmdb else [])]
+    expect("its status and progress", (ran.returncode, ran.stderr.splitlines()), (0, [f"clones: {title}" for title in titles]))
+    rows = [line.strip("| ").split(" | ") for line in ran.stdout.splitlines() if line.startswith("| ")]
+    expect("its columns and rows", [rows[0], *([row[0]] for row in rows[1:])], [titles, *([step] for step in STEPS)])
+    expect("its figures", {len(row) for row in rows[1:]}, {1 + len(titles)})
+    figures = [float(text.replace(",", "")) for row in rows[1:] for text in row[1:]]
+    expect("figures that are less than nothing", min(figures) >= 0, True)
+    expect("what was skipped", "skipped: LMDB, since" in ran.stdout, not has_lmdb)
+    first, second = ran.stdout.splitlines()[0:3:2]
+    expect("machine, date and commit", bool(re.search(r"processors, load \S+;.* Python 3.*; \d{4}-\d\d-\d\d, commit \w+", first)), True)
+    expect("what was done", second, "300 pairs, 3 clones with 40 edits each; 2 versions looked at")
+    expect("what is left behind", os.listdir(folder), [])
+
+
+def a_wrong_answer_over_clones_is_noticed(folder):
+    ways = [("clone", lambda made: made + 1), ("pairs", lambda pairs: list(pairs)[1:]),
+            ("differences", lambda found: list(found)[:-1]), ("differences", lambda found: [*found, (b"", b"", b"")])]
+    for kind in clones.STORES:
+        for name, wrong in ways:
+
+            def answer(*given, right=getattr(kind, name), wrong=wrong):
+                return wrong(right(*given))
+
+            with changed(clones, "STORES", [kind]), changed(kind, name, answer):
+                status, out, errors = cloned(folder)
+            expect(f"{kind.title}, {name}", (status, out, errors.count(f"clones: {kind.title}: ")), (1, "", 1))
+
+
+def the_answers_over_clones_are_those_of_dictionaries(folder):
+    words = argparse.Namespace(seed=1, pairs=2, clones=1, edits=0, looks=0)
+    work = clones.Work(words)
+    one, two = work.pairs
+    work.edits = [[(one[0], None), two, (b"x", b"3"), (b"x", b"4"), (b"none", None)]]
+    expect("pairs and differences", work.wanted(1), ([two, (b"x", b"4")], [(one[0], one[1], None), (b"x", None, b"4")]))
+    words.edits = 99
+    kinds = {(value is None, key.endswith(b"/new")) for key, value in clones.Work(words).edits[0]}
+    expect("kinds of edits", kinds, {(True, False), (False, True), (False, False)})
+
+
+def clones_without_lmdb_say_so(folder):
+    with changed(clones, "lmdb", None), changed(clones, "STORES", clones.STORES[1:2]):
+        status, out, _ = cloned(folder)
+    first, *_, blank, last = out.splitlines()
+    expect("its end", (status, blank, last), (0, "", "skipped: LMDB, since Python has no module lmdb here"))
+    expect("a release of LMDB is named", "LMDB" in first, False)
+
+
+def holes_are_no_bytes_on_the_disk(folder):
+    with open(os.path.join(folder, "holes"), "wb") as file:
+        file.write(b"a" * 4096)
+        file.truncate(1 << 30)
+        os.fsync(file.fileno())
+    expect("bytes", 4096 <= clones.bytes_on_disk(folder) < 1 << 20, True)
+
+
+def wrong_words_of_the_bench_over_clones_are_refused(folder):
+    for words in (["--pairs", "0"], ["--clones", "0"], ["--edits", "-1"], ["--clones", "16384"], ["--pairs", "16777216"], ["--pairs", "x"]):
+        try:
+            cloned(folder, *words)
+        except SystemExit as ended:
+            expect(f"{words}", ended.code, 2)
+        else:
+            raise Wrong(f"{words} are taken")
+    with changed(clones, "PROGRAM", os.path.join(folder, "none")):
+        expect("no program", cloned(folder), (2, "", "clones: the program isn't built: run ./castle once\n"))
+
+
 CHECKS = [
     the_bench_finds_both_stores_alike,
     one_wrong_answer_is_noticed_wherever_it_comes,
@@ -176,6 +264,12 @@ CHECKS = [
     a_power_is_the_slope_of_logarithms,
     the_plain_store_makes_each_change_durable_too,
     the_wear_is_within_its_bounds,
+    many_clones_are_measured_beside_other_stores,
+    a_wrong_answer_over_clones_is_noticed,
+    the_answers_over_clones_are_those_of_dictionaries,
+    clones_without_lmdb_say_so,
+    holes_are_no_bytes_on_the_disk,
+    wrong_words_of_the_bench_over_clones_are_refused,
 ]
 
 if __name__ == "__main__":

@@ -57,13 +57,18 @@ def a_program_that_may_open_no_file_touches_none(folder):
     expect("no job", run(["serve"], preexec_fn=limited), (b"", 1, complaint(1)))
 
 
-def the_examples_of_the_readme_are_as_shown(folder):
-    text = (TOP / "README.md").read_text()
-    blocks = re.findall(r"^```console\n(.*?)^```$", text, re.M | re.S)
-    if not blocks:
-        raise Wrong("README.md shows no example")
+def the_examples_of_the_readme_and_of_the_protocol_are_as_shown(folder):
     for name in ("castle", "castle-shell"):
         os.symlink(TOP / name, os.path.join(folder, name))
+    for page in ("README.md", "docs/PROTOCOL.md"):
+        blocks = re.findall(r"^```console\n(.*?)^```$", (TOP / page).read_text(encoding="utf-8"), re.M | re.S)
+        if not blocks:
+            raise Wrong(f"{page} shows no example")
+        expect_as_shown(folder, blocks)
+
+
+def expect_as_shown(folder, blocks):
+    """The commands of these blocks print what stands under them."""
     for block in blocks:
         for command, shown in re.findall(r"^\$ (.*\n(?:> .*\n)*)((?:(?!\$ ).*\n)*)", block, re.M):
             command = command.replace("\n> ", "\n")
@@ -75,5 +80,5 @@ CHECKS = [
     wrong_words_are_refused_and_nothing_is_touched,
     a_program_with_a_name_that_is_no_text_refuses_its_words,
     a_program_that_may_open_no_file_touches_none,
-    the_examples_of_the_readme_are_as_shown,
+    the_examples_of_the_readme_and_of_the_protocol_are_as_shown,
 ]

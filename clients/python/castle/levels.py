@@ -1,12 +1,10 @@
-"""What is in a store's levels: read from what the program prints, drawn as text and as a picture."""
+"""What is in a store's levels: read from what the program prints, and drawn as text. `picture_levels` has the picture."""
 
 from __future__ import annotations
 
 import re
 from typing import Iterator, List, NamedTuple, Sequence, Tuple
-from xml.sax.saxutils import escape
 
-from .picture import BOX, HEADING, MARGIN, ROW, STYLE, opened, width_of
 from .text import counted
 
 
@@ -26,6 +24,11 @@ class Array(NamedTuple):
     def density(self) -> float:
         """`least` of `entries`."""
         return self.least / self.entries
+
+    @property
+    def copies(self) -> int:
+        """Entries that were made at versions of other arrays."""
+        return self.entries - self.leads
 
 
 class Level(NamedTuple):
@@ -60,6 +63,33 @@ class Levels(NamedTuple):
     updates: int
     written: int
     """Entries that were written into arrays since the store was made."""
+
+    def capacity(self, level: int) -> int:
+        """How many leads the level with this number has room for."""
+        return self.mem << level
+
+    @property
+    def depth(self) -> int:
+        """The least level, from 1 on, with room for all changes that left the journal."""
+        level = 1
+        while self.capacity(level) < self.changes - self.journal_changes:
+            level += 1
+        return level
+
+    @property
+    def stored_most(self) -> int:
+        """The proved bound of `stored`: two entries for each update."""
+        return 2 * self.updates
+
+    @property
+    def written_most(self) -> int:
+        """The proved bound of `written`, in a store that this program made and alone changed."""
+        return 4 * self.depth * (self.changes - self.journal_changes)
+
+    @property
+    def arrays(self) -> List[Array]:
+        """The arrays of all levels, the shallowest level first."""
+        return [array for level in self.levels for array in level.arrays]
 
 
 # Reading
@@ -131,7 +161,7 @@ def listed(versions: Sequence[int]) -> str:
     return ",".join("-".join(map(str, run)) for run in runs)
 
 
-def _shortened(versions: Sequence[int]) -> str:
+def in_short(versions: Sequence[int]) -> str:
     """The same in one word, which breaks off where there are many runs."""
     whole = listed(versions)
     if len(whole) <= LISTED:
@@ -161,77 +191,9 @@ def lines(levels: Levels) -> Iterator[str]:
         yield (f"level {level.number}: {counted(level.leads, 'lead')}, {counted(level.entries, 'entry')}, "
                f"{counted(len(level.arrays), 'array')}, horizon {level.horizon:,}")
         rows = [(f"array {array.id}", _bar(array, most), f"live {array.least}/{array.entries}",
-                 f"leads {array.leads}/{array.entries}", f"versions {_shortened(array.versions)}") for array in level.arrays]
+                 f"leads {array.leads}/{array.entries}", f"versions {in_short(array.versions)}") for array in level.arrays]
         widths = [max(map(len, column)) for column in zip(*rows)]
         for row in rows:
             yield "  " + "  ".join(cell.ljust(width) for cell, width in zip(row, widths)).rstrip()
     yield (f"stored: {counted(levels.stored, 'entry')} for {counted(levels.updates, 'update')}; "
            f"{levels.written:,} written since the store was made")
-
-
-# The picture. Lengths are pixels.
-
-LABEL, BARS, THIN = 190, 900, 2  # of a level's label, of the longest row of boxes, and of the thinnest box
-LIGHT, DARK = (236, 247, 240), (95, 180, 135)  # the shades of the densities 1/3 and 1
-LEVEL_STYLE = STYLE + """  .array { stroke: #2f8f5b; stroke-width: 1; }
-  .within { font-size: 11px; }
-"""
-LEGEND = ("a row is a level, a box an array, as wide as it has entries; the greener it is, the denser, "
-          "from a third to all of them live")
-
-
-def svg(levels: Levels, title: str) -> Iterator[str]:
-    """The levels as a picture in SVG, the journal above them: each array with its number, its density and its versions."""
-    most = max([level.entries for level in levels.levels] + [levels.journal_updates, 1])
-    rows = [[max(THIN, BARS * array.entries / most) for array in level.arrays] for level in levels.levels]
-    width = MARGIN + LABEL + max([sum(row) for row in rows] + [BARS]) + MARGIN
-    height = HEADING + 3 * MARGIN + (len(rows) + 1) * ROW
-    yield from opened(width, height, f"{title}: {heading(levels)}", LEGEND, LEVEL_STYLE)
-    top = HEADING + MARGIN + (ROW - BOX) / 2
-    yield from _label("journal", counted(levels.journal_changes, "change"), top)
-    if levels.journal_updates:
-        wide = max(THIN, BARS * levels.journal_updates / most)
-        texts = "", counted(levels.journal_updates, "update")
-        yield from _box(MARGIN + LABEL, top, wide, 'class="row"', texts, "the journal")
-    for level, widths in zip(levels.levels, rows):
-        top += ROW
-        yield from _label(f"level {level.number}", f"{counted(level.leads, 'lead')}, horizon {level.horizon:,}", top)
-        left = float(MARGIN + LABEL)
-        for array, wide in zip(level.arrays, widths):
-            yield from _box(left, top, wide, f'class="array" fill="{_shade(array)}"', _texts(array), _told(array))
-            left += wide
-    last = f"{counted(levels.stored, 'entry')} stored for {counted(levels.updates, 'update')}; {levels.written:,} written"
-    yield f'<text class="small" x="{MARGIN}" y="{top + ROW + MARGIN / 2:.1f}">{last}</text>\n</svg>\n'
-
-
-def _texts(array: Array) -> Tuple[str, str]:
-    """The two lines of a box."""
-    return f"{array.id}: {array.least / array.entries:.0%}", f"v {listed(array.versions)}"
-
-
-def _told(array: Array) -> str:
-    """What is shown where the pointer rests on a box."""
-    return (f"array {array.id}: {counted(array.entries, 'entry')}, {counted(array.leads, 'lead')}, "
-            f"density {array.least}/{array.entries}, versions {_shortened(array.versions)}")
-
-
-def _shade(array: Array) -> str:
-    """The colour of a density."""
-    share = min(1.0, max(0.0, (array.density - 1 / 3) * 1.5))
-    return "#" + "".join(f"{round(light + share * (dark - light)):02x}" for light, dark in zip(LIGHT, DARK))
-
-
-def _label(first: str, second: str, top: float) -> Iterator[str]:
-    yield f'<text class="name" x="{MARGIN}" y="{top + 17:.1f}">{first}</text>\n'
-    yield f'<text class="small" x="{MARGIN}" y="{top + 32:.1f}">{second}</text>\n'
-
-
-def _box(left: float, top: float, width: float, style: str, texts: Tuple[str, str], told: str) -> Iterator[str]:
-    """A box with those of its two lines that fit."""
-    yield (f'<g><title>{escape(told)}</title><rect {style} x="{left:.1f}" y="{top:.1f}" width="{width:.1f}" '
-           f'height="{BOX}" rx="{min(4.0, width / 2):.1f}"/>\n')
-    for text, kind, size, down in zip(texts, ("name", "within"), (13, 11), (17, 32)):
-        if text and width_of(text, size) <= width - 4:
-            yield (f'<text class="{kind}" x="{left + width / 2:.1f}" y="{top + down:.1f}" text-anchor="middle">'
-                   f'{escape(text)}</text>\n')
-    yield "</g>\n"

@@ -7,10 +7,11 @@ import sys
 from collections import deque
 from typing import Callable, ContextManager, Dict, Iterable, Iterator, List, Optional, Sequence, TextIO, TypeVar
 
-from . import backup, dump, jsonform, levels, listing, loading, outfile, tree
+from . import backup, dump, jsonform, levels, listing, loading, outfile, picture_levels, picture_tree, report, tree
 from .branches import Snapshot, nameless
 from .errors import CastleError, Ended, MergeConflict, UnknownName, UnknownVersion, Wrong
 from .frames import NUMBER_MAX, Info, prefix_end
+from .keycount import count_keys
 from .lines import Command, check_text, check_words, command_of, is_number, near, take_options
 from .merge import OURS, THEIRS
 from .paging import Left, unpaged
@@ -453,8 +454,8 @@ class Shell:
             raise Wrong(f"usage: {COMMANDS['tree'].usage}")
         outfile.check(rest[1].path, self.store.path)
         drawn = tree.Tree([info.parent for info in infos], names)
-        keys = {version: sum(1 for _ in self._until_stopped(self.store.scan(version))) for version in drawn.single()}
-        self._save(rest[1], tree.svg(drawn, keys, self._heading(infos)))
+        keys = count_keys(self.store, drawn.single(), self._until_stopped)
+        self._save(rest[1], picture_tree.svg(drawn, keys, self._heading(infos)))
 
     def levels(self, rest: List[Word]) -> None:
         found = self.store.levels()
@@ -469,11 +470,15 @@ class Shell:
             return
         if rest[0].text != "--svg" or len(rest) != 2:
             raise Wrong(f"usage: {COMMANDS['levels'].usage}")
-        self._save(rest[1], levels.svg(found, self.name))
+        self._save(rest[1], picture_levels.svg(found, self.name))
 
     def _heading(self, infos: List[Info]) -> str:
         changes = counted(self.store.stat().changes, "change")
         return f"{self.name}: {counted(len(infos), 'version')}, {changes}"
+
+    def report(self, rest: List[Word]) -> None:
+        outfile.check(rest[0].path, self.store.path)
+        self._save(rest[0], report.page(report.gathered(self.store, self._until_stopped)))
 
     def diff(self, rest: List[Word]) -> None:
         before, after = self.version_of(rest[0]), self.version(rest[1:])
@@ -596,6 +601,8 @@ COMMANDS: Dict[str, Command] = {
     "stat": Command(VERSIONS, "stat", "shows how many versions and changes there are", Shell.stat, 0, 0, False),
     "levels": Command(FILES, "levels [--svg FILE]", "draws what is stored, level by level, or writes a picture of it",
                       Shell.levels, 0, 2, False),
+    "report": Command(FILES, "report FILE", "writes a page of HTML: the tree, the levels, and what is used and left",
+                      Shell.report, 1, 1, False),
     "dump": Command(FILES, "dump [V [FILE] | --all [FILE]]", "writes a version's pairs, or the whole store, as lines of text",
                     Shell.dump, 0, 2),
     "load": Command(FILES, "load [--all | --csv | --json-lines] FILE [@V]",

@@ -55,8 +55,11 @@ def hexed(data: bytes) -> str:
 
 def cell(data: bytes) -> str:
     """Bytes as a cell of a dump."""
+    written = data.decode("utf-8", "surrogateescape")
+    if written.isprintable() and "\\" not in written:
+        return written
     shown = []
-    for char in data.decode("utf-8", "surrogateescape"):
+    for char in written:
         if char == "\\":
             shown.append("\\\\")
         elif char.isprintable():

@@ -1,11 +1,8 @@
-"""The tree of versions, as text and as a picture."""
+"""The tree of versions, drawn as text. `picture_tree` has the picture."""
 
 from __future__ import annotations
 
-from typing import Dict, Iterator, List, Mapping, NamedTuple, Optional, Sequence, Tuple
-from xml.sax.saxutils import escape
-
-from .picture import BOX, HEADING, MARGIN, ROW, opened, width_of
+from typing import Iterator, List, Mapping, NamedTuple, Optional, Sequence, Tuple
 
 WIDTH = 100  # columns, where a chain goes on in a line of its own
 ELIDED = 3  # so many versions in a row without name or branch are drawn as one
@@ -89,68 +86,3 @@ class Tree:
             children = node.children
             open_.extend((child, inner + ("├─ " if place else "└─ "), inner + ("│  " if place else "   "))
                          for place, child in enumerate(reversed(children)))
-
-
-# The picture
-
-GAP = 46  # pixels between columns
-
-
-def svg(tree: Tree, keys: Mapping[int, int], heading: str) -> Iterator[str]:
-    """The tree as a picture in SVG, from left to right: each version with its names and its number of keys."""
-    texts = [_texts(tree, node, keys) for node in tree.nodes]
-    columns, places = _places(tree)
-    widths: Dict[int, float] = {}
-    for number, (first, second) in enumerate(texts):
-        column = columns[number]
-        widths[column] = max(widths.get(column, 0), width_of(first) + 24, width_of(second, 11) + 24)
-    lefts = [float(MARGIN)]
-    for column in range(len(widths)):
-        lefts.append(lefts[-1] + widths[column] + GAP)
-    legend = "green takes puts and deletes, grey is frozen: it has a child"
-    yield from opened(lefts[-1] - GAP + MARGIN, HEADING + 2 * MARGIN + (max(places) + 1) * ROW, heading, legend)
-    tops = [HEADING + MARGIN + place * ROW + (ROW - BOX) / 2 for place in places]
-    for number, node in enumerate(tree.nodes):
-        right, middle = lefts[columns[number]] + widths[columns[number]], tops[number] + BOX / 2
-        for child in node.children:
-            left, to = lefts[columns[child]], tops[child] + BOX / 2
-            half = (right + left) / 2
-            yield (f'<path class="edge" d="M{right:.1f} {middle:.1f} C{half:.1f} {middle:.1f} '
-                   f'{half:.1f} {to:.1f} {left:.1f} {to:.1f}"/>\n')
-    for number, node in enumerate(tree.nodes):
-        left, wide = lefts[columns[number]], widths[columns[number]]
-        yield from _box(node, texts[number], left, tops[number], wide)
-    yield "</svg>\n"
-
-
-def _texts(tree: Tree, node: Node, keys: Mapping[int, int]) -> Tuple[str, str]:
-    """The two lines of a box."""
-    first = node.versions[0]
-    if len(node.versions) > 1:
-        return f"{len(node.versions)} versions", f"{first} to {node.versions[-1]}"
-    count = keys[first]
-    return " ".join([str(first), ", ".join(tree.names.get(first, ()))]).rstrip(), f"{count} key{'' if count == 1 else 's'}"
-
-
-def _box(node: Node, texts: Tuple[str, str], left: float, top: float, width: float) -> Iterator[str]:
-    kind = "row" if len(node.versions) > 1 else "frozen" if node.children else "open"
-    middle = left + width / 2
-    yield f'<rect class="{kind}" x="{left:.1f}" y="{top:.1f}" width="{width:.1f}" height="{BOX}" rx="7"/>\n'
-    yield f'<text class="name" x="{middle:.1f}" y="{top + 17:.1f}" text-anchor="middle">{escape(texts[0])}</text>\n'
-    yield f'<text class="small" x="{middle:.1f}" y="{top + 32:.1f}" text-anchor="middle">{escape(texts[1])}</text>\n'
-
-
-def _places(tree: Tree) -> Tuple[List[int], List[float]]:
-    """The column of each node, and its row: a leaf has one of its own, another node stands amid its children."""
-    columns, places, leaves = [0] * len(tree.nodes), [0.0] * len(tree.nodes), 0
-    for number, node in enumerate(tree.nodes):
-        for child in node.children:
-            columns[child] = columns[number] + 1
-        if not node.children:
-            places[number] = leaves
-            leaves += 1
-    for number in reversed(range(len(tree.nodes))):
-        children = tree.nodes[number].children
-        if children:
-            places[number] = (places[children[0]] + places[children[-1]]) / 2
-    return columns, places

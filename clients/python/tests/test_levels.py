@@ -3,13 +3,10 @@
 import os
 import unittest
 from typing import List
-from xml.etree import ElementTree
 
-from drawing import Picture
 from support import StoreCase
 
-from castle import Array, Level, Levels, Store, errors, levels
-from castle.picture import ROW
+from castle import Array, Level, Levels, Store, errors, levels, picture_levels
 
 TEXT = """store generation 2 mem 8 changes 9 of 100 versions 4 of 10
 journal changes 1 updates 1
@@ -63,54 +60,6 @@ class LevelsTest(unittest.TestCase):
         many = LEVELS._replace(levels=(Level(1, 4, 5, 7, (Array(1, 1, 1, 1, tuple(range(0, 16384, 2))),)),))
         self.assertTrue(list(levels.lines(many))[3].endswith("versions 0,2,4,6,8,10,12,14,16,18,20,22,24,26,28,.. (8,192 in all)"))
 
-    def test_the_picture_of_levels_is_svg(self) -> None:
-        root = ElementTree.fromstring("".join(levels.svg(LEVELS, "a<b&c")))
-        space = "{http://www.w3.org/2000/svg}"
-        texts = [part.text for part in root.iter(f"{space}text")]
-        for text in ("a<b&c: generation 2, M 8, 9 of 100 changes, 4 of 10 versions", "journal", "level 1", "5 leads, horizon 4",
-                     "1: 67%", "v 0-1", "2: 75%", "v 2-3", "8 entries stored for 6 updates; 7 written"):
-            self.assertIn(text, texts)
-        boxes = [part for part in root.iter(f"{space}rect") if part.get("class") == "array"]
-        widths = [float(box.get("width", "")) for box in boxes]
-        self.assertAlmostEqual(widths[0] / widths[1], 3 / 4, 2)
-        self.assertNotEqual(boxes[0].get("fill"), boxes[1].get("fill"))
-        ElementTree.fromstring("".join(levels.svg(EMPTY, "empty")))
-        thin = LEVELS._replace(levels=(Level(1, 1, 1, 10 ** 6, (Array(1, 10 ** 6, 1, 1, (0,)), *(1000 * [ARRAYS[0]]))),))
-        self.assertEqual("".join(levels.svg(thin, "thin")).count('width="2.0"'), 1001)  # with the journal's
-
-
-    def test_the_boxes_of_a_picture_lie_side_by_side_and_the_levels_below_each_other(self) -> None:
-        found = LEVELS._replace(levels=(*LEVELS.levels, Level(2, 3, 9, 12, (Array(3, 9, 9, 9, (0,)), Array(4, 3, 3, 1, (1,))))))
-        picture = Picture("".join(levels.svg(found, "a.store")))
-        journal, = picture.of("row")
-        boxes = picture.of("array")
-        self.assertEqual((picture.overlaps(), len(boxes)), ([], 4))
-        for left, right in ((0, 1), (2, 3)):
-            self.assertAlmostEqual(boxes[left].right, boxes[right].left, 0)
-            self.assertEqual(boxes[left].top, boxes[right].top)
-        tops = [journal.top, boxes[0].top, boxes[2].top]
-        self.assertEqual([below - above for above, below in zip(tops, tops[1:])], [ROW, ROW])
-        self.assertEqual({box.left for box in (journal, boxes[0], boxes[2])}, {journal.left})
-        labels = {text.text: text.top for text in picture.texts}
-        for label, box in (("journal", journal), ("level 1", boxes[0]), ("level 2", boxes[2])):
-            self.assertTrue(box.top <= labels[label] < box.bottom, label)
-
-    def test_every_part_of_a_picture_lies_within_it(self) -> None:
-        many = tuple(Level(number, 1, 7, 7, ARRAYS) for number in range(1, 23))
-        thin = (Level(1, 1, 1, 10 ** 6, (Array(1, 10 ** 6, 1, 1, (0,)), *(1000 * [ARRAYS[0]]))),)
-        for found in (EMPTY, LEVELS, LEVELS._replace(levels=many), LEVELS._replace(levels=thin)):
-            for title in ("a.store", "a long name " * 30):
-                picture = Picture("".join(levels.svg(found, title)))
-                self.assertEqual(picture.beyond(), [])
-                self.assertEqual(len(picture.of("array")), sum(len(level.arrays) for level in found.levels))
-
-    def test_the_greener_an_array_the_denser_it_is(self) -> None:
-        arrays = tuple(Array(number, 9, 9, live, (0,)) for number, live in enumerate((3, 6, 9)))
-        found = LEVELS._replace(levels=(Level(1, 4, 5, 27, arrays),))
-        light, middle, dark = (box.fill for box in Picture("".join(levels.svg(found, "a"))).of("array"))
-        self.assertEqual((light, dark), ("#ecf7f0", "#5fb487"))
-        self.assertTrue(dark < middle < light, "its red is between theirs")
-
 
 def fill(store: Store) -> None:
     """Changes that lead to the levels above, in a store with M 8."""
@@ -147,7 +96,7 @@ class StoreLevelsTest(StoreCase):
         out, complaint, status = self.shell("levels\nlevels --svg levels.svg\n")
         self.assertEqual((out.splitlines(), complaint, status), ([*levels.lines(LEVELS), "wrote levels.svg"], "", 0))
         with open(os.path.join(self.folder, "levels.svg"), encoding="utf-8") as file:
-            self.assertEqual(file.read(), "".join(levels.svg(LEVELS, "a.store")))
+            self.assertEqual(file.read(), "".join(picture_levels.svg(LEVELS, "a.store")))
         self.assertIn("usage: levels [--svg FILE]", self.shell("levels --svg\n")[1])
 
     def test_levels_that_can_not_be_told_say_why(self) -> None:

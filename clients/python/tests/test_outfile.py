@@ -17,7 +17,7 @@ from castle import CastleError, Store, outfile
 from castle.files import write_whole
 from castle.shell import Shell
 
-WRITERS = ("dump 0 {}", "tree --svg {}", "levels --svg {}")
+WRITERS = ("dump 0 {}", "tree --svg {}", "levels --svg {}", "report {}")
 
 
 class RefusedFileTest(StoreCase):

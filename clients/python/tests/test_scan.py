@@ -461,7 +461,7 @@ class CursorTest(Filled):
             self.assertEqual((len(out.getvalue()) > 0, self.cursors(store)), (True, 0))
         store.clone(0)
         store.put(1, "0000", "other")
-        for line in ("scan", "diff 0 1", "dump", "tree --svg " + os.path.join(self.folder, "tree.svg")):
+        for line in ("scan", "diff 0 1", "dump", f"tree --svg {self.folder}/tree.svg", f"report {self.folder}/report.html"):
             shell.interrupts.count = 1
             with self.assertRaisesRegex(Stopped, "^stopped$"):
                 shell.run(line)

@@ -89,8 +89,8 @@ class ScriptTest(StoreCase):
     def test_help_names_every_command(self) -> None:
         self.made().close()
         out, _, _ = self.shell("help\nhelp diff\n")
-        for name in ("put", "get", "delete", "clone", "scan", "info", "stat", "names", "tree", "diff", "levels", "dump", "load",
-                     "help", "quit", "use", "switch", "snapshot", "release", "merge"):
+        for name in ("put", "get", "delete", "clone", "scan", "info", "stat", "names", "tree", "diff", "levels", "report", "dump",
+                     "load", "help", "quit", "use", "switch", "snapshot", "release", "merge"):
             self.assertRegex(out, rf"(?m)^  {name}\b")
         self.assertTrue(out.endswith("diff A [B] [--stat] [-p PREFIX]\n    shows what has to change in A to get B\n"))
 
@@ -172,9 +172,10 @@ class ScriptTest(StoreCase):
     def test_a_store_with_an_odd_name_is_shown_as_one_line(self) -> None:
         self.path = os.path.join(self.folder, "a\nb \x1b.store")
         self.made().close()
-        out, complaint, status = self.shell("put a 1\ndump 0 a.dump\nload a.dump\ntree --svg a.svg\nlevels --svg b.svg\n")
-        self.assertEqual((out, complaint, status), ("done\nwrote a.dump\nloaded 1 pair into version 0\nwrote a.svg\nwrote b.svg\n", "", 0))
-        for name in ("a.dump", "a.svg", "b.svg"):
+        out, complaint, status = self.shell("put a 1\ndump 0 a.dump\nload a.dump\ntree --svg a.svg\nlevels --svg b.svg\nreport c.html\n")
+        said = "done\nwrote a.dump\nloaded 1 pair into version 0\nwrote a.svg\nwrote b.svg\nwrote c.html\n"
+        self.assertEqual((out, complaint, status), (said, "", 0))
+        for name in ("a.dump", "a.svg", "b.svg", "c.html"):
             with open(os.path.join(self.folder, name), encoding="utf-8") as file:
                 self.assertIn(r"a\x0ab \x1b.store", file.read())
 
@@ -347,16 +348,6 @@ class ScanningTest(StoreCase):
             file = self.written("other.dump", f"{first}\na\t1\n# end, 1 pair\n")
             self.assertIn("other.dump: line 1 is not that of a dump. A dump begins with # castle dump 1.", carried_out(store, f"load {file}")[1])
         self.assertEqual(store.stat().updates, 0)
-
-    def test_a_picture_of_the_tree_is_written(self) -> None:
-        self.made().close()
-        out, _, status = self.shell("put a 1\nput b 2\nclone staging\ndelete a @1\nclone production\ntree --svg tree.svg\n")
-        self.assertEqual((out.split("\n")[-2], status), ("wrote tree.svg", 0))
-        with open(os.path.join(self.folder, "tree.svg"), encoding="utf-8") as file:
-            picture = file.read()
-        for text in ("a.store: 3 versions, 5 changes", ">0</text>", ">2 keys</text>", ">1 staging</text>", ">1 key</text>",
-                     ">2 production</text>"):
-            self.assertIn(text, picture)
 
 
 class OpeningTest(StoreCase):

@@ -105,7 +105,8 @@ class PromptTest(TerminalCase):
         session.type("clone staging")
         for typed, want in (("load prod\t @st\t", ["loaded 1 pair into version 1 (staging)"]),
                             ("load tw\t @1", ["loaded 1 pair into version 1 (staging)"]),
-                            ("tree --s\tpict\ta.svg", ["wrote pictures/a.svg"]), ("dump st\tproduct\t", ["wrote product.dump"]),
+                            ("tree --s\tpict\ta.svg", ["wrote pictures/a.svg"]), ("report pict\ta.html", ["wrote pictures/a.html"]),
+                            ("dump st\tproduct\t", ["wrote product.dump"]),
                             ("help lev\t", ["levels [--svg FILE]", "    draws what is stored, level by level, or writes a picture of it"]),
                             ("load --a\tprod\t", ["error: the store is not fresh: it has changes or names",
                                                   "       Make a new one with `castle format`, and load into that."]),

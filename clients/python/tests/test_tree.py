@@ -1,14 +1,11 @@
-"""The version tree as text and as a picture."""
+"""The version tree as text."""
 
 import unittest
 from typing import List, Mapping, Optional, Sequence
-from xml.etree import ElementTree
 
 import support  # noqa: F401: finds the package
 
-from drawing import Picture
-
-from castle.tree import Tree, svg
+from castle.tree import Tree
 
 NONE: Mapping[int, Sequence[str]] = {}
 
@@ -47,21 +44,3 @@ class TreeTest(unittest.TestCase):
         parents: List[Optional[int]] = [None, *[version * 7 // 9 for version in range(300)]]
         nodes = Tree(parents, {5: ["a"]}).nodes
         self.assertEqual(sorted(version for node in nodes for version in node.versions), list(range(301)))
-
-    def test_the_picture_is_svg_with_names_and_keys(self) -> None:
-        tree = Tree([None, 0, 0, 1, 3, 4, 5, 6], {1: ["a<b&c"], 2: ["production", "stable"]})
-        keys = {version: version for version in tree.single()}
-        picture = "".join(svg(tree, keys, "s.store: 8 versions"))
-        root = ElementTree.fromstring(picture)
-        texts = [part.text for part in root.iter("{http://www.w3.org/2000/svg}text")]
-        for text in ("1 a<b&c", "2 production, stable", "1 key", "2 keys", "4 versions", "3 to 6", "s.store: 8 versions"):
-            self.assertIn(text, texts)
-        boxes = [part.get("class") for part in root.iter("{http://www.w3.org/2000/svg}rect")]
-        self.assertEqual((boxes.count("frozen"), boxes.count("row"), boxes.count("open")), (2, 1, 2))
-
-    def test_every_part_of_a_picture_lies_within_it_and_apart_from_others(self) -> None:
-        wide = Tree([None, 0, 0, 0, *range(3, 12)], {1: ["n" * 64], 2: ["m" * 60, "日" * 40]})
-        for tree, heading in ((wide, "s"), (Tree([None], {}), "store " * 60), (Tree([None, 0, 0, 1, 1], {}), "s")):
-            picture = Picture("".join(svg(tree, {version: 10 ** 6 for version in tree.single()}, heading)))
-            self.assertEqual((picture.beyond(), picture.overlaps()), ([], []))
-            self.assertEqual(len(picture.boxes), len(tree.nodes))
