@@ -1,0 +1,91 @@
+#!/usr/bin/env python3
+"""Refuses each allocation of a run in turn, once and from then on for ever: no refused one may change a table.
+
+It is run by hand, `python3 tests/allocations.py [SEED]` at the top, with the program built: a run for each allocation takes long.
+docs/NUMBERS.md has when it was run last, and what it found. A reply may be the refusal for want of memory if
+docs/ERRORS.md allows it there; then the table is as before. Every other reply is that of the model in `tests/model.py`, and
+so is the table in the file at the end.
+"""
+
+import collections
+import copy
+import errno
+import os
+import random
+import sys
+import tempfile
+import time
+
+import formats
+import model
+from faulty import Bench, counts_of, made_over
+from model import bodies_of, reply, tag_of
+from program import Wrong, complaint, expect, expect_alike
+from samples import drawn_beside_cursors, drawn_changes
+from shim import COUNTED, FOR_EVER, Fault
+
+NO_MEMORY = 32  # a reply's status
+CHANGES = (model.PUT, model.DELETE, model.CLONE)
+
+
+def may_be_refused(store, body):
+    """Whether the command may want memory that is not there: a change that meets a full journal, or the opening of a cursor."""
+    changes = store.counts()[2]
+    return body[4] == model.OPEN_CURSOR or body[4] in CHANGES and changes > 0 and changes % store.limits[0] == 0
+
+
+def after_refusals(name, store, frames, ran):
+    """The store after a run whose replies are the model's, but for those commands that were refused for want of memory; and how many were."""
+    now, got, refused = copy.deepcopy(store), bodies_of(ran.out), 0
+    now.start_run()
+    expect(f"{name}, replies", len(got), len(frames) if ran.status == model.ENDED else 0)
+    for number, body in enumerate(got):
+        asked = frames[number][4:]
+        if model.frame(body) == reply(tag_of(asked), NO_MEMORY) and may_be_refused(now, asked):
+            refused += 1
+        else:
+            expect(f"{name}, reply {number}", model.frame(body), now.answer(asked))
+    return now, refused
+
+
+def served_without(bench, name, data, store, frames):
+    """A run in which each allocation is refused in turn, and from then on. How many runs, refusals of commands and refusals to open."""
+    bench.has(data)
+    sent = b"".join(frames)
+    whole = bench.run(COUNTED, "serve", sent=sent)
+    after_refusals(name, store, frames, whole)
+    found = collections.Counter()
+    for number in range(1, counts_of(whole.calls)["memory.allocate"] + 1):
+        for times in (1, FOR_EVER):
+            run = f"{name}, allocation {number}, {times} times"
+            bench.has(data)
+            ran = bench.run(Fault("memory.allocate", number, "error", errno.ENOMEM, times), "serve", sent=sent)
+            if (ran.status, ran.said) not in [(status, complaint(status)) for status in (model.ENDED, model.NO_MEMORY)]:
+                raise Wrong(f"{run}: {ran.status}, {ran.said}")
+            now, refused = after_refusals(run, store, frames, ran)
+            status, got = formats.opened(bench.bytes())
+            expect(f"{run}, the file", status, 0)
+            expect_alike(run, got, now)
+            found += {"runs": 1, "commands refused": refused, "openings refused": ran.status == model.NO_MEMORY}
+    return found
+
+
+def scripts(chance, folder):
+    """Stores to begin from, and commands: the openings of cursors and promotions take memory."""
+    for name, mem, earlier, count in (("a new store", 4, 0, 60), ("levels", 4, 60, 60), ("a full journal of 64", 64, 64, 30)):
+        data, store = made_over(folder, mem, drawn_changes(chance, earlier, 1, 6, 0.1))
+        yield name, data, store, drawn_beside_cursors(chance, count, store, 6, 0.1)
+
+
+def main(words):
+    seed, started = int(words[0]) if words else 42, time.monotonic()
+    with tempfile.TemporaryDirectory(dir="/dev/shm" if os.access("/dev/shm", os.W_OK) else None) as folder:
+        bench = Bench(folder)
+        for name, data, store, frames in scripts(random.Random(seed), folder):
+            found = served_without(bench, name, data, store, frames)
+            print(f"{name}: {', '.join(f'{count} {what}' for what, count in found.items())}", flush=True)
+    print(f"no refused allocation changed a table; {time.monotonic() - started:.0f} s")
+
+
+if __name__ == "__main__":
+    sys.exit(main(sys.argv[1:]))
