@@ -18,9 +18,9 @@ import time
 
 import formats
 import model
-from faulty import Bench, counts_of, made_over
+from faulty import Rig, counts_of, made_over
 from model import bodies_of, reply, tag_of
-from program import Wrong, complaint, expect, expect_alike
+from program import Skipped, Wrong, complaint, expect, expect_alike
 from samples import drawn_beside_cursors, drawn_changes
 from shim import COUNTED, FOR_EVER, Fault
 
@@ -48,25 +48,25 @@ def after_refusals(name, store, frames, ran):
     return now, refused
 
 
-def served_without(bench, name, data, store, frames):
+def served_without(rig, name, data, store, frames):
     """A run in which each allocation is refused in turn, and from then on. How many runs, refusals of commands and refusals to open."""
-    bench.has(data)
+    rig.has(data)
     sent = b"".join(frames)
-    whole = bench.run(COUNTED, "serve", sent=sent)
+    whole = rig.run(COUNTED, "serve", sent=sent)
     after_refusals(name, store, frames, whole)
     found = collections.Counter()
     for number in range(1, counts_of(whole.calls)["memory.allocate"] + 1):
         for times in (1, FOR_EVER):
             run = f"{name}, allocation {number}, {times} times"
-            bench.has(data)
-            ran = bench.run(Fault("memory.allocate", number, "error", errno.ENOMEM, times), "serve", sent=sent)
+            rig.has(data)
+            ran = rig.run(Fault("memory.allocate", number, "error", errno.ENOMEM, times), "serve", sent=sent)
             if (ran.status, ran.said) not in [(status, complaint(status)) for status in (model.ENDED, model.NO_MEMORY)]:
                 raise Wrong(f"{run}: {ran.status}, {ran.said}")
             now, refused = after_refusals(run, store, frames, ran)
-            status, got = formats.opened(bench.bytes())
+            status, got = formats.opened(rig.bytes())
             expect(f"{run}, the file", status, 0)
             expect_alike(run, got, now)
-            found += {"runs": 1, "commands refused": refused, "openings refused": ran.status == model.NO_MEMORY}
+            found.update({"runs": 1, "commands refused": refused, "openings refused": ran.status == model.NO_MEMORY})
     return found
 
 
@@ -80,11 +80,16 @@ def scripts(chance, folder):
 def main(words):
     seed, started = int(words[0]) if words else 42, time.monotonic()
     with tempfile.TemporaryDirectory(dir="/dev/shm" if os.access("/dev/shm", os.W_OK) else None) as folder:
-        bench = Bench(folder)
-        for name, data, store, frames in scripts(random.Random(seed), folder):
-            found = served_without(bench, name, data, store, frames)
-            print(f"{name}: {', '.join(f'{count} {what}' for what, count in found.items())}", flush=True)
+        try:
+            rig = Rig(folder)
+            for name, data, store, frames in scripts(random.Random(seed), folder):
+                found = served_without(rig, name, data, store, frames)
+                print(f"{name}: {', '.join(f'{count} {what}' for what, count in found.items())}", flush=True)
+        except (Skipped, Wrong) as why:
+            print(f"FAILED: {why}")
+            return 1
     print(f"no refused allocation changed a table; {time.monotonic() - started:.0f} s")
+    return 0
 
 
 if __name__ == "__main__":

@@ -50,8 +50,8 @@ class Script:
         return tag_of(self.frames[number][4:])
 
 
-class Bench:
-    """A folder for runs under the shim over one file, which has some bytes before each."""
+class Rig:
+    """Runs under the shim, in a folder, over one file that has some bytes before each."""
 
     def __init__(self, folder):
         if library() is None:
@@ -140,9 +140,9 @@ def changes_in(data):
     return formats.opened(data)[1].counts()[2]
 
 
-def expect_goes_on(name, bench, data, script):
+def expect_goes_on(name, rig, data, script):
     """A run over a file with these bytes goes on to the end of the script, and has the pairs that it should."""
     rest = script.from_change(changes_in(data))
     versions = range(len(rest.stores[rest.made[-1]].parents))
     rest = Script(rest.stores[rest.least], [*rest.frames, *(scan(0, version=version) for version in versions)])
-    expect_outcome(f"{name}, again", rest, bench.serve(None, data, rest), bench.bytes(), model.ENDED)
+    expect_outcome(f"{name}, again", rest, rig.serve(None, data, rest), rig.bytes(), model.ENDED)

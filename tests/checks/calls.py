@@ -8,7 +8,7 @@ import subprocess
 
 import formats
 import model
-from faulty import EARLIER, Bench, counts_of, expect_goes_on, expect_outcome, made_over, starts
+from faulty import EARLIER, Rig, counts_of, expect_goes_on, expect_outcome, made_over, starts
 from model import Store
 from program import DEADLINE, PROGRAM, Skipped, bytes_of, complaint, expect
 from shim import FOR_EVER, Fault
@@ -48,93 +48,93 @@ def faults_of(kind, number):
 
 
 def a_call_that_fails_is_told_and_loses_nothing(folder):
-    bench, seen = Bench(folder), set()
+    rig, seen = Rig(folder), set()
     for start, data, script in starts(folder):
-        whole = bench.serve(None, data, script)
-        expect_outcome(start, script, whole, bench.bytes(), model.ENDED)
+        whole = rig.serve(None, data, script)
+        expect_outcome(start, script, whole, rig.bytes(), model.ENDED)
         for kind, number in each_call(whole.calls):
             for fault in faults_of(kind, number):
                 name = f"{start}, {fault}"
-                ran = bench.serve(fault, data, script)
-                expect_outcome(name, script, ran, bench.bytes(), status_of(kind))
-                if bench.bytes() not in seen:
-                    seen.add(bench.bytes())
-                    expect_goes_on(name, bench, bench.bytes(), script)
+                ran = rig.serve(fault, data, script)
+                expect_outcome(name, script, ran, rig.bytes(), status_of(kind))
+                if rig.bytes() not in seen:
+                    seen.add(rig.bytes())
+                    expect_goes_on(name, rig, rig.bytes(), script)
 
 
-def expect_unharmed(name, bench, fault, data, script, want):
+def expect_unharmed(name, rig, fault, data, script, want):
     """With this fault the run does what it does without one."""
-    ran = bench.serve(fault, data, script)
-    expect_outcome(name, script, ran, bench.bytes(), model.ENDED)
-    expect(f"{name}, the file", bench.bytes() == want, True)
+    ran = rig.serve(fault, data, script)
+    expect_outcome(name, script, ran, rig.bytes(), model.ENDED)
+    expect(f"{name}, the file", rig.bytes() == want, True)
 
 
 def a_call_that_a_signal_interrupts_is_made_again(folder):
-    bench = Bench(folder)
+    rig = Rig(folder)
     for start, data, script in starts(folder):
-        whole = bench.serve(None, data, script)
-        want = bench.bytes()
+        whole = rig.serve(None, data, script)
+        want = rig.bytes()
         for kind, number in each_call(whole.calls, INTERRUPTED):
             most = TRIES - 1 if kind in STREAMS else 100
             for times in (1, most):
-                expect_unharmed(f"{start}, {kind} {number}, {times} times", bench, Fault(kind, number, "error", errno.EINTR, times), data, script, want)
+                expect_unharmed(f"{start}, {kind} {number}, {times} times", rig, Fault(kind, number, "error", errno.EINTR, times), data, script, want)
             if kind in STREAMS:
                 name = f"{start}, {kind} {number}, {TRIES} times"
-                ran = bench.serve(Fault(kind, number, "error", errno.EINTR, TRIES), data, script)
-                expect_outcome(name, script, ran, bench.bytes(), status_of(kind))
+                ran = rig.serve(Fault(kind, number, "error", errno.EINTR, TRIES), data, script)
+                expect_outcome(name, script, ran, rig.bytes(), status_of(kind))
 
 
 def a_transfer_that_is_short_is_gone_on_with(folder):
-    bench = Bench(folder)
+    rig = Rig(folder)
     for start, data, script in starts(folder):
-        whole = bench.serve(None, data, script)
-        want = bench.bytes()
+        whole = rig.serve(None, data, script)
+        want = rig.bytes()
         for kind, number in each_call(whole.calls, TRANSFERS):
             for times in (1, FOR_EVER):
-                expect_unharmed(f"{start}, {kind} {number}, {times} times", bench, Fault(kind, number, "short", times=times), data, script, want)
+                expect_unharmed(f"{start}, {kind} {number}, {times} times", rig, Fault(kind, number, "short", times=times), data, script, want)
 
 
 def a_formatting_whose_call_fails_is_told_and_can_be_made_again(folder):
-    bench, words, new = Bench(folder), ("format", "4", "1000", "100"), Store(4, 1000, 100)
+    rig, words, new = Rig(folder), ("format", "4", "1000", "100"), Store(4, 1000, 100)
     for start, data in (("no file", None), ("a store", made_over(folder, 4, EARLIER)[0])):
-        bench.has(data)
-        whole = bench.run(None, *words)
+        rig.has(data)
+        whole = rig.run(None, *words)
         expect(start, (whole.out, whole.status), (new.line(), 0))
         for kind, number in each_call(whole.calls):
             for fault in faults_of(kind, number):
                 name = f"{start}, {fault}"
-                bench.has(data)
-                ran = bench.run(fault, *words)
+                rig.has(data)
+                ran = rig.run(fault, *words)
                 status = status_of(kind)
                 expect(name, (ran.out, ran.status, ran.said), (b"" if status else new.line(), status, complaint(status)))
-                again = bench.run(None, *words)
-                expect(f"{name}, again", (again.out, again.status, bench.bytes() == formats.unpublished(new)), (new.line(), 0, True))
+                again = rig.run(None, *words)
+                expect(f"{name}, again", (again.out, again.status, rig.bytes() == formats.unpublished(new)), (new.line(), 0, True))
 
 
 def levels_whose_call_fails_are_told(folder):
-    bench = Bench(folder)
+    rig = Rig(folder)
     for start, data, _ in starts(folder):
-        bench.has(data)
-        whole = bench.run(None, "levels")
+        rig.has(data)
+        whole = rig.run(None, "levels")
         text, status = formats.levels_printed(data)
         expect(start, (whole.out, whole.status), (text, status))
         for kind, number in each_call(whole.calls):
             for fault in faults_of(kind, number):
-                ran = bench.run(fault, "levels")
+                ran = rig.run(fault, "levels")
                 status = status_of(kind)
                 expect(f"{start}, {fault}", (ran.status, ran.said), (status, complaint(status)))
                 expect(f"{start}, {fault}, the text", ran.out, text[:len(ran.out)] if status == model.SINK else b"" if status else text)
-                expect(f"{start}, {fault}, the file", bench.bytes() == data, True)
+                expect(f"{start}, {fault}, the file", rig.bytes() == data, True)
 
 
-def calls_that_strace_sees(bench, words, sent):
+def calls_that_strace_sees(rig, words, sent):
     """The calls of a run on the store's file, its folder and the streams, with what each returned."""
     if not shutil.which("strace"):
         raise Skipped("strace is not here")
-    log = os.path.join(bench.folder, "traced")
-    with open(bench.asked, "wb") as asked:
+    log = os.path.join(rig.folder, "traced")
+    with open(rig.asked, "wb") as asked:
         asked.write(sent)
-    with open(bench.asked, "rb") as asked:
+    with open(rig.asked, "rb") as asked:
         ran = subprocess.run(["strace", "-f", "-o", log, PROGRAM, *words], stdin=asked, capture_output=True, timeout=DEADLINE)
     if not os.path.exists(log) or b"exited with" not in bytes_of(log):
         raise Skipped(f"strace cannot run a program: {ran.stderr.decode().strip()}")
@@ -142,7 +142,7 @@ def calls_that_strace_sees(bench, words, sent):
     for name, fields, result in re.findall(r"^\d+ +(\w+)\((.*)\) += (-?\d+)", bytes_of(log).decode(errors="replace"), re.M):
         path = re.search(r'"(.*?)"', fields)
         if name == "openat" and path:
-            reached[result] = {bench.path: "file", os.path.dirname(bench.path): "folder"}.get(path[1])
+            reached[result] = {rig.path: "file", os.path.dirname(rig.path): "folder"}.get(path[1])
             name, what = "open", reached[result]
         else:
             what = reached.get(fields.split(",")[0])
@@ -153,12 +153,12 @@ def calls_that_strace_sees(bench, words, sent):
 
 
 def the_shim_sees_what_strace_sees(folder):
-    bench = Bench(folder)
+    rig = Rig(folder)
     for start, data, script in starts(folder):
-        ran = bench.serve(None, data, script)
+        ran = rig.serve(None, data, script)
         calls = [(call.kind, call.result) for call in ran.calls if call.kind.split(".")[0] in STATUSES]
-        bench.has(data)
-        traced = list(calls_that_strace_sees(bench, ["serve", bench.path], b"".join(script.frames)))
+        rig.has(data)
+        traced = list(calls_that_strace_sees(rig, ["serve", rig.path], b"".join(script.frames)))
         expect(f"{start}, enough of them", len(calls) > 100, True)
         expect(start, calls, traced)
 

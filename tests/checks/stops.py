@@ -3,7 +3,7 @@
 import collections
 
 import model
-from faulty import KILLED, Bench, Script, changes_in, counts_of, expect_goes_on, expect_outcome, made_over
+from faulty import KILLED, Rig, Script, changes_in, counts_of, expect_goes_on, expect_outcome, made_over
 from model import clone, delete, put
 from program import expect, expect_said
 from shim import Fault
@@ -35,19 +35,19 @@ def writes_of_recovery(calls):
     return counts_of(calls[:reads[0]])["file.write"]
 
 
-def stopped(bench, name, data, script):
+def stopped(rig, name, data, script):
     """What the file may have after a run over these bytes that is stopped, with whether that was amid the writes of its recovery."""
-    whole = bench.serve(None, data, script)
-    expect_outcome(name, script, whole, bench.bytes(), model.ENDED)
+    whole = rig.serve(None, data, script)
+    expect_outcome(name, script, whole, rig.bytes(), model.ENDED)
     recovers = writes_of_recovery(whole.calls)
     for stop in stops_of(whole.calls):
-        ran = bench.serve(stop, data, script)
-        expect_outcome(f"{name}, {stop}", script, ran, bench.bytes(), KILLED)
-        yield bench.bytes(), stop.kind == "file.write" and stop.number <= recovers
+        ran = rig.serve(stop, data, script)
+        expect_outcome(f"{name}, {stop}", script, ran, rig.bytes(), KILLED)
+        yield rig.bytes(), stop.kind == "file.write" and stop.number <= recovers
 
 
 def stops_within_stops_lose_nothing(folder):
-    bench, recoveries = Bench(folder), collections.Counter()
+    rig, recoveries = Rig(folder), collections.Counter()
     for start, earlier in EARLIER.items():
         data, store = made_over(folder, 4, earlier)
         script = Script(store, CHANGES)
@@ -58,14 +58,14 @@ def stops_within_stops_lose_nothing(folder):
                 rest = script.from_change(changes_in(data))
                 if depth > 1:
                     rest = Script(rest.stores[rest.least], rest.frames[:AHEAD])
-                for after, is_recovery in stopped(bench, f"{start}, depth {depth}, state {number}", data, rest):
+                for after, is_recovery in stopped(rig, f"{start}, depth {depth}, state {number}", data, rest):
                     found.add(after)
                     recoveries[depth] += is_recovery
             latest = found - seen
             seen |= found
         for number, data in enumerate(sorted(seen)):
             expect_said(f"{start}, state {number}", data, script.stores[changes_in(data)])
-            expect_goes_on(f"{start}, state {number}", bench, data, script)
+            expect_goes_on(f"{start}, state {number}", rig, data, script)
     expect("stops amid the writes of a recovery, from the second run on", [recoveries[depth] > 0 for depth in (2, 3)], [True, True])
 
 

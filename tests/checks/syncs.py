@@ -3,32 +3,32 @@
 import errno
 
 import model
-from faulty import Bench, changes_in, counts_of, expect_goes_on, expect_outcome, starts
+from faulty import Rig, changes_in, counts_of, expect_goes_on, expect_outcome, starts
 from model import BLOCK
 from program import Wrong, expect, expect_kept
 from shim import Fault
 
 
-def failed_syncs(bench, begun, data, script):
+def failed_syncs(rig, begun, data, script):
     """Runs in which one sync of the file fails: what the file has in the system's memory then, and what it has on the device.
 
     The device has nothing of what was written since the sync before.
     """
-    for number in range(1, counts_of(bench.serve(None, data, script).calls)["file.fdatasync"] + 1):
+    for number in range(1, counts_of(rig.serve(None, data, script).calls)["file.fdatasync"] + 1):
         name, found = f"{begun}, sync {number}", []
         for way in ("error", "drop"):
-            ran = bench.serve(Fault("file.fdatasync", number, way, errno.EIO), data, script)
-            answered = expect_outcome(f"{name}, {way}", script, ran, bench.bytes(), model.DEVICE)
-            found.append(bench.bytes())
+            ran = rig.serve(Fault("file.fdatasync", number, way, errno.EIO), data, script)
+            answered = expect_outcome(f"{name}, {way}", script, ran, rig.bytes(), model.DEVICE)
+            found.append(rig.bytes())
         yield name, *found
 
 
 def a_copy_or_another_mount_after_a_sync_that_failed_loses_nothing(folder):
-    bench = Bench(folder)
+    rig = Rig(folder)
     for begun, data, script in starts(folder):
-        for name, in_memory, on_device in failed_syncs(bench, begun, data, script):
-            expect_goes_on(f"{name}, copied", bench, in_memory, script)
-            expect_goes_on(f"{name}, mounted again", bench, on_device, script)
+        for name, in_memory, on_device in failed_syncs(rig, begun, data, script):
+            expect_goes_on(f"{name}, copied", rig, in_memory, script)
+            expect_goes_on(f"{name}, mounted again", rig, on_device, script)
 
 
 def written_again(on_device, after, calls):
@@ -43,14 +43,14 @@ def written_again(on_device, after, calls):
 
 def a_run_over_what_a_sync_dropped_may_lose_what_it_acknowledged(folder):
     """Why docs/ERRORS.md has the file copied or mounted again: without it a run is served, and a cut of power takes its changes."""
-    bench, lost = Bench(folder), set()
+    rig, lost = Rig(folder), set()
     for begun, data, script in starts(folder):
-        for name, in_memory, on_device in failed_syncs(bench, begun, data, script):
+        for name, in_memory, on_device in failed_syncs(rig, begun, data, script):
             rest = script.from_change(changes_in(in_memory))
-            ran = bench.serve(None, in_memory, rest)
-            answered = expect_outcome(f"{name}, served as it is", rest, ran, bench.bytes(), model.ENDED)
+            ran = rig.serve(None, in_memory, rest)
+            answered = expect_outcome(f"{name}, served as it is", rest, ran, rig.bytes(), model.ENDED)
             try:
-                expect_kept(name, rest, len(rest.frames), written_again(on_device, bench.bytes(), ran.calls))
+                expect_kept(name, rest, len(rest.frames), written_again(on_device, rig.bytes(), ran.calls))
             except Wrong:
                 lost.add(name)
     expect("some of them lose changes", len(lost) > 0, True)
