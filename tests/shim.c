@@ -31,7 +31,7 @@ enum way {
     NONE,  /* the call is made */
     ERROR, /* it is not made, and fails with the error */
     SHORT, /* it transfers half of the bytes */
-    FULL,  /* so at first; then it fails with the error, as on a device that is full */
+    FULL,  /* so at first, if it has two bytes; then it fails with the error, as on a device that is full */
     STOP,  /* the process is killed before it */
     TORN,  /* it transfers half of the bytes, and then the process is killed */
     CUT,   /* all that was written since the last sync is lost, and the process is killed, as by a cut of power */
@@ -141,12 +141,13 @@ static void end_process(const struct call *call)
     syscall(SYS_kill, getpid(), SIGKILL);
 }
 
-static enum way way_of(const char *kind)
+static enum way way_of(const char *kind, long size)
 {
     if (strcmp(kind, fault.kind) != 0 || ++met < fault.number)
         return NONE;
-    bool is_over = fault.times > 0 && met >= fault.number + fault.times;
-    return is_over ? NONE : fault.way == FULL && met > fault.number ? ERROR : fault.way;
+    if (fault.times > 0 && met >= fault.number + fault.times)
+        return NONE;
+    return fault.way == FULL && (met > fault.number || size < 2) ? ERROR : fault.way;
 }
 
 /* Begins a call on what is reached, if that is anything. It ends the process if the fault says so. */
@@ -158,7 +159,7 @@ static struct call begin(const char *what, const char *name, int number, long si
     snprintf(call.kind, sizeof call.kind, "%s.%s", what, name);
     if (number >= 0 && strcmp(what, "file") == 0)
         call.place = syscall(SYS_lseek, number, 0, SEEK_CUR);
-    call.way = way_of(call.kind);
+    call.way = way_of(call.kind, size);
     if (call.way == CUT || call.way == DROP)
         take_back();
     if (call.way == CUT || call.way == STOP)
