@@ -68,7 +68,7 @@ class Rig:
         elif os.path.exists(self.path):
             os.remove(self.path)
 
-    def run(self, fault, *words, sent=b"", **how):
+    def run(self, fault, *words, sent=b""):
         """A run of the program with the file's path behind the first word. Its input is a file, so that it is read the same way each time."""
         for path, data in ((self.log, b""), (self.asked, sent)):
             with open(path, "wb") as file:
@@ -76,7 +76,7 @@ class Rig:
         job, *rest = words
         with open(self.asked, "rb") as asked:
             ran = subprocess.run([PROGRAM, job, self.path, *rest], stdin=asked, capture_output=True, timeout=DEADLINE,
-                                 env={**os.environ, **settings(self.path, fault, self.log)}, **how)
+                                 env={**os.environ, **settings(self.path, fault, self.log)})
         calls = list(calls_in(self.log))
         if not calls:
             raise Skipped("the shim does not get between the program and its C library")
@@ -84,10 +84,10 @@ class Rig:
             raise Wrong(f"{words}: no call met {fault}")
         return Ran(ran.stdout, ran.returncode, ran.stderr, calls)
 
-    def serve(self, fault, data, script, **how):
+    def serve(self, fault, data, script):
         """A run over a file with these bytes that is asked a script."""
         self.has(data)
-        return self.run(fault, "serve", sent=b"".join(script.frames), **how)
+        return self.run(fault, "serve", sent=b"".join(script.frames))
 
     def bytes(self):
         return bytes_of(self.path)

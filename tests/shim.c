@@ -209,10 +209,6 @@ int open(const char *path, int flags, ...)
     return end(&call, number);
 }
 
-/* Programs that are compiled for large files call these two. */
-int open64(const char *path, int flags, ...) __attribute__((alias("open")));
-off64_t lseek64(int number, off64_t to, int from) __attribute__((alias("lseek")));
-
 int statx(int folder, const char *path, int flags, unsigned int mask, struct statx *found)
 {
     struct call call = begin(named(path), "statx", -1, 0);

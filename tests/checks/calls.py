@@ -10,7 +10,7 @@ import formats
 import model
 from faulty import EARLIER, Rig, counts_of, expect_goes_on, expect_outcome, made_over, starts
 from model import Store
-from program import DEADLINE, PROGRAM, Skipped, bytes_of, complaint, expect
+from program import DEADLINE, PROGRAM, Skipped, bytes_of, complaint, expect, expect_alike
 from shim import FOR_EVER, Fault
 
 INTERRUPTED = ("file.open", "file.read", "file.write", "file.fdatasync", "folder.open", "folder.fsync", "input.read", "output.write")
@@ -19,7 +19,13 @@ TRANSFERS = ("file.read", "file.write", *STREAMS)
 
 # What a call that fails leads to, by what it reaches.
 STATUSES = {"file": model.DEVICE, "folder": model.DEVICE, "input": model.SOURCE, "output": model.SINK}
-HARD = (errno.EIO, errno.ENOSPC)
+# These may fail, and the run does what it does without.
+SPARED = {
+    "file.readlink": "a path that can't be looked at is taken as no link, and the first sync refuses one that is",
+    "file.close": "all is synced by then",
+    "folder.close": "it was opened to be synced alone",
+    "input.lseek": "it begins where it stands",
+}
 TRIES = 16  # docs/ERRORS.md: of a read of the input or a write of the output that signals interrupt
 
 
@@ -33,8 +39,7 @@ def each_call(calls, kinds=None):
 
 def status_of(kind):
     """The status of a run in which a call of this kind fails for good."""
-    what, call = kind.split(".")
-    return model.ENDED if call == "close" else STATUSES[what]
+    return model.ENDED if kind in SPARED else STATUSES[kind.split(".")[0]]
 
 
 def faults_of(kind, number):
@@ -99,16 +104,17 @@ def a_formatting_whose_call_fails_is_told_and_can_be_made_again(folder):
     for start, data in (("no file", None), ("a store", made_over(folder, 4, EARLIER)[0])):
         rig.has(data)
         whole = rig.run(None, *words)
-        expect(start, (whole.out, whole.status), (new.line(), 0))
+        expect(start, (whole.out, whole.status), (new.line(), model.ENDED))
         for kind, number in each_call(whole.calls):
             for fault in faults_of(kind, number):
-                name = f"{start}, {fault}"
+                name, status = f"{start}, {fault}", status_of(kind)
                 rig.has(data)
                 ran = rig.run(fault, *words)
-                status = status_of(kind)
-                expect(name, (ran.out, ran.status, ran.said), (b"" if status else new.line(), status, complaint(status)))
+                expect(name, (ran.status, ran.said), (status, complaint(status)))
+                expect(f"{name}, the line", ran.out, new.line()[:len(ran.out)] if status == model.SINK else b"" if status else new.line())
                 again = rig.run(None, *words)
-                expect(f"{name}, again", (again.out, again.status, rig.bytes() == formats.unpublished(new)), (new.line(), 0, True))
+                expect(f"{name}, again", (again.out, again.status), (new.line(), model.ENDED))
+                expect_alike(f"{name}, again", formats.opened(rig.bytes())[1], new)
 
 
 def levels_whose_call_fails_are_told(folder):
@@ -138,28 +144,29 @@ def calls_that_strace_sees(rig, words, sent):
         ran = subprocess.run(["strace", "-f", "-o", log, PROGRAM, *words], stdin=asked, capture_output=True, timeout=DEADLINE)
     if not os.path.exists(log) or b"exited with" not in bytes_of(log):
         raise Skipped(f"strace cannot run a program: {ran.stderr.decode().strip()}")
-    reached = {"0": "input", "1": "output", "2": "complaint"}
+    named = {f'"{rig.path}"': "file", f'"{os.path.dirname(rig.path)}"': "folder"}
+    reached = {"0": "input", "1": "output"}
     for name, fields, result in re.findall(r"^\d+ +(\w+)\((.*)\) += (-?\d+)", bytes_of(log).decode(errors="replace"), re.M):
-        path = re.search(r'"(.*?)"', fields)
-        if name == "openat" and path:
-            reached[result] = {rig.path: "file", os.path.dirname(rig.path): "folder"}.get(path[1])
-            name, what = "open", reached[result]
-        else:
-            what = reached.get(fields.split(",")[0])
+        words = fields.split(", ")
+        what = next((named[word] for word in words if word in named), None)
+        if name == "openat":
+            name, reached[result] = "open", what
+        elif what is None and name != "prlimit64":  # whose first word is a process
+            what = reached.get(words[0])
         if what:
             yield f"{what}.{name}", int(result)
         if name == "close":
-            reached.pop(fields, None)
+            reached.pop(words[0], None)
 
 
 def the_shim_sees_what_strace_sees(folder):
     rig = Rig(folder)
     for start, data, script in starts(folder):
         ran = rig.serve(None, data, script)
-        calls = [(call.kind, call.result) for call in ran.calls if call.kind.split(".")[0] in STATUSES]
+        calls = [(call.kind, call.result if call.result >= 0 else -1) for call in ran.calls if call.kind.split(".")[0] in STATUSES]
         rig.has(data)
         traced = list(calls_that_strace_sees(rig, ["serve", rig.path], b"".join(script.frames)))
-        expect(f"{start}, enough of them", len(calls) > 100, True)
+        expect(f"{start}, enough of them", len(calls) > 80, True)
         expect(start, calls, traced)
 
 

@@ -11,7 +11,7 @@ import subprocess
 import model
 from faulty import Rig, Ran, expect_goes_on, expect_outcome, starts
 from model import BLOCK
-from program import DEADLINE, PROGRAM, Skipped, close, complaint, expect, expect_kept, read_exactly, start
+from program import DEADLINE, PROGRAM, Skipped, close, complaint, expect, expect_kept, read_exactly, run, start
 
 
 def a_file_that_may_grow_no_more_loses_nothing(folder):
@@ -24,8 +24,9 @@ def a_file_that_may_grow_no_more_loses_nothing(folder):
                 signal.signal(signal.SIGXFSZ, signal.SIG_IGN)
                 resource.setrlimit(resource.RLIMIT_FSIZE, (most, most))
 
-            name, ran = f"{begun}, {most} bytes", rig.serve(None, data, script, preexec_fn=limited)
-            expect_outcome(name, script, ran, rig.bytes(), model.DEVICE)
+            rig.has(data)
+            name, got = f"{begun}, {most} bytes", run(["serve", rig.path], input=b"".join(script.frames), preexec_fn=limited)
+            expect_outcome(name, script, Ran(*got, []), rig.bytes(), model.DEVICE)
             expect_goes_on(name, rig, rig.bytes(), script)
 
 

@@ -53,16 +53,16 @@ def stops_within_stops_lose_nothing(folder):
         script = Script(store, CHANGES)
         seen, latest = {data}, {data}
         for depth in range(1, DEPTH + 1):
-            found = set()
+            found, within = set(), set()  # what is in the file after a stop, and after one amid the writes of a recovery
             for number, data in enumerate(sorted(latest)):
                 rest = script.from_change(changes_in(data))
                 if depth > 1:
                     rest = Script(rest.stores[rest.least], rest.frames[:AHEAD])
                 for after, is_recovery in stopped(rig, f"{start}, depth {depth}, state {number}", data, rest):
-                    found.add(after)
+                    (within if is_recovery else found).add(after)
                     recoveries[depth] += is_recovery
-            latest = found - seen
-            seen |= found
+            latest = found - seen | within
+            seen |= latest
         for number, data in enumerate(sorted(seen)):
             expect_said(f"{start}, state {number}", data, script.stores[changes_in(data)])
             expect_goes_on(f"{start}, state {number}", rig, data, script)
