@@ -14,7 +14,6 @@ import os
 import random
 import sys
 import tempfile
-import time
 
 import formats
 import model
@@ -48,47 +47,67 @@ def after_refusals(name, store, frames, ran):
     return now, refused
 
 
-def served_without(rig, name, data, store, frames):
-    """A run in which each allocation is refused in turn, and from then on. How many runs, refusals of commands and refusals to open."""
+def each_refusal(rig, data, *words, sent=b""):
+    """A run over these bytes for each allocation that is refused, and for each from which on all are: its name, and what it did."""
     rig.has(data)
-    sent = b"".join(frames)
-    whole = rig.run(COUNTED, "serve", sent=sent)
-    after_refusals(name, store, frames, whole)
-    found = collections.Counter()
-    for number in range(1, counts_of(whole.calls)["memory.allocate"] + 1):
+    count = counts_of(rig.run(COUNTED, *words, sent=sent).calls)["memory.allocate"]
+    for number in range(1, count + 1):
         for times in (1, FOR_EVER):
-            run = f"{name}, allocation {number}, {times} times"
             rig.has(data)
-            ran = rig.run(Fault("memory.allocate", number, "error", errno.ENOMEM, times), "serve", sent=sent)
+            ran = rig.run(Fault("memory.allocate", number, "error", errno.ENOMEM, times), *words, sent=sent)
+            name = f"{words[0]}, allocation {number}, {times} times"
             if (ran.status, ran.said) not in [(status, complaint(status)) for status in (model.ENDED, model.NO_MEMORY)]:
-                raise Wrong(f"{run}: {ran.status}, {ran.said}")
-            now, refused = after_refusals(run, store, frames, ran)
-            status, got = formats.opened(rig.bytes())
-            expect(f"{run}, the file", status, 0)
-            expect_alike(run, got, now)
-            found.update({"runs": 1, "commands refused": refused, "openings refused": ran.status == model.NO_MEMORY})
+                raise Wrong(f"{name}: {ran.status}, {ran.said}")
+            yield name, ran
+
+
+def served_without(rig, data, store, frames):
+    """How many runs served these frames with allocations refused, and how many commands and openings were refused then."""
+    found = collections.Counter()
+    for name, ran in each_refusal(rig, data, "serve", sent=b"".join(frames)):
+        now, refused = after_refusals(name, store, frames, ran)
+        status, got = formats.opened(rig.bytes())
+        expect(f"{name}, the file", status, model.ENDED)
+        expect_alike(name, got, now)
+        found.update(runs=1, commands=refused, openings=ran.status == model.NO_MEMORY)
+    return found
+
+
+def other_jobs_without(rig, data, *words):
+    """The same of another job: a run that is refused changes no byte, and any other does what it does with memory."""
+    rig.has(data)
+    whole, found = rig.run(None, *words), collections.Counter()
+    want = {model.ENDED: (whole.out, rig.bytes()), model.NO_MEMORY: (b"", data)}
+    for name, ran in each_refusal(rig, data, *words):
+        expect(name, (ran.out, rig.bytes()) == want[ran.status], True)
+        found.update(runs=1, openings=ran.status == model.NO_MEMORY)
     return found
 
 
 def scripts(chance, folder):
     """Stores to begin from, and commands: the openings of cursors and promotions take memory."""
-    for name, mem, earlier, count in (("a new store", 4, 0, 60), ("levels", 4, 60, 60), ("a full journal of 64", 64, 64, 30)):
+    for name, mem, earlier, count in (("a new one", 4, 0, 60), ("one with levels", 4, 60, 60), ("one with a full journal of 64", 64, 64, 30)):
         data, store = made_over(folder, mem, drawn_changes(chance, earlier, 1, 6, 0.1))
         yield name, data, store, drawn_beside_cursors(chance, count, store, 6, 0.1)
 
 
+def rows(rig, seed):
+    """The rows of the table of docs/NUMBERS.md."""
+    for name, data, store, frames in scripts(random.Random(seed), rig.folder):
+        found = served_without(rig, data, store, frames)
+        yield f"`serve` | {name} | {len(frames)}", found
+        for words in (["levels"], ["format", "4", "1000", "100"]):
+            yield f"`{words[0]}` | {name} |", other_jobs_without(rig, data, *words)
+
+
 def main(words):
-    seed, started = int(words[0]) if words else 42, time.monotonic()
     with tempfile.TemporaryDirectory(dir="/dev/shm" if os.access("/dev/shm", os.W_OK) else None) as folder:
         try:
-            rig = Rig(folder)
-            for name, data, store, frames in scripts(random.Random(seed), folder):
-                found = served_without(rig, name, data, store, frames)
-                print(f"{name}: {', '.join(f'{count} {what}' for what, count in found.items())}", flush=True)
+            for what, found in rows(Rig(folder), int(words[0]) if words else 42):
+                print(f"| {what} | {found['runs']} | {found['commands']} | {found['openings']} |", flush=True)
         except (Skipped, Wrong) as why:
             print(f"FAILED: {why}")
             return 1
-    print(f"no refused allocation changed a table; {time.monotonic() - started:.0f} s")
     return 0
 
 
