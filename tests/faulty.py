@@ -69,7 +69,7 @@ class Rig:
             os.remove(self.path)
 
     def run(self, fault, *words, sent=b""):
-        """A run of the program with the file's path behind the first word. Its input is a file, so that it is read the same way each time."""
+        """A run of the program, with the file's path behind the first word. Its input is a file, which is read the same way each time."""
         for path, data in ((self.log, b""), (self.asked, sent)):
             with open(path, "wb") as file:
                 file.write(data)
@@ -114,7 +114,7 @@ def starts(folder):
 
 
 def expect_replies(name, script, ran):
-    """The replies are the model's up to the fault, which is told if the device failed at a command. How many commands were answered."""
+    """The replies are the model's up to the fault, which is told if it was the device's. How many commands were answered."""
     answered = len(bodies_of(ran.out))
     if ran.status == model.ENDED:
         want = script.out
@@ -137,7 +137,9 @@ def expect_outcome(name, script, ran, data, status):
 
 def changes_in(data):
     """How many changes the store has whose file has these bytes."""
-    return formats.opened(data)[1].counts()[2]
+    status, store = formats.opened(data)
+    expect("the file", status, model.ENDED)
+    return store.counts()[2]
 
 
 def expect_goes_on(name, rig, data, script):

@@ -1,4 +1,4 @@
-"""Calls of the system that fail, one after the other, each in every way: what reaches the file, its folder, the input and the output."""
+"""Calls that fail, one after the other, each in every way: those that reach the file, its folder, the input and the output."""
 
 import errno
 import os
@@ -67,36 +67,33 @@ def a_call_that_fails_is_told_and_loses_nothing(folder):
                     expect_goes_on(name, rig, rig.bytes(), script)
 
 
-def expect_unharmed(name, rig, fault, data, script, want):
-    """With this fault the run does what it does without one."""
-    ran = rig.serve(fault, data, script)
-    expect_outcome(name, script, ran, rig.bytes(), model.ENDED)
-    expect(f"{name}, the file", rig.bytes() == want, True)
+def expect_unharmed(name, rig, data, script, want, faults):
+    """With each of these faults a run over these bytes answers all, and leaves the bytes that are wanted."""
+    for fault in faults:
+        ran = rig.serve(fault, data, script)
+        expect_outcome(f"{name}, {fault}", script, ran, rig.bytes(), model.ENDED)
+        expect(f"{name}, {fault}, the file", rig.bytes() == want, True)
 
 
 def a_call_that_a_signal_interrupts_is_made_again(folder):
     rig = Rig(folder)
     for start, data, script in starts(folder):
-        whole = rig.serve(None, data, script)
-        want = rig.bytes()
-        for kind, number in each_call(whole.calls, INTERRUPTED):
+        calls, want = rig.serve(None, data, script).calls, rig.bytes()
+        for kind, number in each_call(calls, INTERRUPTED):
             most = TRIES - 1 if kind in STREAMS else 100
-            for times in (1, most):
-                expect_unharmed(f"{start}, {kind} {number}, {times} times", rig, Fault(kind, number, "error", errno.EINTR, times), data, script, want)
+            expect_unharmed(start, rig, data, script, want, [Fault(kind, number, "error", errno.EINTR, times) for times in (1, most)])
             if kind in STREAMS:
-                name = f"{start}, {kind} {number}, {TRIES} times"
-                ran = rig.serve(Fault(kind, number, "error", errno.EINTR, TRIES), data, script)
-                expect_outcome(name, script, ran, rig.bytes(), status_of(kind))
+                fault = Fault(kind, number, "error", errno.EINTR, TRIES)
+                ran = rig.serve(fault, data, script)
+                expect_outcome(f"{start}, {fault}", script, ran, rig.bytes(), status_of(kind))
 
 
 def a_transfer_that_is_short_is_gone_on_with(folder):
     rig = Rig(folder)
     for start, data, script in starts(folder):
-        whole = rig.serve(None, data, script)
-        want = rig.bytes()
-        for kind, number in each_call(whole.calls, TRANSFERS):
-            for times in (1, FOR_EVER):
-                expect_unharmed(f"{start}, {kind} {number}, {times} times", rig, Fault(kind, number, "short", times=times), data, script, want)
+        calls, want = rig.serve(None, data, script).calls, rig.bytes()
+        for kind, number in each_call(calls, TRANSFERS):
+            expect_unharmed(start, rig, data, script, want, [Fault(kind, number, "short", times=times) for times in (1, FOR_EVER)])
 
 
 def a_formatting_whose_call_fails_is_told_and_can_be_made_again(folder):

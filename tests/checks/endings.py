@@ -1,4 +1,4 @@
-"""Ends of a run at every place: a file that may grow no more, a device that is full, an output that nobody reads, an input that ends."""
+"""Ends of a run at every place: a file that may not grow, a full device, an output that nobody reads, an input that ends."""
 
 import bisect
 import itertools

@@ -1,4 +1,7 @@
-"""A program whose call fails, that is killed, or that ends within a reply, at each command of a script: what the client and the shell say, which changes are there, and that the store opens again."""
+"""A program that fails a call, is killed, or ends within a reply, at each command of a script.
+
+What the client and the shell say then, which changes are there, and that the store opens again.
+"""
 
 from __future__ import annotations
 
@@ -171,8 +174,9 @@ class FaultsTest(StoreCase):
         whole, _, _ = self.shell(script)
         for ending in ENDINGS[2::3]:
             for number in count(1, 2):
-                with self.subTest(ending=ending, number=number), mock.patch.dict(os.environ, CASTLE_PROGRAM=self.failing(ending, number)):
-                    out, said, status = self.shell(script)
+                with self.subTest(ending=ending, number=number):
+                    with mock.patch.dict(os.environ, CASTLE_PROGRAM=self.failing(ending, number)):
+                        out, said, status = self.shell(script)
                     if status == 0:
                         break
                     self.assertEqual((status, out), (1, whole[:len(out)]))
