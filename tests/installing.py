@@ -220,17 +220,26 @@ def the_client_is_a_package_without_a_registry(folder):
 
 # The page
 
-def the_examples_of_how_to_lose_data_are_as_shown(folder):
-    page = (TOP / "docs" / "HOW-TO-LOSE-DATA.md").read_text(encoding="utf-8")
+def expect_examples(folder, page, least):
+    """The commands of a page, at least so many, print what it shows behind each."""
+    text = (TOP / "docs" / page).read_text(encoding="utf-8")
     shutil.copy(TOP / "README.md", folder)
     for name in ("castle", "castle-shell"):
         os.symlink(TOP / name, os.path.join(folder, name))
-    steps = re.findall(r"^\$ (.*)\n((?:(?!\$ ).*\n)*)", "".join(re.findall(r"^```console\n(.*?)^```$", page, re.M | re.S)), re.M)
-    expect("enough of them", len(steps) > 10, True)
+    steps = re.findall(r"^\$ (.*)\n((?:(?!\$ ).*\n)*)", "".join(re.findall(r"^```console\n(.*?)^```$", text, re.M | re.S)), re.M)
+    expect("enough of them", len(steps) >= least, True)
     for command, shown in steps:
         ran = subprocess.run(["/bin/sh", "-c", command], cwd=folder, stdin=subprocess.DEVNULL, stdout=subprocess.PIPE,
                              stderr=subprocess.STDOUT, timeout=DEADLINE)
         expect(command, ran.stdout.decode(), shown)
+
+
+def the_examples_of_how_to_lose_data_are_as_shown(folder):
+    expect_examples(folder, "HOW-TO-LOSE-DATA.md", 11)
+
+
+def what_to_do_after_a_fault_of_the_device_is_as_shown(folder):
+    expect_examples(folder, "ERRORS.md", 5)
 
 
 # Completion
@@ -292,6 +301,7 @@ CHECKS = [
     a_checkout_that_can_not_be_written_is_installed,
     the_client_is_a_package_without_a_registry,
     the_examples_of_how_to_lose_data_are_as_shown,
+    what_to_do_after_a_fault_of_the_device_is_as_shown,
     bash_completes_words_and_files,
     zsh_completes_words_and_files,
 ]

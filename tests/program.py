@@ -12,6 +12,7 @@ import threading
 import time
 
 import formats
+import model
 import promotions
 from model import Store, get, info, open_cursor, stat
 
@@ -299,6 +300,25 @@ def expect_prefix(name, path, store, frames, answered):
     expect_said(name, bytes_of(path), store)
     expect_told(name, path)
     return store
+
+
+def expect_kept(name, history, answered, data):
+    """The bytes open as the store that has what is acknowledged, and at most the change under way. The number of its changes.
+
+    Of the commands that were sent so many were answered. `history` has `least`, how many changes were acknowledged before them, or
+    None if no store was there; `made`, how many changes are made once so many commands are answered; and `stores`, what
+    the store is after each number of changes.
+    """
+    status, got = formats.opened(data)
+    if status == model.NOT_A_STORE and history.least is None and not answered:
+        return 0
+    expect(f"{name}, the file", status, 0)
+    changes, least = got.counts()[2], history.made[answered] if answered else history.least or 0
+    if not least <= changes <= history.made[min(answered + 1, len(history.made) - 1)]:
+        raise Wrong(f"{name}: {changes} changes are there, and {least} are acknowledged")
+    expect_alike(name, got, history.stores[changes])
+    expect(f"{name}, unread", got.unread, set())
+    return changes
 
 
 # Checks

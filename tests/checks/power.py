@@ -8,7 +8,7 @@ import random
 import formats
 import model
 from model import BLOCK, Store, bodies_of, close_cursor, frame, get, info, next_pairs, open_cursor, put, scan, stat
-from program import StoreFile, Wrong, bytes_of, expect, expect_alike, expect_opened, serve
+from program import StoreFile, Wrong, bytes_of, expect, expect_kept, expect_opened, serve
 from samples import drawn_beside_cursors, drawn_changes, folders_of
 from tracing import calls_of, traced
 
@@ -89,20 +89,6 @@ def moments(history, left_out=None):
         elif number != left_out:
             synced, pending = image_of(synced, pending), []
     yield len(history.calls), len(bodies_of(output)), synced, pending
-
-
-def expect_kept(name, history, answered, data):
-    """The bytes open as the store that has what is acknowledged, and at most the change under way. The number of its changes."""
-    status, got = formats.opened(data)
-    if status == model.NOT_A_STORE and history.least is None and not answered:
-        return 0
-    expect(f"{name}, the file", status, 0)
-    changes, least = got.counts()[2], history.made[answered] if answered else history.least or 0
-    if not least <= changes <= history.made[min(answered + 1, len(history.made) - 1)]:
-        raise Wrong(f"{name}: {changes} changes are there, and {least} are acknowledged")
-    expect_alike(name, got, history.stores[changes])
-    expect(f"{name}, unread", got.unread, set())
-    return changes
 
 
 def served_history(folder, name, store, frames):

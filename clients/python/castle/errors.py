@@ -123,7 +123,8 @@ class DeviceFault(Refused):
 
     status = 33
     what = "the device failed; a change that met this was made or it was not"
-    remedy = "Mend the cause (a full or broken device), open the store again, and look whether the change is there."
+    remedy = ("Mend the cause (a full or broken device), copy the file or mount its file system again, open that, and look "
+              "whether the change is there.")
 
 
 class Damaged(Refused):
@@ -226,8 +227,8 @@ class DeviceFailed(Ended):
     status = 5
     text = "device fault"
     what = "the file or its folder could not be opened, read, written or synced"
-    remedy = ("Mend the cause (a missing folder or permission, a full or broken device) and open the store again. "
-              "All that was acknowledged is there.")
+    remedy = ("Mend the cause (a missing folder or permission, a full or broken device). If it came amid a run, copy the file "
+              "or mount its file system again before you open it. All that was acknowledged is there.")
 
 
 class InputFailed(Ended):
@@ -248,7 +249,7 @@ class OutOfMemory(Ended):
     status = 8
     text = "no memory"
     what = "there was too little memory to open the store, which is as it was"
-    remedy = "Make room and try again: it takes 0.7 MB, 3.9 KB for each of M and 75 bytes for each of V."
+    remedy = "Make room and try again: it takes 0.8 MB, 3.9 KB for each of M and 75 bytes for each of V."
 
 
 class StoreDamaged(Ended):

@@ -38,6 +38,17 @@ class PageTest(unittest.TestCase):
             error = kind(file="f.store", command="get a at version 0")
             self.assertRegex(str(error), r"^f\.store: get a at version 0: .+\. [A-Z].+\.$")
 
+    def test_what_to_do_after_a_fault_of_the_device_is_that_of_the_page(self) -> None:
+        what = "copy the file or mount its file system again"
+        self.assertIn(what, ERRORS)
+        for kind in (errors.DeviceFault, errors.DeviceFailed):
+            self.assertIn(what, kind.remedy)
+
+    def test_the_memory_that_an_opening_takes_is_that_of_the_page(self) -> None:
+        takes = re.search(r"`serve` takes ([\d.]+ MB, [\d.]+ KB for each of M),", ERRORS)
+        assert takes
+        self.assertIn(takes[1], errors.OutOfMemory.remedy)
+
 
 class RefusalsTest(StoreCase):
     def refused(self, kind: Type[Refused], *words: object) -> Refused:
