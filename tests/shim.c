@@ -150,21 +150,26 @@ static enum way way_of(const char *kind, long size)
     return fault.way == FULL && (met > fault.number || size < 2) ? ERROR : fault.way;
 }
 
-/* Begins a call on what is reached, if that is anything. It ends the process if the fault says so. */
-static struct call begin(const char *what, const char *name, int number, long size)
+/* Begins a call on what is reached, if that is anything, at this offset. It ends the process if the fault says so. */
+static struct call begin_at(const char *what, const char *name, long place, long size)
 {
-    struct call call = {.place = -1, .size = size};
+    struct call call = {.place = place, .size = size};
     if (what == NULL)
         return call;
     snprintf(call.kind, sizeof call.kind, "%s.%s", what, name);
-    if (number >= 0 && strcmp(what, "file") == 0)
-        call.place = syscall(SYS_lseek, number, 0, SEEK_CUR);
     call.way = way_of(call.kind, size);
     if (call.way == CUT || call.way == DROP)
         take_back();
     if (call.way == CUT || call.way == STOP)
         end_process(&call);
     return call;
+}
+
+/* The same where the file stands, if a number of it is given. */
+static struct call begin(const char *what, const char *name, int number, long size)
+{
+    bool has_place = what != NULL && number >= 0 && strcmp(what, "file") == 0;
+    return begin_at(what, name, has_place ? syscall(SYS_lseek, number, 0, SEEK_CUR) : -1, size);
 }
 
 /* Whether the call is not made and fails. It sets errno then. */
@@ -240,6 +245,31 @@ ssize_t write(int number, const void *bytes, size_t size)
         return end(&call, -1);
     keep(&call, number);
     return end(&call, syscall(SYS_write, number, bytes, portion(&call)));
+}
+
+ssize_t pread(int number, void *into, size_t size, off_t at)
+{
+    struct call call = begin_at(reached_by(number), "read", at, size);
+    return end(&call, fails(&call) ? -1 : syscall(SYS_pread64, number, into, portion(&call), at));
+}
+
+ssize_t pread64(int number, void *into, size_t size, off64_t at)
+{
+    return pread(number, into, size, at);
+}
+
+ssize_t pwrite(int number, const void *bytes, size_t size, off_t at)
+{
+    struct call call = begin_at(reached_by(number), "write", at, size);
+    if (fails(&call))
+        return end(&call, -1);
+    keep(&call, number);
+    return end(&call, syscall(SYS_pwrite64, number, bytes, portion(&call), at));
+}
+
+ssize_t pwrite64(int number, const void *bytes, size_t size, off64_t at)
+{
+    return pwrite(number, bytes, size, at);
 }
 
 static int synced(int number, const char *name, long system_call)
