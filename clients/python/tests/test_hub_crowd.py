@@ -14,7 +14,7 @@ from castle import Store
 
 CLIENTS = 50
 KILLED = range(0, CLIENTS, 4)
-TURNS = 40  # of a client that is not killed
+TURNS = 30  # of a client that is not killed
 SHARED_KEYS = [b"shared/%d" % number for number in range(5)]
 FOREVER = float("inf")
 
