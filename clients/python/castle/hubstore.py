@@ -117,6 +117,10 @@ class NoNames(Names):
         """A `NotOverHub`."""
         _refuse_names(self._store)
 
+    def check_readable(self) -> None:
+        """A `NotOverHub`, so that no whole store is dumped without its names."""
+        _refuse_names(self._store)
+
     def __getitem__(self, name: str) -> int:
         _refuse_names(self._store)
 

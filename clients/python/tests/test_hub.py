@@ -265,7 +265,9 @@ class InterfaceTest(HubCase):
         calls = (store.levels, lambda: store.names["a"], lambda: store.names.update(a=0), lambda: store.names.__delitem__("a"),
                  lambda: store.get("a", "k"), lambda: store.clone("a"), lambda: store.at("a"), lambda: "a" in store.names,
                  lambda: Store.format(self.address, 4, 10, 10), lambda: Store.format(os.fsencode(self.address), 4, 10, 10),
-                 lambda: Store(self.address, read_only=True), lambda: Store(self.address, "castle"))
+                 lambda: Store(self.address, read_only=True), lambda: Store(self.address, "castle"),
+                 lambda: store.snapshot("a", "b"), lambda: store.release("a", "b"),
+                 lambda: store.dump_all(os.path.join(self.folder, "dump")), lambda: store.load_all(__file__))
         for call in calls:
             with self.assertRaisesRegex(errors.NotOverHub, f"^{self.address}: .*can't be had over a hub. [A-Z]"):
                 call()
