@@ -1,5 +1,5 @@
 -- What a commit of staged changes makes of a run.
-use Rattle.std.proofs.Common.{◌≡◌, ◌≢◌, ◌≤◌, ℕ, zero, suc, ◌+◌, true, false, true≢false, List, [], ◌∷◌, ◌++◌, length, map, Option, Some, None, refl, sym, ap, subst, ◌∙◌, inl, inr, append-nil, arith}
+use Rattle.std.proofs.Common.{◌≡◌, ◌≤◌, ℕ, true, false, true≢false, List, [], ◌∷◌, ◌++◌, length, refl, sym, ap, subst, ◌∙◌, inl, inr, append-nil, arith}
 use Rattle.std.specs.Prelude.{Contains, IfSome}
 use Rattle.std.specs.List.{AllByRecursion}
 use Rattle.std.proofs.lemmas.Bool.{and_parts}
@@ -8,32 +8,27 @@ use Rattle.std.proofs.lemmas.List.Elements.{Contains-append_right}
 use Rattle.strat_base.specs.Change.{Change}
 use Rattle.strat_base.specs.declared.descriptors.ArrayDesc.{ArrayDesc}
 use Rattle.def_crash.specs.Faults.{Rose}
-use Rattle.def_crash.specs.Moments.{DiskView, Images, Passes}
-use Rattle.def_crash.specs.Trail.{Trail}
+use Rattle.def_crash.specs.Moments.{Images, Passes}
 use Rattle.strat_cursor.specs.Looking.{arrays_there}
 use Rattle.strat_model.specs.Answer.{accepts, refusal}
-use Rattle.strat_model.specs.Batch.{IsChangeMade}
-use Rattle.strat_model.specs.Run.{Position, Response, AnswersByTable, AnswersFault, Exchange, IsAfter, IsRun, is_carried_out, is_change}
+use Rattle.strat_model.specs.Run.{Position, Response, AnswersByTable, Exchange, IsAfter, IsRun, is_carried_out, is_change}
 use Rattle.strat_model.specs.Step.{step}
 use Rattle.strat_model.specs.Stream.{IsBody}
-use Rattle.strat_model.specs.Table.{Cursor, Table}
+use Rattle.strat_model.specs.Table.{Cursor}
 use Rattle.strat_model.specs.declared.replies.Refusal.TheVariants as why
 use Rattle.strat_model.specs.declared.replies.Reply.{Reply}
 use Rattle.strat_model.specs.declared.replies.Reply.TheVariants as reply
-use Rattle.def_meaning.specs.StateTable.{table_of}
 use Rattle.def_publish.specs.Appending.{with_batch}
 use Rattle.def_publish.specs.Contents.{Contents, contents_state, with_journal}
-use Rattle.def_publish.specs.Standing.{ShowsTable}
-use Rattle.strat_memory.specs.Held.{Held, IsConsistent, IsOnDisk, StandsAt, StandsWith, arrays_held, position_at}
+use Rattle.strat_memory.specs.Held.{Held, IsConsistent, StandsAt, StandsWith, position_at}
 use Rattle.strat_memory.specs.Memory.{table_with}
 use Rattle.strat_publish.specs.Settling.{LeavesPublished}
-use Rattle.strat_store.specs.Staging.{FollowsBatch, IsStagedAt, held_joined, position_staged}
-use Rattle.strat_serve.specs.Grouping.{StagesBodies, StagesBody}
-use Rattle.strat_serve.specs.Session.{WritesNothing}
+use Rattle.strat_store.specs.Staging.{FollowsBatch, held_joined, position_staged}
+use Rattle.strat_serve.specs.Grouping.{StagesBodies}
 use Rattle.strat_serve.specs.World.{World}
 use Rattle.strat_serve.proofs.GroupLemmas.{GroupBroken, GroupMade}
 use Rattle.strat_serve.proofs.ProgressLemmas.{still_on}
-use Rattle.strat_serve.proofs.StagedLemmas.{HasStaged, IsStagedRun, StagesAt, asks_for, has_staged, one_at, one_by, one_few, one_few_after, one_staged, one_writes, staged_answered, staged_count, staged_few, staged_quiet, staged_run}
+use Rattle.strat_serve.proofs.StagedLemmas.{HasStaged, IsStagedRun, StagesAt, asks_for, has_staged, one_at, one_by, one_few, one_few_after, one_writes, staged_answered, staged_count, staged_few, staged_quiet, staged_run}
 
 -- where nothing is staged the position with what is staged is that of the store
 staged_none : (s : Held) (x : Contents) (rows : List Cursor) → s.log.batch ≡ [] → position_staged s x rows ≡ position_at s x rows

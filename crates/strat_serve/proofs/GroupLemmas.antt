@@ -1,11 +1,10 @@
 -- A batch of a serving run: its changes become durable together, or fail together.
-use Rattle.std.proofs.Common.{◌≡◌, ◌≢◌, ◌≤◌, ◌<◌, ℕ, ◌+◌, ◌-◌, ◌&&◌, true, false, true≢false, eqb, List, [], ◌∷◌, ◌++◌, length, take, map, Option, Some, None, refl, sym, ap, subst, ◌∙◌, ◌⊎◌, inl, inr, append_assoc, append-nil, length-append, arith}
+use Rattle.std.proofs.Common.{◌≡◌, ◌≤◌, ℕ, ◌+◌, false, List, [], ◌∷◌, ◌++◌, length, take, map, Option, Some, None, refl, sym, ap, subst, ◌∙◌, inr, append_assoc, append-nil, length-append, arith}
 use Rattle.std.specs.Prelude.{Contains, IfSome, IsSome}
 use Rattle.std.specs.List.{flat_map, AllByRecursion}
 use Rattle.std.proofs.lemmas.Bool.{or_left, or_right}
 use Rattle.std.proofs.lemmas.List.{length-map, map-append, take_at}
 use Rattle.std.proofs.lemmas.List.Concat.{flat_map-append}
-use Rattle.strat_base.specs.Change.{Change}
 use Rattle.strat_base.specs.Numbers.{AreBytes}
 use Rattle.strat_base.specs.declared.descriptors.ArrayDesc.{ArrayDesc}
 use Rattle.strat_base.specs.declared.failures.Fault.{Fault}
@@ -24,12 +23,11 @@ use Rattle.strat_model.specs.Faults.{fault_told}
 use Rattle.strat_model.specs.declared.ended.Ended.{Ended}
 use Rattle.strat_model.specs.declared.ended.Ended.TheVariants as ended
 use Rattle.strat_model.specs.declared.replies.Refusal.TheVariants as why
-use Rattle.strat_model.specs.Answer.{Answer, refusal, accepts}
-use Rattle.strat_model.specs.Batch.{AsksForChange, Continuation, IsBatch, IsChangeMade, IsDeviceFault, tables_before}
+use Rattle.strat_model.specs.Answer.{Answer, refusal}
+use Rattle.strat_model.specs.Batch.{AsksForChange, Continuation, IsBatch, tables_before}
 use Rattle.strat_model.specs.Stream.{frame, IsBody, is_partial, is_too_long}
-use Rattle.strat_model.specs.Step.{step}
 use Rattle.strat_model.specs.Table.{Cursor, Table, bare}
-use Rattle.strat_model.specs.Run.{Position, Response, AnswersFault, Exchange, Interruption, IsRun, Transcript, bodies_of, is_change, response_bytes, sent_bytes}
+use Rattle.strat_model.specs.Run.{Position, Response, AnswersFault, Exchange, Interruption, IsRun, Transcript, bodies_of, response_bytes, sent_bytes}
 use Rattle.def_meaning.specs.StateTable.{table_of}
 use Rattle.def_publish.specs.Contents.{Contents, contents_state}
 use Rattle.def_publish.specs.Standing.{ShowsTable}
@@ -38,7 +36,7 @@ use Rattle.strat_memory.specs.Held.{Held, IsConsistent, IsOnDisk, StandsAt, arra
 use Rattle.def_state.specs.State.{IsPaid}
 use Rattle.strat_memory.specs.Paying.{IsPaidIn, ArePaidSince}
 use Rattle.strat_serve.specs.Progress.{ServesSoFar, RunSoFar, Meets, waiting}
-use Rattle.strat_serve.specs.Session.{AreAnsweredBy, AreCalm, AreNextIn, EndsFor, FollowsRun, IsSession, SendsPrefix, Sends, Served, Session, Took, WaitsForNone, WritesNothing, all_responses, output}
+use Rattle.strat_serve.specs.Session.{AreAnsweredBy, AreCalm, EndsFor, FollowsRun, IsSession, SendsPrefix, Sends, Served, Session, Took, WaitsForNone, WritesNothing, output}
 use Rattle.strat_serve.specs.World.{World}
 use Rattle.strat_serve.proofs.ProgressLemmas.{ahead_more, ahead_within, calm_front, few_all, few_held, follows_more, goes_from, paid_so_far, sent_then}
 use Rattle.strat_serve.proofs.PublishedLemmas.{held_then}

@@ -1,29 +1,25 @@
 -- Changes that were staged one after the other, as exchanges of a run.
-use Rattle.std.proofs.Common.{◌≡◌, ◌≤◌, ◌<◌, ℕ, zero, suc, ◌+◌, ◌&&◌, Bool, true, false, ltb, true≢false, List, [], ◌∷◌, ◌++◌, length, map, Option, Some, None, refl, sym, ap, subst, ◌∙◌, ◌⊎◌, inl, inr, append_assoc, append-nil, length-append, arith}
+use Rattle.std.proofs.Common.{◌≡◌, ◌≤◌, ◌<◌, ℕ, zero, suc, ◌+◌, ◌&&◌, true, ltb, true≢false, List, [], ◌∷◌, ◌++◌, length, map, Option, Some, None, refl, sym, ap, subst, ◌∙◌, ◌⊎◌, inl, inr, length-append, arith}
 use Rattle.std.specs.Prelude.{slice_get, is_none}
 use Rattle.std.specs.List.{AllByRecursion}
 use Rattle.std.proofs.lemmas.Bool.{and_parts, ltb-true}
-use Rattle.std.proofs.lemmas.List.Concat.{flat_map-append}
 use Rattle.strat_base.specs.Change.{Change, Put, Delete, Clone, DropVersion}
 use Rattle.strat_base.specs.Numbers.{be}
 use Rattle.strat_base.specs.Tree.{Parents}
 use Rattle.strat_base.proofs.NumberLemmas.{length-be}
 use Rattle.def_state.specs.State.{tree_after}
 use Rattle.def_crash.specs.Moments.{DiskView}
-use Rattle.strat_cursor.specs.Held.{HeldCursors}
-use Rattle.strat_model.specs.Answer.{Answer, plain, accepts}
+use Rattle.strat_model.specs.Answer.{Answer, plain}
 use Rattle.strat_model.specs.Batch.{IsChangeMade}
 use Rattle.strat_model.specs.Faults.{fault_told}
 use Rattle.strat_model.specs.Request.{Request}
 use Rattle.strat_model.specs.Request as request
-use Rattle.strat_model.specs.Run.{Position, Response, Exchange, Answers, AnswersByTable, IsAfter, IsRun, is_carried_out, is_change, reaches_disk, takes_memory, response_bytes, sent_bytes}
-use Rattle.strat_model.specs.Step.{step}
+use Rattle.strat_model.specs.Run.{Response, Exchange, AnswersByTable, IsAfter, IsRun, is_change, reaches_disk, takes_memory}
 use Rattle.strat_model.specs.Stream.{frame}
 use Rattle.strat_model.specs.Spelling.{reply_body}
 use Rattle.strat_model.specs.Table.{Cursor}
 use Rattle.strat_model.specs.declared.replies.Reply.{Reply}
 use Rattle.strat_model.specs.declared.replies.Reply.TheVariants as reply
-use Rattle.strat_base.specs.declared.failures.Fault.{Fault}
 use Rattle.def_publish.specs.Contents.{Contents}
 use Rattle.strat_memory.specs.Held.{Held, StandsAt}
 use Rattle.strat_memory.specs.Memory.{KeepsRows, Memory, memory_after, refusal_of_change}
@@ -31,7 +27,7 @@ use Rattle.strat_store.specs.Applying.{change_wanted, may_write}
 use Rattle.strat_store.specs.Ranging.{HasPairsFor, HasPairs, page_limit}
 use Rattle.strat_store.specs.Staging.{IsStaged, IsStagedAt, has_place, may_stage, position_staged, replies_over, replies_staged, reply_over, takes_staged, with_staged}
 use Rattle.strat_serve.specs.Grouping.{StagesBodies, StagesBody}
-use Rattle.strat_serve.specs.Session.{AreAnsweredBy, AreCalm, RespondsTo, WritesNothing}
+use Rattle.strat_serve.specs.Session.{AreAnsweredBy, RespondsTo, WritesNothing}
 
 -- a reply tells that a change was made
 abbrev pub TellsMade : Reply → Type 0

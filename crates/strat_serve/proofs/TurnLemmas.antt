@@ -1,8 +1,8 @@
 -- What is met behind the frames of a turn.
-use Rattle.std.proofs.Common.{◌≡◌, ◌<◌, ◌≤◌, ℕ, ◌+◌, true, false, true≢false, Option, Some, None, refl, List, [], ◌∷◌, ◌++◌, length, ◌∙◌, sym, ap, subst, length-append, arith}
+use Rattle.std.proofs.Common.{◌≡◌, ◌<◌, ℕ, true, false, true≢false, Option, Some, None, refl, List, ◌++◌, length, ◌∙◌, sym, ap, subst, length-append, arith}
 use Rattle.std.specs.List.{flat_map}
 use Rattle.std.specs.Prelude.{IfSome, OnErr, OnOk, Result, Ok, Err, is_err, is_ok, is_some}
-use Rattle.strat_base.specs.Numbers.{AreBytes, be}
+use Rattle.strat_base.specs.Numbers.{be}
 use Rattle.strat_base.proofs.NumberLemmas.{length-be}
 use Rattle.strat_frame.specs.Deframing.{Deframing, TakesFrame}
 use Rattle.strat_frame.specs.declared.deframer.Next.{Next}

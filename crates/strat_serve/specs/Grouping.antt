@@ -1,5 +1,5 @@
 -- Changes that a serving run stages one after the other, to make them durable together.
-use Rattle.std.specs.Prelude.{◌≡◌, ℕ, Bool, true, false, List, [], ◌∷◌, ◌++◌, length, Option, Some, slice_get}
+use Rattle.std.specs.Prelude.{◌≡◌, ℕ, true, List, [], ◌∷◌, ◌++◌, length, Some, slice_get}
 use Rattle.std.specs.List.{flat_map, AllByRecursion}
 use Rattle.strat_base.specs.Change.{Change}
 use Rattle.strat_frame.specs.Deframing.{Deframing}

@@ -1,16 +1,16 @@
-use Rattle.std.proofs.Common.{◌≡◌, ◌<◌, ℕ, List, [], ◌++◌, length, Option, Some, None, refl, sym, ap, subst, ◌∙◌, arith}
+use Rattle.std.proofs.Common.{◌≡◌, ◌<◌, ℕ, List, ◌++◌, length, Option, Some, None, refl, sym, ap, subst, ◌∙◌, arith}
 use Rattle.std.specs.Prelude.{is_some}
 use Rattle.strat_base.specs.declared.failures.Fault.{Fault}
 use Rattle.strat_base.specs.declared.failures.Fault.TheVariants as fault
 use Rattle.strat_model.specs.Stream.{frame}
-use Rattle.strat_serve.specs.Progress.{ServesSoFar, waiting}
+use Rattle.strat_serve.specs.Progress.{ServesSoFar}
 use Rattle.strat_serve.specs.Session.{IsAnswered}
 use Rattle.strat_serve.specs.World.{Streams, World, beside, world}
 use Rattle.strat_serve.proofs.GiveUpLemmas.{caused_by_fault}
 use Rattle.strat_serve.proofs.ProgressLemmas.{Answered}
 use Rattle.strat_serve.proofs.SendLemmas.{frame_shrinks}
 use Rattle.strat_serve.proofs.SessionLemmas.{ends_broken, ends_unsent, goes_on}
-use Rattle.strat_serve.proofs.TurnLemmas.{Met, met_next}
+use Rattle.strat_serve.proofs.TurnLemmas.{met_next}
 use Rattle.strat_serve.proofs.answering.serve_alone.Given.{Over}
 use Rattle.strat_serve.proofs.answering.serve_alone.Goals as goal
 use Rattle.strat_serve.proofs.answering.serve_alone.Goals.{After-next, After-send}

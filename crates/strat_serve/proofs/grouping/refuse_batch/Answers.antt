@@ -3,7 +3,7 @@ use Rattle.strat_model.specs.declared.replies.Reply.TheVariants as reply
 use Rattle.strat_model.specs.declared.replies.Refusal.TheVariants as why
 use Rattle.strat_model.specs.Answer.{as_told, refusal}
 use Rattle.strat_model.specs.Pairs.{Pairs}
-use Rattle.strat_model.specs.Run.{Response, response_bytes}
+use Rattle.strat_model.specs.Run.{response_bytes}
 use Rattle.strat_model.specs.Spelling.{reply_body}
 use Rattle.strat_model.specs.Stream.{frame}
 use Rattle.strat_serve.proofs.SendLemmas.{on_err, sends_prefix}

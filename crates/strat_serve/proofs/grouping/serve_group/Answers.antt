@@ -1,9 +1,7 @@
-use Rattle.std.proofs.Common.{◌≡◌, ◌<◌, ◌≤◌, ℕ, Bool, List, [], ◌∷◌, ◌++◌, length, true, false, refl, sym, ap, subst, ◌∙◌, append_assoc, arith}
+use Rattle.std.proofs.Common.{◌≡◌, ℕ, Bool, List, ◌∷◌, ◌++◌, true, false, refl, sym, ap, subst, ◌∙◌, append_assoc, arith}
 use Rattle.std.specs.Prelude.{is_err, is_ok}
 use Rattle.std.specs.List.{flat_map, AllByRecursion}
-use Rattle.def_crash.specs.Faults.{Rose}
-use Rattle.def_publish.specs.Contents.{Contents}
-use Rattle.strat_memory.specs.Held.{Held, IsConsistent, StandsWith}
+use Rattle.strat_memory.specs.Held.{Held, IsConsistent}
 use Rattle.strat_model.specs.Answer.{refusal}
 use Rattle.strat_model.specs.declared.replies.Refusal.TheVariants as why
 use Rattle.strat_model.specs.Run.{Response, response_bytes, sent_bytes}
@@ -12,7 +10,7 @@ use Rattle.strat_publish.specs.Settling.{LeavesPublished}
 use Rattle.strat_store.specs.Staging.{FollowsBatch, held_joined, reply_of_commit}
 use Rattle.strat_io.specs.Streams.{Appends}
 use Rattle.strat_serve.specs.Grouping.{StagesBodies, StagesBody}
-use Rattle.strat_serve.specs.Progress.{ServesSoFar, Meets, waiting}
+use Rattle.strat_serve.specs.Progress.{Meets, waiting}
 use Rattle.strat_serve.specs.Session.{SendsPrefix}
 use Rattle.strat_serve.specs.World.{Streams, World, beside, world}
 use Rattle.strat_serve.proofs.CommittedLemmas.{group_broken, group_made}

@@ -1,9 +1,9 @@
-use Rattle.std.proofs.Common.{◌≡◌, ◌≤◌, ◌<◌, ◌+◌, ℕ, List, [], ◌++◌, take, length, refl, sym, ap, subst, ◌∙◌, length-take, arith}
+use Rattle.std.proofs.Common.{◌≡◌, ◌≤◌, ◌<◌, ◌+◌, ℕ, List, [], take, length, refl, sym, ap, subst, ◌∙◌, length-take, arith}
 use Rattle.strat_base.specs.Numbers.{AreBytes}
 use Rattle.def_crash.specs.Faults.{Rose}
 use Rattle.strat_frame.specs.declared.deframer.Next.{Next}
 use Rattle.strat_frame.specs.declared.deframer.Next.TheVariants as next
-use Rattle.strat_model.specs.Stream.{is_partial, is_too_long}
+use Rattle.strat_model.specs.Stream.{is_partial}
 use Rattle.def_crash.proofs.MomentLemmas.{passes_trans, passes_refl}
 use Rattle.strat_serve.specs.Progress.{Meets, ServesSoFar, waiting}
 use Rattle.strat_serve.specs.Session.{Took}
