@@ -15,3 +15,7 @@ pub mod SeveralLemmas
 pub mod StreamLemmas
 pub mod StreamedLemmas
 pub mod TableLemmas
+pub mod StagedLemmas
+pub mod GroupLemmas
+pub mod CommittedLemmas
+pub mod TurnLemmas

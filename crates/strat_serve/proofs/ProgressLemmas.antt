@@ -1,6 +1,6 @@
 -- A serving run while it goes on.
 use Rattle.std.proofs.Common.{◌≡◌, ◌≢◌, ◌≤◌, ◌<◌, ℕ, ◌+◌, true, false, List, [], ◌∷◌, ◌++◌, length, take, drop, map, Option, Some, None, refl, sym, ap, subst, ◌∙◌, ◌⊎◌, inl, inr, append_assoc, length-append, arith}
-use Rattle.std.specs.Prelude.{Contains, IfSome, Ok, is_some}
+use Rattle.std.specs.Prelude.{Contains, IfSome, is_some}
 use Rattle.std.specs.List.{flat_map, AllByRecursion}
 use Rattle.std.proofs.lemmas.Bool.{and_right}
 use Rattle.std.proofs.lemmas.List.{append-nil, length-map, map-append, take_all, take-append-drop, take-append-le}
@@ -26,69 +26,28 @@ use Rattle.strat_model.specs.declared.replies.Reply.{Reply}
 use Rattle.strat_model.specs.declared.replies.Reply.TheVariants as reply
 use Rattle.strat_model.specs.Answer.{Answer}
 use Rattle.strat_model.specs.Stream.{frame, IsBody, is_partial}
-use Rattle.strat_model.specs.Table.{Cursor, Table, bare}
+use Rattle.strat_model.specs.Table.{Table, bare}
 use Rattle.strat_model.specs.Batch.{tables_before}
 use Rattle.strat_model.specs.Run.{Position, Response, response_bytes, Exchange, Answers, IsRun, is_change, sent_bytes}
 use Rattle.strat_promote.specs.Job.{blocks_listed}
-use Rattle.def_recovery.specs.Opening.{recover}
 use Rattle.def_meaning.specs.StateTable.{table_of}
 use Rattle.def_publish.specs.Contents.{Contents, contents_state}
 use Rattle.def_publish.specs.Standing.{ShowsTable}
 use Rattle.strat_publish.specs.Outcomes.{IsDamagedIn}
 use Rattle.strat_open.specs.Following.{ChangesGateAlone, FollowsFrom, IsOpenedAs}
-use Rattle.strat_memory.specs.Held.{Held, IsConsistent, IsOnDisk, StandsAt, StandsWith, arrays_held, head_held, position_at}
-use Rattle.strat_publish.specs.Settling.{carries_out}
+use Rattle.strat_memory.specs.Held.{Held, IsConsistent, IsOnDisk, StandsWith, arrays_held, position_at}
+use Rattle.strat_publish.specs.Settling.{KeepsPublished, carries_out}
 use Rattle.def_state.specs.State.{IsPaid}
 use Rattle.strat_memory.specs.Paying.{IsPaidIn, ArePaidSince}
 use Rattle.strat_publish.proofs.LaidLemmas.{kept_on}
 use Rattle.strat_memory.proofs.OnDiskLemmas.{read_on}
 use Rattle.strat_memory.proofs.PayingLemmas.{paid_now, paid_reads, paid_then, stored_since}
-use Rattle.strat_serve.specs.Session.{Took, IsAtEnd, Begins, RespondsTo, AreAnsweredBy, AreCalm, WritesNothing, IsAnswered, ContinuesWith, StopsWith, FailsAsMet, WaitsForNone, WasPublished}
+use Rattle.strat_serve.specs.Session.{Took, IsAtEnd, RespondsTo, AreAnsweredBy, AreCalm, WritesNothing, IsAnswered, ContinuesWith, StopsWith, FailsAsMet, WaitsForNone}
+use Rattle.strat_serve.specs.Progress.{ServesSoFar, RunSoFar}
 use Rattle.strat_serve.specs.World.{World}
 use Rattle.strat_serve.proofs.AnswerLemmas.{told_damaged}
 use Rattle.strat_serve.proofs.BeginLemmas.{opens_begins, stands_bare}
 use Rattle.strat_serve.proofs.PublishedLemmas.{held_at_first, held_then}
-
--- a serving run so far, where the disk exposes a content that shows a table: these bodies were answered so by the table, and the store stands where
--- that leads
-pub record RunSoFar (start current : Held) (before now : DiskView) (f : Image) (t : Table) (bodies : List (List ℕ)) (answers : List Response) : Type 0 where
-  pub from : Position
-  pub begins : Begins f start.log.mem from
-  pub table : from.table ≡ t
-  pub contents : Contents
-  pub rows : List Cursor
-  pub exchanges : List Exchange
-  pub run : IsRun start.log.mem from exchanges (position_at current contents rows)
-  pub region : AllByRecursion (λ (x : Exchange). x.at.fill ≤ start.log.mem) exchanges
-  pub bodies_are : map (λ (x : Exchange). x.body) exchanges ≡ bodies
-  pub answers_are : map (λ (x : Exchange). x.response) exchanges ≡ answers
-  pub stands : StandsAt now current contents rows
-  pub follows : FollowsFrom before now f (tables_before exchanges ++ table_of (contents_state contents) ∷ []) (length exchanges)
-
--- a serving run so far: all whole frames in front of the bytes held were answered, the replies sent, and the changes kept
-pub record Progress (start current : Held) (count : ℕ) (held : List ℕ) (before now : World) : Type 0 where
-  pub taken : List ℕ
-  pub counted : length taken ≡ count
-  pub took : Took before.left now.left taken
-  pub bodies : List (List ℕ)
-  pub answers : List Response
-  pub answered : AreAnsweredBy bodies answers
-  pub quiet : AllByRecursion (λ (r : Response). fault_told r.answer.reply ≡ None) answers
-  pub parts : taken ≡ flat_map frame bodies ++ held
-  pub each : AllByRecursion IsBody bodies
-  pub ahead : WaitsForNone taken bodies (length bodies)
-  pub sent : Appends before.held now.held (sent_bytes answers)
-  pub found : (f : Image) → before.disk.content ≡ Some f → recover f ≡ Ok (Some (head_held start))
-  pub mem : current.log.mem ≡ start.log.mem
-  pub lawful : IsConsistent current
-  pub going : current.spent ≡ false
-  pub calm : now.disk_faults ≡ before.disk_faults
-  pub passes : Passes before.disk now.disk
-  pub on_disk : (f : Image) → before.disk.content ≡ Some f → IsOnDisk now.disk current
-  pub named : (f : Image) → before.disk.content ≡ Some f → (a : ArrayDesc) → Contains (arrays_held current.memory current.levels) a → WasPublished before.disk now.disk a
-  pub still : AreCalm bodies answers → (f : Image) → before.disk.content ≡ Some f
-      → (slot : ℕ) × (sb : Super) × ChangesGateAlone before.disk now.disk f slot sb
-  pub runs : (f : Image) (t : Table) → before.disk.content ≡ Some f → ShowsTable f t → RunSoFar start current before.disk now.disk f t bodies answers
 
 -- what was read was taken from the source
 pub took_piece : (before now : Option (List ℕ)) (into more : List ℕ) (n : ℕ) → Gives before now into n → n ≤ length into → Took before now (take n (into ++ more))
@@ -117,6 +76,20 @@ took_then a b c x y first second = record {
       (two.0, one.1 ∙ ap (λ (z : List ℕ). x ++ z) two.1 ∙ sym (append_assoc x y two.0), two.2);
   hidden = λ e. second.hidden (first.hidden e);
 }
+
+-- bytes were sent one after the other
+pub sent_then : (a b c : Option (List ℕ)) (x y : List ℕ) → Appends a b x → Appends b c y → Appends a c (x ++ y)
+sent_then a b c x y first second = appends_then a b c x y first second
+
+-- a store that holds the superblock and the manifest of another is on the disk where that one is
+pub still_on : (v : DiskView) (s t : Held) → KeepsPublished s t → IsOnDisk v s → IsOnDisk v t
+still_on v s t same on = kept_on v s t same on
+
+-- the contents at which a run stands so far are paid for, where those at its start are
+pub paid_so_far : (start current : Held) (before now : DiskView) (f : Image) (t : Table) (bodies : List (List ℕ)) (answers : List Response) (so_far : RunSoFar start current before now f t bodies answers)
+    → IsPaidIn f → IsPaid (contents_state so_far.contents)
+paid_so_far start current before now f t bodies answers so_far first =
+    paid_now now so_far.follows.synced so_far.contents so_far.stands.stands.stands so_far.follows.till (so_far.follows.paid first)
 
 -- nothing was taken
 pub took_none : (s : Option (List ℕ)) → Took s s []
@@ -168,7 +141,7 @@ answered_more (b ∷ bs) (r ∷ rs) body response all is = (all.0, answered_more
 
 -- a run begins with the store that was opened
 pub begins : (s : Held) (held : List ℕ) (before : World) (disk : DiskView) (faults : ℕ) → held ≡ [] → faults ≡ before.disk_faults
-    → IsOpenedAs before.disk disk s → Passes before.disk disk → IsConsistent s → IfSome disk.content (Images disk) → Progress s s 0 held before (record before { disk = disk; disk_faults = faults })
+    → IsOpenedAs before.disk disk s → Passes before.disk disk → IsConsistent s → IfSome disk.content (Images disk) → ServesSoFar s s 0 held before (record before { disk = disk; disk_faults = faults })
 begins s held before disk faults empty calm opened time lawful leaves = record {
   taken = [];
   counted = refl;
@@ -248,8 +221,8 @@ ahead_within taken bodies n m le ahead = record {
 
 -- more bytes were taken and are held
 pub reads : (start current : Held) (count n : ℕ) (held piece fed : List ℕ) (before now : World) (left : Option (List ℕ)) (faults : ℕ)
-    → Progress start current count held before now → Took now.left left piece → length piece ≡ n → fed ≡ held ++ piece → is_partial held ≡ true → n ≤ 4096
-    → Progress start current (count + n) fed before (record now { left = left; source_faults = faults })
+    → ServesSoFar start current count held before now → Took now.left left piece → length piece ≡ n → fed ≡ held ++ piece → is_partial held ≡ true → n ≤ 4096
+    → ServesSoFar start current (count + n) fed before (record now { left = left; source_faults = faults })
 reads start current count n held piece fed before now left faults p took len feeds part short = record {
   taken = p.taken ++ piece;
   counted = length-append p.taken piece ∙ omega (arith, p.counted);
@@ -276,7 +249,7 @@ reads start current count n held piece fed before now left faults p took len fee
 
 -- nothing more was taken
 pub reads_none : (start current : Held) (count : ℕ) (held : List ℕ) (before now : World) (left : Option (List ℕ)) (faults : ℕ)
-    → Progress start current count held before now → Took now.left left [] → Progress start current count held before (record now { left = left; source_faults = faults })
+    → ServesSoFar start current count held before now → Took now.left left [] → ServesSoFar start current count held before (record now { left = left; source_faults = faults })
 reads_none start current count held before now left faults p took = record {
   taken = p.taken;
   counted = p.counted;
@@ -306,7 +279,7 @@ at_last : (now : DiskView) (tables : List Table) (n start : ℕ) → Trail Shows
 at_last now tables n start trail c left = trail.each n now.moment c (omega arith) trail.last (omega arith) left
 
 -- a disk that followed tables up to the last of them goes on from it
-goes_from : (before mid now : DiskView) (f : Image) (xs ys : List Table) (x : Table) (n : ℕ) → Passes mid now → FollowsFrom before mid f (xs ++ x ∷ []) (length xs)
+pub goes_from : (before mid now : DiskView) (f : Image) (xs ys : List Table) (x : Table) (n : ℕ) → Passes mid now → FollowsFrom before mid f (xs ++ x ∷ []) (length xs)
     → Trail ShowsTable now mid.moment (x ∷ ys) n → (IsPaidIn f → ArePaidSince now mid.moment) → FollowsFrom before now f (xs ++ x ∷ ys) (length xs + n)
 goes_from before mid now f xs ys x n passes so_far more pays =
     let trail = trail_join ShowsTable mid now so_far.synced xs ys x n passes so_far.trail more in
@@ -440,7 +413,7 @@ tells_device r met tells a is told none =
     let f : ◌≡◌ {A = Option Fault} None (Some fault.Device) = sym none ∙ tells ∙ ap (λ (x : Answer). fault_told x.reply) is ∙ told in cc
 
 module _ (start old new : Held) (count : ℕ) (held rest body : List ℕ) (met : Option Fault) (out : List ℕ) (before mid now : World)
-    (p : Progress start old count held before mid) (done : Answered old new mid now body met out) (none : met ≡ None) where
+    (p : ServesSoFar start old count held before mid) (done : Answered old new mid now body met out) (none : met ≡ None) where
   abbrev response : Response
   response = done.is.response
 
@@ -491,7 +464,7 @@ module _ (start old new : Held) (count : ℕ) (held rest body : List ℕ) (met :
 
   -- one more body was answered, sent and kept, and is the last of those answered
   pub answers : held ≡ frame body ++ rest → IsBody body → Appends mid.held now.held (response_bytes response)
-      → (q : Progress start new count rest before now) × (q.answers ≡ p.answers ++ response ∷ []) × WaitsForNone q.taken q.bodies (length p.bodies)
+      → (q : ServesSoFar start new count rest before now) × (q.answers ≡ p.answers ++ response ∷ []) × WaitsForNone q.taken q.bodies (length p.bodies)
   answers front fits sent =
       let ahead = ahead_more p.taken p.bodies (body ∷ []) (length p.bodies) (omega arith) p.ahead in
       let lawful : IsConsistent new = done.kept none in

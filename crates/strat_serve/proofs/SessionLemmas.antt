@@ -29,24 +29,25 @@ use Rattle.strat_memory.proofs.PayingLemmas.{paid_now}
 use Rattle.strat_serve.specs.Session.{Took, IsAtEnd, SendsPrefix, too_long_bytes, AreAnsweredBy, AreCalm, ContinuesWith, StopsWith, Session, IsSession, AnswersAll, all_responses, output, last_output, Sends, EndsFor, FollowsRun, Served, WaitsForNone}
 use Rattle.strat_serve.specs.World.{World}
 use Rattle.strat_serve.proofs.BatchedLemmas.{continues_over_nothing}
-use Rattle.strat_serve.proofs.ProgressLemmas.{Progress, RunSoFar, Answered, few_all, few_held, follows_more, text_more, ahead_more, ahead_within, answered_more, step_responds, step_damaged, step_paid, step_reads, gate_still, calm_front, calm_parts, answers}
+use Rattle.strat_serve.specs.Progress.{ServesSoFar, RunSoFar}
+use Rattle.strat_serve.proofs.ProgressLemmas.{Answered, few_all, few_held, follows_more, text_more, ahead_more, ahead_within, answered_more, step_responds, step_damaged, step_paid, step_reads, gate_still, calm_front, calm_parts, answers}
 use Rattle.strat_serve.proofs.PublishedLemmas.{published_still}
-use Rattle.strat_serve.proofs.StreamLemmas.{partial_not_long, frames_of}
+use Rattle.strat_serve.proofs.StreamLemmas.{Frames, frames_of, partial_not_long}
 
 -- bodies one after the other that fit
-each_then : (xs : List (List ℕ)) (ys : List (List ℕ)) → AllByRecursion IsBody xs → AllByRecursion IsBody ys → AllByRecursion IsBody (xs ++ ys)
+pub each_then : (xs : List (List ℕ)) (ys : List (List ℕ)) → AllByRecursion IsBody xs → AllByRecursion IsBody ys → AllByRecursion IsBody (xs ++ ys)
 each_then [] ys first second = second
 each_then (x ∷ xs) ys first second = (first.0, each_then xs ys first.1 second)
 
 -- the responses to the first of some bodies
-answered_front : (bodies others : List (List ℕ)) (answers : List Response) → AreAnsweredBy bodies answers → AreAnsweredBy (take (length answers) (bodies ++ others)) answers
+pub answered_front : (bodies others : List (List ℕ)) (answers : List Response) → AreAnsweredBy bodies answers → AreAnsweredBy (take (length answers) (bodies ++ others)) answers
 answered_front [] others [] all = tt
 answered_front [] others (r ∷ rs) all = absurd all
 answered_front (b ∷ bs) others [] all = absurd all
 answered_front (b ∷ bs) others (r ∷ rs) all = (all.0, answered_front bs others rs all.1)
 
 -- there are as many responses as bodies
-as_many : (bodies : List (List ℕ)) (answers : List Response) → AreAnsweredBy bodies answers → length answers ≡ length bodies
+pub as_many : (bodies : List (List ℕ)) (answers : List Response) → AreAnsweredBy bodies answers → length answers ≡ length bodies
 as_many [] [] all = refl
 as_many [] (r ∷ rs) all = absurd all
 as_many (b ∷ bs) [] all = absurd all
@@ -57,14 +58,14 @@ all_but_last : (xs : List Response) (x : Response) → take (length (xs ++ x ∷
 all_but_last xs x = take_at xs (x ∷ []) (length (xs ++ x ∷ []) - 1) (omega (arith, length-append xs (x ∷ [])))
 
 -- frames taken, and the frames and the rest of what was held
-whole_taken : (taken held rest : List ℕ) (bodies others : List (List ℕ)) → taken ≡ flat_map frame bodies ++ held → held ≡ flat_map frame others ++ rest → taken ≡ flat_map frame (bodies ++ others) ++ rest
+pub whole_taken : (taken held rest : List ℕ) (bodies others : List (List ℕ)) → taken ≡ flat_map frame bodies ++ held → held ≡ flat_map frame others ++ rest → taken ≡ flat_map frame (bodies ++ others) ++ rest
 whole_taken taken held rest bodies others front back =
     front ∙ ap (λ (x : List ℕ). flat_map frame bodies ++ x) back
     ∙ sym (append_assoc (flat_map frame bodies) (flat_map frame others) rest)
     ∙ ap (λ (x : List ℕ). x ++ rest) (sym (flat_map-append frame bodies others))
 
 -- a run that was not broken, over the bodies answered and others behind them
-module _ (start current : Held) (count budget : ℕ) (held : List ℕ) (before now : World) (p : Progress start current count held before now) (within : count ≤ budget) where
+module _ (start current : Held) (count budget : ℕ) (held : List ℕ) (before now : World) (p : ServesSoFar start current count held before now) (within : count ≤ budget) where
   abbrev session : List (List ℕ) → List ℕ → Session
   session others rest = record { taken = p.taken; bodies = p.bodies ++ others; rest = rest; answers = p.answers; broken = None }
 
@@ -144,11 +145,10 @@ module _ (start current : Held) (count budget : ℕ) (held : List ℕ) (before n
   }
 
   -- the sink failed at the reply that went before
-  pub ends_cut : (sent : Option (List ℕ)) (faults : ℕ) → AreBytes held → (front : SendsPrefix before.held sent (sent_bytes p.answers))
-      → ((part : List ℕ) × (front.sent ≡ sent_bytes (take (length p.answers - 1) p.answers) ++ part)) → WaitsForNone p.taken p.bodies (length p.answers - 1)
+  pub ends_cut : (sent : Option (List ℕ)) (faults : ℕ) → Frames held → (whole : ℕ) → whole ≤ length p.answers → length p.answers ≤ whole + 16 → (front : SendsPrefix before.held sent (sent_bytes p.answers))
+      → ((part : List ℕ) × (front.sent ≡ sent_bytes (take whole p.answers) ++ part)) → WaitsForNone p.taken p.bodies whole
       → Served budget ended.Sink before (record now { held = sent; sink_faults = faults })
-  ends_cut sent faults fits front replied ahead =
-      let f = frames_of held fits in
+  ends_cut sent faults f whole few most front replied ahead =
       let last = last_output None (eqb (length p.answers) (length (session f.bodies f.rest).bodies)) (is_too_long f.rest) in
       served ended.Sink f.bodies f.rest f.splits sent faults
       (record {
@@ -159,11 +159,11 @@ module _ (start current : Held) (count budget : ℕ) (held : List ℕ) (before n
           some = omega (arith, front.some, length-append front.later last);
           appends = front.appends;
         };
-        whole = length p.answers - 1;
-        last = omega (arith, ap length tolds_all);
+        whole = whole;
+        last = omega (arith, most, ap length tolds_all);
         part = replied.0;
-        replied = replied.1 ∙ ap (λ (xs : List Response). sent_bytes (take (length p.answers - 1) xs) ++ replied.0) (sym tolds_all);
-        ahead = ahead_more p.taken p.bodies f.bodies (length p.answers - 1) (omega (arith, as_many p.bodies p.answers p.answered)) ahead;
+        replied = replied.1 ∙ ap (λ (xs : List Response). sent_bytes (take whole xs) ++ replied.0) (sym tolds_all);
+        ahead = ahead_more p.taken p.bodies f.bodies whole (omega (arith, few, as_many p.bodies p.answers p.answered)) ahead;
       })
       tt
 
@@ -236,12 +236,12 @@ module _ (start current : Held) (count budget : ℕ) (held : List ℕ) (before n
     ends_source = served ended.Source [] held splits_part now.held now.sink_faults sends_all (is_whole, not_long)
 
 -- what a sink would hold with these bytes more
-abbrev with_bytes : Option (List ℕ) → List ℕ → Option (List ℕ)
+abbrev pub with_bytes : Option (List ℕ) → List ℕ → Option (List ℕ)
 with_bytes None bytes = None
 with_bytes (Some held) bytes = Some (held ++ bytes)
 
 -- such a sink took them
-took_all : (s : Option (List ℕ)) (bytes : List ℕ) → Appends s (with_bytes s bytes) bytes
+pub took_all : (s : Option (List ℕ)) (bytes : List ℕ) → Appends s (with_bytes s bytes) bytes
 took_all None bytes = record { exposed = λ held e. absurd (let f : ◌≡◌ {A = Option (List ℕ)} None (Some held) = e in cc); hidden = λ e. refl }
 took_all (Some held) bytes = record {
   exposed = λ other e. let same : held ≡ other = cc in ap (λ (x : List ℕ). Some (x ++ bytes)) same;
@@ -262,13 +262,13 @@ still_some before mid f passes e = go mid.content refl (passes.exposed (some bef
 
 -- the next body was answered
 module _ (start old new : Held) (count budget : ℕ) (held rest body : List ℕ) (met : Option Fault) (out : List ℕ) (before mid now : World)
-    (p : Progress start old count held before mid) (within : count ≤ budget) (done : Answered old new mid now body met out)
+    (p : ServesSoFar start old count held before mid) (within : count ≤ budget) (done : Answered old new mid now body met out)
     (front : held ≡ frame body ++ rest) (fits : IsBody body) (bytes : AreBytes rest) where
   abbrev response : Response
   response = done.is.response
 
   -- it met no fault, and its reply was sent
-  pub goes_on : met ≡ None → Appends mid.held now.held out → Progress start new count rest before now
+  pub goes_on : met ≡ None → Appends mid.held now.held out → ServesSoFar start new count rest before now
   goes_on none sent =
       (answers start old new count held rest body met out before mid now p done none front fits (subst (λ (x : List ℕ). Appends mid.held now.held x) done.is.spelled sent)).0
 
@@ -290,7 +290,7 @@ module _ (start old new : Held) (count budget : ℕ) (held rest body : List ℕ)
       } in
       let q = answers start old new count held rest body met out before mid sent p told none front fits (took_all mid.held (response_bytes response)) in
       let earlier = sent_bytes p.answers in
-      ends_cut start new count budget rest before sent q.0 within now.held now.sink_faults bytes (record {
+      ends_cut start new count budget rest before sent q.0 within now.held now.sink_faults (frames_of rest bytes) (length q.0.answers - 1) (omega arith) (omega arith) (record {
         sent = earlier ++ cut.sent;
         later = cut.later;
         parts = ap sent_bytes q.1

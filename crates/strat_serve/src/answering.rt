@@ -1,6 +1,7 @@
-//! The answer to one frame, and to one that is too long.
+//! The answer to one frame, alone, and to one that is too long.
 
-ghost use Rattle.std.specs.Prelude.{◌≡◌, ℕ, OnOk, OnErr, IfOk, [], Some, None, is_some, false};
+ghost use Rattle.std.specs.Prelude.{◌≡◌, ◌≤◌, ℕ, OnOk, OnErr, IfOk, [], Some, None, is_some, false};
+ghost use Rattle.strat_base.specs.Numbers.{AreBytes};
 ghost use Rattle.def_crash.specs.Blocks.{AgreeOn};
 ghost use Rattle.strat_base.specs.declared.failures.Fault.TheVariants as fault;
 ghost use Rattle.def_crash.specs.Faults.{CountsFaults};
@@ -9,16 +10,20 @@ ghost use Rattle.def_crash.specs.Moments.{Exposes, Passes};
 ghost use Rattle.strat_frame.specs.Faults.{refusal_for};
 ghost use Rattle.strat_io.specs.Streams.{Appends};
 ghost use Rattle.strat_promote.specs.Job.{blocks_listed};
+ghost use Rattle.strat_serve.specs.Progress.{TurnGoesOn, ServesSoFar, TurnHasCause, TurnsTo, waiting};
 ghost use Rattle.strat_serve.specs.Session.{IsAnswered, FailsAsMet, SendsPrefix, too_long_bytes};
+ghost use Rattle.strat_serve.specs.World.{Streams, beside, world};
 ghost use Rattle.strat_publish.specs.Outcomes.{IsDamagedIn};
-ghost use Rattle.strat_memory.specs.Held.{IsConsistent, arrays_held};
+ghost use Rattle.strat_frame.specs.declared.deframer.Next.TheVariants as next;
+ghost use Rattle.strat_memory.specs.Held.{Held, IsConsistent, arrays_held};
+ghost use Rattle.strat_model.specs.Stream.{IsBody};
 
 use std::alloc::Global;
 use strat_base::{Failed, Fault, NoMemory, PairBuf};
 use strat_disk::Disk;
-use strat_frame::{BodyFault, Deframer, OutBuf, parse_command, write_reply};
+use strat_frame::{BodyFault, Deframer, Next, OutBuf, parse_command, write_reply};
 use strat_io::{Sink, put_all};
-use strat_model::{Refusal, Reply};
+use strat_model::{Ended, Refusal, Reply};
 use strat_store::Store;
 
 /// What a serving run keeps beside its store: the bytes that came in, and room for an answer.
@@ -92,6 +97,60 @@ pub fn answer_frame<D: Disk>(
             None
         }
     }
+}
+
+/// Sends a reply.
+#[tactic(auto, using(crate::proofs::SendLemmas::sends_prefix))]
+pub(crate) fn send<K: Sink>(sink: &mut K, out: &OutBuf) -> Result<(), Failed>
+    ensures ok { OnOk result (Appends (K.held sink.old) (K.held sink.new) out.now) }
+    ensures err { OnErr result (SendsPrefix (K.held sink.old) (K.held sink.new) out.now) }
+    ensures cause { CountsFaults (K.faults sink.old) (K.faults sink.new) result }
+{
+    put_all(sink, out.bytes())?;
+    Ok(())
+}
+
+/// Serves the frame in the buffer alone: a change is durable before its reply is sent. Says what was met next, or how the run
+/// ends.
+pub(crate) fn serve_alone<K: Sink, D: Disk>(
+    store: &mut Store,
+    buffers: &mut Buffers,
+    sink: &mut K,
+    disk: &mut D,
+) -> Result<Next, Ended>
+    requires fits { store.old.spent ≡ false }
+    requires kept { IsConsistent store.old }
+    requires len { IsBody buffers.old.frames.body }
+    requires room { AreBytes buffers.old.frames.held }
+    ensures ok { (start : Held) (count budget : ℕ) (x y : Streams) (d : D)
+        → count ≤ budget → ServesSoFar start store.old count (waiting next.Frame buffers.old.frames)
+        (beside x (D.view d)) (world y.left y.source_faults (K.held sink.old) (K.faults sink.old)
+        (D.view disk.old) (D.faults disk.old))
+        → TurnsTo result start store.new count budget buffers.new.frames
+        (beside x (D.view d)) (world y.left y.source_faults (K.held sink.new) (K.faults sink.new)
+        (D.view disk.new) (D.faults disk.new)) }
+    ensures kept { TurnGoesOn result store.new buffers.old.frames buffers.new.frames }
+    ensures time { Passes (D.view disk.old) (D.view disk.new) }
+    ensures cause { (y : Streams) → TurnHasCause result
+        (world y.left y.source_faults (K.held sink.old) (K.faults sink.old)
+        (D.view disk.old) (D.faults disk.old))
+        (world y.left y.source_faults (K.held sink.new) (K.faults sink.new)
+        (D.view disk.new) (D.faults disk.new)) }
+{
+    let met = answer_frame(
+        store,
+        disk,
+        buffers.frames.body(),
+        &mut buffers.pairs,
+        &mut buffers.out,
+    );
+    let Ok(()) = send(sink, &buffers.out) else {
+        return Err(Ended::Sink);
+    };
+    if let Some(fault) = met {
+        return Err(Ended::from(fault));
+    }
+    Ok(buffers.frames.next())
 }
 
 /// Answers that a frame is too long, under tag 0: its body was not read.

@@ -6,6 +6,7 @@ mod answering;
 mod drawing;
 mod framing;
 mod generating;
+mod grouping;
 pub mod laws;
 mod serving;
 pub mod workloads;

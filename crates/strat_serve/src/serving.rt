@@ -3,17 +3,17 @@
 ghost use Rattle.std.specs.Prelude.{◌≡◌, ◌≢◌, ◌<◌, ◌≤◌, ◌+◌, length, take, [], IfOk, IfSome, IfNone, OnOk, OnErr, false};
 ghost use Rattle.def_crash.specs.Faults.{CountsFaults};
 ghost use Rattle.def_crash.specs.Moments.{Passes};
-ghost use Rattle.strat_io.specs.Streams.{Appends};
 ghost use Rattle.strat_memory.specs.Held.{IsConsistent};
-ghost use Rattle.strat_serve.specs.Session.{Took, IsAtEnd, SendsPrefix, RunOutcome, RefusesFor, IsEarlyEnd, EndHasCause, HasOpened, Served};
+ghost use Rattle.strat_serve.specs.Session.{Took, IsAtEnd, RunOutcome, RefusesFor, IsEarlyEnd, EndHasCause, HasOpened, Served};
 ghost use Rattle.strat_serve.specs.World.{world};
 
-use crate::answering::{Buffers, answer_frame, refuse_long};
+use crate::answering::{Buffers, refuse_long};
+use crate::grouping::serve_turn;
 use std::alloc::Global;
 use strat_base::Failed;
 use strat_disk::Disk;
-use strat_frame::{Next, OutBuf};
-use strat_io::{Sink, Source, put_all};
+use strat_frame::Next;
+use strat_io::{Sink, Source};
 use strat_model::Ended;
 use strat_store::Store;
 
@@ -44,17 +44,6 @@ fn most_next(budget: u64, taken: u64) -> Option<usize>
         return None;
     }
     Some((budget - taken).min(PIECE as u64) as usize)
-}
-
-/// Sends a reply.
-#[tactic(auto, using(crate::proofs::SendLemmas::sends_prefix))]
-fn send<K: Sink>(sink: &mut K, out: &OutBuf) -> Result<(), Failed>
-    ensures ok { OnOk result (Appends (K.held sink.old) (K.held sink.new) out.now) }
-    ensures err { OnErr result (SendsPrefix (K.held sink.old) (K.held sink.new) out.now) }
-    ensures cause { CountsFaults (K.faults sink.old) (K.faults sink.new) result }
-{
-    put_all(sink, out.bytes())?;
-    Ok(())
 }
 
 /// How a run ends whose input has ended: within a frame where bytes of one are held.
@@ -98,23 +87,13 @@ fn serve_frames<S: Source, K: Sink, D: Disk>(
 {
     let mut piece = [0; PIECE];
     let mut taken = 0;
+    let mut met = Next::NotYet;
     loop {
-        match buffers.frames.next() {
-            Next::Frame => {
-                let met = answer_frame(
-                    store,
-                    disk,
-                    buffers.frames.body(),
-                    &mut buffers.pairs,
-                    &mut buffers.out,
-                );
-                let Ok(()) = send(sink, &buffers.out) else {
-                    return Ended::Sink;
-                };
-                if let Some(fault) = met {
-                    return Ended::from(fault);
-                }
-            }
+        match met {
+            Next::Frame => match serve_turn(store, buffers, sink, disk) {
+                Ok(next) => met = next,
+                Err(how) => return how,
+            },
             Next::NotYet => {
                 let Some(most) = most_next(budget, taken) else {
                     return Ended::Budget;
@@ -127,6 +106,7 @@ fn serve_frames<S: Source, K: Sink, D: Disk>(
                 }
                 taken += n as u64;
                 buffers.frames.feed(&piece[..n]);
+                met = buffers.frames.next();
             }
             Next::TooLong { .. } => {
                 return match refuse_long(sink, &mut buffers.pairs, &mut buffers.out) {

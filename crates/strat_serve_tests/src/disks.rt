@@ -1,18 +1,13 @@
 //! What runs find and leave on disks that fail and crash.
 
-use crate::support::{GETS, PUT, PUTS, gives, is_done, left_by, puts_on, run, small_store};
+use crate::support::{
+    GETS, PUT, PUTS, calls_of, gives, is_done, left_by, puts_on, run_in_pieces, small_store,
+};
 use std::alloc::Global;
 use strat_disk::{FuseDisk, MemDisk};
 use strat_io::{MemSink, MemSource};
 use strat_model::Ended;
 use strat_serve::serve;
-
-/// How many calls of a store's disk a run makes that is given these bytes.
-fn calls_of(alloc: Global, store: &MemDisk, input: &[u8]) -> Option<u64> {
-    let mut disk = store.crash(0).ok()?;
-    run(alloc, &mut disk, input)?;
-    Some(disk.calls())
-}
 
 /// How many calls an opening makes.
 fn calls_to_open(alloc: Global, store: &MemDisk) -> Option<u64> {
@@ -50,11 +45,11 @@ fn leaves_at_least(alloc: Global, disk: &mut MemDisk, done: usize) -> bool {
     crashed && kept.is_some_and(|puts| done <= puts) && left_by(alloc, disk, 2) == kept
 }
 
-/// Serves the four puts on a disk that fails after so many calls, and says how that ends, where every crash leaves each put
-/// that was acknowledged.
+/// Serves the four puts one by one on a disk that fails after so many calls, and says how that ends, where every crash leaves
+/// each put that was acknowledged.
 fn put_behind_fuse(alloc: Global, store: &MemDisk, calls: u64) -> Option<Ended> {
     let mut disk = FuseDisk::new(store.crash(0).ok()?, calls);
-    let (how, sink) = run(alloc, &mut disk, PUTS)?;
+    let (how, sink) = run_in_pieces(alloc, &mut disk, PUTS, 19)?;
     let done = done_in(sink.bytes());
     let mut disk = disk.into_inner();
     leaves_at_least(alloc, &mut disk, done).then_some(how)
@@ -72,7 +67,7 @@ fn stops(alloc: Global, store: &MemDisk) -> Option<u64> {
     None
 }
 
-// Each put makes two writes and two syncs.
+// A put that comes alone makes two writes and two syncs.
 #[test]
 fn a_crash_leaves_every_acknowledged_put(rt: HostRuntime) {
     let Some(store) = small_store(rt.alloc()) else {

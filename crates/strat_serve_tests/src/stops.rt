@@ -12,13 +12,15 @@ use strat_base::PairBuf;
 use strat_disk::{Disk, FuseDisk, MemDisk};
 use strat_store::{AttachFault, Store};
 
-/// A list of changes, how many they are, and those that look up what they set.
+/// A list of changes, how many they are, those that look up what they set, and how many of the changes become durable
+/// together at most.
 #[derive(Clone, Copy)]
 struct Plan {
     script: Script,
     most: u32,
     look: Script,
     looks: u32,
+    batch: u32,
 }
 
 /// How many commands a store on a disk acknowledges: none where the disk fails as it is opened.
@@ -60,7 +62,7 @@ fn goes_on<D: Disk>(
         && stay_alike(store, disk, beside, plan.look, 0, plan.looks)
 }
 
-/// Whether a store has the table after a prefix of the commands, with all that were acknowledged and at most one more,
+/// Whether a store has the table after a prefix of the commands, with all that were acknowledged and at most a batch more,
 /// and, where it is to, goes on from there.
 fn keeps_prefix<D: Disk>(
     alloc: Global,
@@ -74,7 +76,7 @@ fn keeps_prefix<D: Disk>(
     let has = changes_of(store, disk, &mut beside.told)?;
     Some(
         done <= has
-            && has <= done.saturating_add(1)
+            && has <= done.saturating_add(plan.batch)
             && has_same(store, disk, &mut beside, plan, has)
             && (!going || goes_on(store, disk, &mut beside, plan, has)),
     )
@@ -153,6 +155,7 @@ fn a_crash_leaves_a_prefix_of_changes_over_levels(rt: HostRuntime) {
         most: CHANGES,
         look: Script::Look,
         looks: LOOKS,
+        batch: 1,
     };
     assert!(rt; stops(rt.alloc(), &store, plan).is_some_and(|calls| calls > 20));
 }
@@ -197,6 +200,7 @@ fn a_crash_leaves_every_put_that_was_acknowledged(rt: HostRuntime) {
         most: 13,
         look: Script::LookThirteen,
         looks: 13,
+        batch: 4,
     };
     assert!(rt; served_stops(rt.alloc(), &store, plan).is_some_and(|calls| calls > 80));
 }

@@ -1,5 +1,6 @@
 //! New stores in memory, and runs over them.
 
+ghost use Rattle.std.specs.Prelude.{◌<◌};
 ghost use Rattle.def_bytes.specs.SuperBlock.{AreLimits};
 
 use std::alloc::Global;
@@ -65,12 +66,31 @@ pub fn small_store(alloc: Global) -> Option<MemDisk> {
     new_store(alloc, 4, 100, 10)
 }
 
-/// How a run over a disk ends that is given these bytes, and the sink that it fills.
-pub fn run<D: Disk>(alloc: Global, disk: &mut D, input: &[u8]) -> Option<(Ended, MemSink)> {
-    let mut source = MemSource::new(alloc, input, &[], 4096).ok()?;
+/// How a run over a disk ends that is given these bytes, so many at a time, and the sink that it fills.
+pub fn run_in_pieces<D: Disk>(
+    alloc: Global,
+    disk: &mut D,
+    input: &[u8],
+    piece: usize,
+) -> Option<(Ended, MemSink)>
+    requires { 0 < piece }
+{
+    let mut source = MemSource::new(alloc, input, &[], piece).ok()?;
     let mut sink = MemSink::new(alloc, &[], 4096).ok()?;
     let how = serve(alloc, &mut source, &mut sink, disk, BUDGET);
     Some((how, sink))
+}
+
+/// The same, given all of them at once.
+pub fn run<D: Disk>(alloc: Global, disk: &mut D, input: &[u8]) -> Option<(Ended, MemSink)> {
+    run_in_pieces(alloc, disk, input, 4096)
+}
+
+/// How many calls of a store's disk a run makes that is given these bytes.
+pub fn calls_of(alloc: Global, store: &MemDisk, input: &[u8]) -> Option<u64> {
+    let mut disk = store.crash(0).ok()?;
+    run(alloc, &mut disk, input)?;
+    Some(disk.calls())
 }
 
 /// Whether a run that is given these bytes sends those and ends so.

@@ -11,11 +11,11 @@ ghost use Rattle.strat_memory.specs.Memory.{KeepsRows, memory_after};
 ghost use Rattle.strat_store.specs.Applying.{change_wanted};
 ghost use Rattle.strat_store.specs.Staging.{IsStaged, IsStagedAt, may_stage, position_staged, replies_staged, with_staged};
 
-use def_crash::laws::Viewed;
+use strat_disk::Disk;
 
 /// What `stage` does at a store that stands is the step of the table at the position of its staged changes, and the reply that
 /// it keeps is what the table tells.
-pub fn staging_follows_the_table<D: Viewed>()
+pub fn staging_follows_the_table<D: Disk>()
     ensures ok { (d : D) (s : Held) (x : Contents) (rows : List Cursor) (request : Request)
         (c : Change) → IsStaged s → StandsAt (D.view d) s x rows
         → change_wanted request ≡ Some c → may_stage s request ≡ true

@@ -1,0 +1,86 @@
+use Rattle.std.proofs.Common.{◌≡◌, ◌<◌, ℕ, List, ◌++◌, length, Option, Some, None, refl, sym, ap, subst, ◌∙◌, arith}
+use Rattle.std.specs.Prelude.{is_some}
+use Rattle.strat_base.specs.declared.failures.Fault.{Fault}
+use Rattle.strat_base.specs.declared.failures.Fault.TheVariants as fault
+use Rattle.strat_model.specs.Stream.{frame}
+use Rattle.strat_serve.specs.Progress.{ServesSoFar}
+use Rattle.strat_serve.specs.Session.{IsAnswered}
+use Rattle.strat_serve.specs.World.{Streams, World, beside, world}
+use Rattle.strat_serve.proofs.GiveUpLemmas.{caused_by_fault}
+use Rattle.strat_serve.proofs.ProgressLemmas.{Answered}
+use Rattle.strat_serve.proofs.SendLemmas.{frame_shrinks}
+use Rattle.strat_serve.proofs.SessionLemmas.{ends_broken, ends_unsent, goes_on}
+use Rattle.strat_serve.proofs.TurnLemmas.{met_next}
+use Rattle.strat_serve.proofs.answering.serve_alone.Given.{Over}
+use Rattle.strat_serve.proofs.answering.serve_alone.Goals as goal
+use Rattle.strat_serve.proofs.answering.serve_alone.Goals.{After-next, After-send}
+
+-- what a sink and a disk show, beside these streams
+abbrev shown : (g : Over) → Streams → g.row.K.Denot → g.row.D.Denot → World
+shown g y sink disk = world y.left y.source_faults (g.K.Sink.held sink) (g.K.Sink.faults sink) (g.D.Disk.view disk) (g.D.Disk.faults disk)
+
+-- a body was answered, and its reply handed on
+answered : (g : Over) (c : After-send g) (y : Streams) → Answered c.args.store.now c.answer_frame-met.new.store
+    (shown g y c.args.sink.now c.args.disk.now) (shown g y c.send.new.sink c.answer_frame-met.new.disk) c.args.buffers.now.frames.body c.answer_frame-met.result c.answer_frame-met.new.out
+answered g c y = record {
+  left = refl;
+  is = subst (λ (b : List ℕ). IsAnswered (g.D.Disk.view c.args.disk.now) (g.D.Disk.view c.answer_frame-met.new.disk) c.args.store.now b c.answer_frame-met.result c.answer_frame-met.new.store c.answer_frame-met.new.out) c.body.ensures c.answer_frame-met.ensures.ok;
+  passes = c.answer_frame-met.ensures.time;
+  cause = c.answer_frame-met.ensures.cause;
+  spent = c.answer_frame-met.ensures.state;
+  kept = c.answer_frame-met.ensures.kept;
+  same = c.answer_frame-met.ensures.same;
+  leaves = g.met.D.Disk.leaves_content c.answer_frame-met.new.disk;
+  damaged = c.answer_frame-met.ensures.damaged;
+}
+
+pub returns-in_default-clause-ok : goal.returns-in_default-clause-ok
+returns-in_default-clause-ok g c = λ start count budget x y d within p.
+    let frames = c.args.buffers.now.frames in
+    ends_unsent start c.args.store.now c.answer_frame-met.new.store count budget (frame frames.body ++ frames.held) frames.held frames.body c.answer_frame-met.result c.answer_frame-met.new.out
+    (beside x (g.D.Disk.view d)) (shown g y c.args.sink.now c.args.disk.now) (shown g y c.send.new.sink c.answer_frame-met.new.disk)
+    p within (answered g (goal.at.returns-in_default-clause-ok g c).After-send y) refl c.requires.len c.requires.room p.passes c.in_default.ensures.err
+
+pub returns-in-Some-clause-ok : goal.returns-in-Some-clause-ok
+returns-in-Some-clause-ok g c = λ start count budget x y d within p.
+    let frames = c.args.buffers.now.frames in
+    ends_broken start c.args.store.now c.answer_frame-met.new.store count budget (frame frames.body ++ frames.held) frames.held frames.body c.answer_frame-met.result c.answer_frame-met.new.out
+    (beside x (g.D.Disk.view d)) (shown g y c.args.sink.now c.args.disk.now) (shown g y c.send.new.sink c.answer_frame-met.new.disk)
+    p within (answered g (goal.at.returns-in-Some-clause-ok g c).After-send y) refl c.requires.len c.requires.room
+    c.in-Some.fault c.in-Some.is p.passes c.in-Ok.ensures.ok c.from.result c.from.ensures
+
+pub returns-in-Some-clause-cause : goal.returns-in-Some-clause-cause
+returns-in-Some-clause-cause g c = λ y.
+    let cause = c.answer_frame-met.ensures.cause in
+    caused_by_fault c.from.result c.in-Some.fault (shown g y c.args.sink.now c.args.disk.now) (shown g y c.send.new.sink c.answer_frame-met.new.disk) c.from.ensures
+    (λ e. cause.rose (c.in-Some.is ∙ ap (λ (z : Fault). Some z) e))
+    (λ other. cause.same (λ e. other (let same : Some c.in-Some.fault ≡ Some fault.Device = sym c.in-Some.is ∙ e in cc)))
+    refl c.in-Ok.ensures.cause.ok
+
+-- a command that met no fault
+no_fault : (o : Option Fault) → ((f : Fault) → o ≡ Some f → ⊥) → o ≡ None
+no_fault None none = refl
+no_fault (Some f) none = absurd (none f refl)
+
+pub returns-clause-ok : goal.returns-clause-ok
+returns-clause-ok g c = λ start count budget x y d within p.
+    let frames = c.args.buffers.now.frames in
+    let none : c.answer_frame-met.result ≡ None = no_fault c.answer_frame-met.result c.in_default-met.not-Some in
+    let q = goes_on start c.args.store.now c.answer_frame-met.new.store count budget (frame frames.body ++ frames.held) frames.held frames.body c.answer_frame-met.result c.answer_frame-met.new.out
+    (beside x (g.D.Disk.view d)) (shown g y c.args.sink.now c.args.disk.now) (shown g y c.send.new.sink c.answer_frame-met.new.disk)
+    p within (answered g (goal.at.returns-clause-ok g c).After-send y) refl c.requires.len c.requires.room none c.in-Ok.ensures.ok in
+    subst (λ (h : List ℕ). ServesSoFar start c.answer_frame-met.new.store count h (beside x (g.D.Disk.view d)) (shown g y c.send.new.sink c.answer_frame-met.new.disk))
+    (met_next c.next.result frames c.next.new.self c.next.ensures.ok).all q
+
+pub returns-clause-kept : goal.returns-clause-kept
+returns-clause-kept g c =
+    let frames = c.args.buffers.now.frames in
+    let none : c.answer_frame-met.result ≡ None = no_fault c.answer_frame-met.result c.in_default-met.not-Some in
+    let found = met_next c.next.result frames c.next.new.self c.next.ensures.ok in
+    let fewer : length frames.held < length (frame frames.body ++ frames.held) = frame_shrinks (frame frames.body ++ frames.held) frames.body frames.held refl in (
+      c.answer_frame-met.ensures.state ∙ ap is_some none,
+      c.answer_frame-met.ensures.kept none,
+      found.meets,
+      c.next.ensures.fits,
+      omega (arith, fewer, ap length found.all),
+    )

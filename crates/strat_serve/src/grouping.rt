@@ -1,0 +1,246 @@
+//! Batches of a serving run: changes whose frames came together become durable together, sixteen at most.
+
+ghost use Rattle.std.specs.Prelude.{◌≡◌, ◌≤◌, ◌<◌, ◌+◌, ◌-◌, ◌*◌, ◌++◌, ℕ, length, slice_get, false, IfSome, IfNone, OnOk, OnErr, Some};
+ghost use Rattle.strat_base.specs.Numbers.{AreBytes};
+ghost use Rattle.def_crash.specs.Faults.{CountsFaults};
+ghost use Rattle.def_crash.specs.Moments.{Passes};
+ghost use Rattle.strat_io.specs.Streams.{Appends};
+ghost use Rattle.strat_memory.specs.Held.{Held, IsConsistent};
+ghost use Rattle.strat_model.specs.Answer.{plain, refusal};
+ghost use Rattle.strat_model.specs.Run.{Response, response_bytes};
+ghost use Rattle.strat_model.specs.Stream.{IsBody};
+ghost use Rattle.strat_model.specs.declared.replies.Refusal.TheVariants as why;
+ghost use Rattle.strat_frame.specs.declared.deframer.Next.TheVariants as next;
+ghost use Rattle.strat_serve.specs.Grouping.{GathersBatch, StagesBody};
+ghost use Rattle.strat_serve.specs.Progress.{TurnGoesOn, ServesSoFar, TurnHasCause, TurnsTo, waiting};
+ghost use Rattle.strat_serve.specs.Session.{SendsPrefix};
+ghost use Rattle.strat_serve.specs.World.{Streams, beside, world};
+ghost use Rattle.strat_store.specs.Staging.{replies_staged};
+
+use crate::answering::{Buffers, send, serve_alone};
+use arrayvec::ArrayVec;
+use strat_base::{Failed, PairBuf};
+use strat_disk::Disk;
+use strat_frame::{Next, OutBuf, parse_command, write_reply};
+use strat_io::{Sink, put_all};
+use strat_model::{Ended, Refusal, Reply};
+use strat_store::Store;
+use strat_store::staging_laws::staging_follows_the_table;
+
+/// Bytes of the replies to a batch: sixteen of 13 each.
+const REPLIES_MAX: usize = 208;
+
+/// Adds bytes to the replies that wait.
+fn keep_bytes(kept: &mut ArrayVec<u8, REPLIES_MAX>, bytes: &[u8])
+    requires { length kept.old.items + length bytes.now ≤ 208 }
+    ensures ok { kept.new.items ≡ kept.old.items ++ bytes.now }
+    ensures len { length kept.new.items ≡ length kept.old.items + length bytes.now }
+{
+    kept.try_extend_from_slice(bytes).unwrap();
+}
+
+/// Adds the reply to the change that was staged last to those that wait, and says what it tells.
+fn keep_reply(
+    store: &Store,
+    tag: u32,
+    pairs: &mut PairBuf,
+    out: &mut OutBuf,
+    kept: &mut ArrayVec<u8, REPLIES_MAX>,
+) -> Reply
+    requires fits { store.now.spent ≡ false }
+    requires found { 0 < length store.now.log.batch }
+    requires room { length kept.old.items + 13 ≤ 208 }
+    ensures found { slice_get (replies_staged store.now) (length store.now.log.batch - 1)
+        ≡ Some result }
+    ensures ok { kept.new.items
+        ≡ kept.old.items ++ response_bytes (record { tag = tag; answer = plain result }) }
+    ensures len { length kept.new.items ≤ length kept.old.items + 13 }
+{
+    pairs.clear();
+    out.clear();
+    let told = store.staged_reply(store.staged() - 1);
+    write_reply(tag, &told, pairs, out);
+    keep_bytes(kept, out.bytes());
+    told
+}
+
+/// Stages the change that a body asks for, if it asks for one that may be staged, and keeps its reply for later. Gives the
+/// body's tag then; if not, nothing has changed.
+fn stage_body(
+    store: &mut Store,
+    body: &[u8],
+    pairs: &mut PairBuf,
+    out: &mut OutBuf,
+    kept: &mut ArrayVec<u8, REPLIES_MAX>,
+) -> Option<u32>
+    requires fits { store.old.spent ≡ false }
+    requires room { length kept.old.items ≤ 13 * length store.old.log.batch }
+    ensures ok { IfSome result (λ tag. (response : Response) × (response.tag ≡ tag)
+        × StagesBody store.old body.now response store.new
+        × (kept.new.items ≡ kept.old.items ++ response_bytes response)) }
+    ensures none { IfNone result ((store.new ≡ store.old)
+        × (kept.new.items ≡ kept.old.items)) }
+    ensures room { length kept.new.items ≤ 13 * length store.new.log.batch }
+    ensures state { store.new.spent ≡ false }
+{
+    let Ok((tag, command)) = parse_command(body) else {
+        return None;
+    };
+    if store.stage(&command) {
+        keep_reply(store, tag, pairs, out, kept);
+        return Some(tag);
+    }
+    None
+}
+
+/// Stages the changes of frames that are held, one after the other, up to a body that is not staged, the end of what is held or
+/// a frame that is too long; says which of these was met.
+fn stage_frames(
+    store: &mut Store,
+    buffers: &mut Buffers,
+    kept: &mut ArrayVec<u8, REPLIES_MAX>,
+) -> Next
+    requires fits { store.old.spent ≡ false }
+    requires room { length kept.old.items ≤ 13 * length store.old.log.batch }
+    ensures ok { GathersBatch store.old store.new buffers.old.frames buffers.new.frames result
+        kept.old.items kept.new.items }
+    ensures fits { AreBytes buffers.new.frames.held }
+    ensures state { store.new.spent ≡ false }
+{
+    loop {
+        match buffers.frames.next() {
+            Next::Frame => {
+                let staged = stage_body(
+                    store,
+                    buffers.frames.body(),
+                    &mut buffers.pairs,
+                    &mut buffers.out,
+                    kept,
+                );
+                if staged.is_none() {
+                    return Next::Frame;
+                }
+            }
+            met => return met,
+        }
+    }
+}
+
+/// Sends the replies to a batch that is durable, in one write.
+#[tactic(auto, using(crate::proofs::SendLemmas::sends_prefix))]
+fn send_kept<K: Sink>(sink: &mut K, kept: &ArrayVec<u8, REPLIES_MAX>) -> Result<(), Failed>
+    ensures ok { OnOk result (Appends (K.held sink.old) (K.held sink.new) kept.now.items) }
+    ensures err { OnErr result (SendsPrefix (K.held sink.old) (K.held sink.new) kept.now.items) }
+    ensures cause { CountsFaults (K.faults sink.old) (K.faults sink.new) result }
+{
+    put_all(sink, kept.as_slice())?;
+    Ok(())
+}
+
+/// Answers under the tag of the first change of a batch that the device failed.
+fn refuse_batch<K: Sink>(
+    sink: &mut K,
+    tag: u32,
+    pairs: &mut PairBuf,
+    out: &mut OutBuf,
+) -> Result<(), Failed>
+    ensures ok { OnOk result (Appends (K.held sink.old) (K.held sink.new)
+        (response_bytes (record { tag = tag; answer = refusal why.DeviceFault }))) }
+    ensures err { OnErr result (SendsPrefix (K.held sink.old) (K.held sink.new)
+        (response_bytes (record { tag = tag; answer = refusal why.DeviceFault }))) }
+    ensures cause { CountsFaults (K.faults sink.old) (K.faults sink.new) result }
+{
+    out.clear();
+    pairs.clear();
+    let reply = Reply::Refused(Refusal::DeviceFault);
+    write_reply(tag, &reply, pairs, out);
+    put_all(sink, out.bytes())?;
+    Ok(())
+}
+
+/// Makes the changes durable together whose frames are held, that in the buffer first, sixteen at most: two writes and two
+/// syncs, whatever their number. Their replies are sent once they are durable. Says what was met behind them, or how the
+/// run ends: where the device failed the first change alone is told so. If the body in the buffer is not staged, nothing
+/// has changed, and there is no answer.
+fn serve_group<K: Sink, D: Disk>(
+    store: &mut Store,
+    buffers: &mut Buffers,
+    sink: &mut K,
+    disk: &mut D,
+) -> Option<Result<Next, Ended>>
+    requires fits { store.old.spent ≡ false }
+    requires kept { IsConsistent store.old }
+    requires len { IsBody buffers.old.frames.body }
+    ensures ok { IfSome result (λ turn. (start : Held) (count budget : ℕ) (x y : Streams) (d : D)
+        → count ≤ budget → ServesSoFar start store.old count (waiting next.Frame buffers.old.frames)
+        (beside x (D.view d)) (world y.left y.source_faults (K.held sink.old) (K.faults sink.old)
+        (D.view disk.old) (D.faults disk.old))
+        → TurnsTo turn start store.new count budget buffers.new.frames
+        (beside x (D.view d)) (world y.left y.source_faults (K.held sink.new) (K.faults sink.new)
+        (D.view disk.new) (D.faults disk.new))) }
+    ensures kept { IfSome result (λ turn.
+        TurnGoesOn turn store.new buffers.old.frames buffers.new.frames) }
+    ensures none { IfNone result ((store.new ≡ store.old)
+        × (buffers.new.frames ≡ buffers.old.frames)
+        × (sink.new ≡ sink.old) × (disk.new ≡ disk.old)) }
+    ensures time { Passes (D.view disk.old) (D.view disk.new) }
+    ensures cause { IfSome result (λ turn. (y : Streams) → TurnHasCause turn
+        (world y.left y.source_faults (K.held sink.old) (K.faults sink.old)
+        (D.view disk.old) (D.faults disk.old))
+        (world y.left y.source_faults (K.held sink.new) (K.faults sink.new)
+        (D.view disk.new) (D.faults disk.new))) }
+{
+    let mut kept = ArrayVec::new();
+    let first = stage_body(
+        store,
+        buffers.frames.body(),
+        &mut buffers.pairs,
+        &mut buffers.out,
+        &mut kept,
+    )?;
+    let met = stage_frames(store, buffers, &mut kept);
+    staging_follows_the_table::<D>();
+    if store.commit(disk).is_err() {
+        return match refuse_batch(sink, first, &mut buffers.pairs, &mut buffers.out) {
+            Ok(()) => Some(Err(Ended::Device)),
+            Err(Failed) => Some(Err(Ended::Sink)),
+        };
+    }
+    match send_kept(sink, &kept) {
+        Ok(()) => Some(Ok(met)),
+        Err(Failed) => Some(Err(Ended::Sink)),
+    }
+}
+
+/// Serves the frame in the buffer: with those after it whose changes become durable together with its own, or alone. Says
+/// what was met next, or how the run ends.
+pub(crate) fn serve_turn<K: Sink, D: Disk>(
+    store: &mut Store,
+    buffers: &mut Buffers,
+    sink: &mut K,
+    disk: &mut D,
+) -> Result<Next, Ended>
+    requires fits { store.old.spent ≡ false }
+    requires kept { IsConsistent store.old }
+    requires len { IsBody buffers.old.frames.body }
+    requires room { AreBytes buffers.old.frames.held }
+    ensures ok { (start : Held) (count budget : ℕ) (x y : Streams) (d : D)
+        → count ≤ budget → ServesSoFar start store.old count (waiting next.Frame buffers.old.frames)
+        (beside x (D.view d)) (world y.left y.source_faults (K.held sink.old) (K.faults sink.old)
+        (D.view disk.old) (D.faults disk.old))
+        → TurnsTo result start store.new count budget buffers.new.frames
+        (beside x (D.view d)) (world y.left y.source_faults (K.held sink.new) (K.faults sink.new)
+        (D.view disk.new) (D.faults disk.new)) }
+    ensures kept { TurnGoesOn result store.new buffers.old.frames buffers.new.frames }
+    ensures time { Passes (D.view disk.old) (D.view disk.new) }
+    ensures cause { (y : Streams) → TurnHasCause result
+        (world y.left y.source_faults (K.held sink.old) (K.faults sink.old)
+        (D.view disk.old) (D.faults disk.old))
+        (world y.left y.source_faults (K.held sink.new) (K.faults sink.new)
+        (D.view disk.new) (D.faults disk.new)) }
+{
+    match serve_group(store, buffers, sink, disk) {
+        Some(turn) => turn,
+        None => serve_alone(store, buffers, sink, disk),
+    }
+}
