@@ -9,6 +9,7 @@ import formats
 import model
 from model import bodies_of, clone, close_cursor, delete, get, info, next_pairs, open_cursor, put, reply, scan, stat, tag_of
 from program import DEADLINE, PROGRAM, Skipped, StoreFile, Wrong, bytes_of, complaint, expect, expect_kept
+from samples import BATCH_MAX
 from shim import COUNTED, calls_in, library, settings
 
 # With M 4, which a new store meets at its fifth change: one publication, commands that read before and after it, and cursors over it.
@@ -40,6 +41,10 @@ class Script:
             after.append(copy.deepcopy(now))
         self.made = [store.counts()[2] for store in after]
         self.least, self.stores = self.made[0], dict(zip(self.made, after))
+
+    def may_have(self, answered):
+        """How many changes a crash may leave where so many commands are answered: none to all of the batch under way."""
+        return range(self.made[answered], self.made[min(answered + BATCH_MAX, len(self.made) - 1)] + 1)
 
     def from_change(self, changes):
         """The rest of it behind so many changes of the store."""

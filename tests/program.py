@@ -84,9 +84,11 @@ def read_exactly(pipe, count):
     return got
 
 
+PIPES = {"stdin": subprocess.PIPE, "stdout": subprocess.PIPE, "stderr": subprocess.PIPE, "bufsize": 0}
+
+
 def start(path, program=PROGRAM):
-    return subprocess.Popen([program, "serve", path], stdin=subprocess.PIPE, stdout=subprocess.PIPE,
-                            stderr=subprocess.PIPE, bufsize=0)
+    return subprocess.Popen([program, "serve", path], **PIPES)
 
 
 def close(child):
@@ -135,8 +137,13 @@ class Talk:
 
 
 def serve(path, pieces, program=PROGRAM, deadline=DEADLINE):
-    """Gives the pieces one by one, each only when the one before was read, and then the end."""
-    child = start(path, program)
+    """Serves the pieces, given one by one: output, status and complaint."""
+    return fed([program, "serve", path], pieces, deadline)
+
+
+def fed(words, pieces, deadline=DEADLINE, **how):
+    """Gives a program the pieces one by one, each only when the one before was read, and then the end."""
+    child = subprocess.Popen(words, **PIPES, **how)
     got = []
     reader = threading.Thread(target=lambda: got.append(child.stdout.read()))
     reader.start()
@@ -303,19 +310,19 @@ def expect_prefix(name, path, store, frames, answered):
 
 
 def expect_kept(name, history, answered, data):
-    """The bytes open as the store that has what is acknowledged, and at most the change under way. The number of its changes.
+    """The bytes open as the store that has what is acknowledged, and at most what is under way. The number of its changes.
 
     Of the commands that were sent so many were answered. `history` has `least`, how many changes were acknowledged before them, or
-    None if no store was there; `made`, how many changes are made once so many commands are answered; and `stores`, what
-    the store is after each number of changes.
+    None if no store was there; `may_have`, which numbers of changes a crash may leave; and `stores`, what the store is
+    after each number of changes.
     """
     status, got = formats.opened(data)
     if status == model.NOT_A_STORE and history.least is None and not answered:
         return 0
     expect(f"{name}, the file", status, 0)
-    changes, least = got.counts()[2], history.made[answered] if answered else history.least or 0
-    if not least <= changes <= history.made[min(answered + 1, len(history.made) - 1)]:
-        raise Wrong(f"{name}: {changes} changes are there, and {least} are acknowledged")
+    changes, allowed = got.counts()[2], history.may_have(answered)
+    if changes not in allowed:
+        raise Wrong(f"{name}: {changes} changes are there, where {answered} commands are answered and there may be {allowed}")
     expect_alike(name, got, history.stores[changes])
     expect(f"{name}, unread", got.unread, set())
     return changes

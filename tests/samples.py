@@ -7,6 +7,8 @@ import formats
 from model import clone, close_cursor, delete, frame, get, info, next_pairs, open_cursor, put, scan, stat
 from program import StoreFile, bytes_of
 
+BATCH_MAX = 16  # most changes that become durable together
+
 ABC = put(1, b"a", b"1") + put(2, b"b", b"2") + put(3, b"c", b"3")
 SETTINGS = (put(1, b"user/1/name", b"Ann") + put(2, b"user/2/name", b"Bob") + clone(3) + clone(4)
             + put(5, b"user/2/name", b"Rob", 1) + delete(6, b"user/1/name", 2))
@@ -101,6 +103,29 @@ def drawn_changes(chance, count, versions, keys, clones):
         else:
             frames.append(put(tag, b"%d" % chance.randrange(keys), chance.randbytes(chance.randrange(6)), version))
     return frames
+
+
+def batch_ends(store, frames):
+    """How many changes a store has after each batch that it makes durable, where it is given these frames in one piece.
+
+    A batch is of accepted changes one behind the other, sixteen at most, and no more than the journal has room for. A change
+    that meets a full journal is made by itself.
+    """
+    after, mem = copy.deepcopy(store.model), store.model.limits[0]
+    fill, batch, ends = len(formats.read(bytes_of(store.path)).journal), 0, []
+    for piece in frames:
+        before = after.counts()[2]
+        after.serve(piece)
+        is_made, is_full = after.counts()[2] > before, fill == mem
+        if batch and (not is_made or is_full or batch == BATCH_MAX):
+            ends.append(before)
+            batch = 0
+        if is_made and is_full:
+            ends.append(before + 1)
+            fill = 1
+        elif is_made:
+            batch, fill = batch + 1, fill + 1
+    return ends + [after.counts()[2]] if batch else ends
 
 
 def drawn_frames(chance, count, versions, keys, clones):

@@ -3,44 +3,43 @@
 import os
 import re
 import shutil
-import subprocess
 
-from program import DEADLINE, PROGRAM, Skipped, bytes_of
+from program import PROGRAM, Skipped, bytes_of, fed
 
 
-def traced(folder, words, *inject, data=b""):
-    """What a run under strace gives, and the files and folders that it synced: the call, the path and how it ended."""
+def traced(folder, words, *inject, pieces=()):
+    """What a run under strace gives, and the files and folders that it synced: the call, the path and how it ended.
+
+    The pieces are its input, each given when the one before was read.
+    """
     if not shutil.which("strace"):
         raise Skipped("strace is not here")
     log = os.path.join(folder, "log")
     open(log, "wb").close()
     wanted = [word for what in ("trace=fsync,fdatasync", *inject) for word in ("-e", what)]
-    ran = subprocess.run(["strace", "-y", "-o", log, *wanted, PROGRAM, *words], input=data, capture_output=True,
-                         timeout=DEADLINE, cwd=folder)
+    ran = fed(["strace", "-y", "-o", log, *wanted, PROGRAM, *words], pieces, cwd=folder)
     text = bytes_of(log).decode()
     if not re.search(r"^\+\+\+ exited with", text, re.M):
-        raise Skipped(f"strace cannot run a program: {ran.stderr.decode().strip()}")
+        raise Skipped(f"strace cannot run a program: {ran[2].decode().strip()}")
     syncs = re.findall(r"^(fsync|fdatasync)\(\d+<(.*?)>\) += (-1 \w+|0)", text, re.M)
-    return (ran.stdout, ran.returncode, ran.stderr), syncs
+    return ran, syncs
 
 
-def calls_of(folder, words, data=b""):
+def calls_of(folder, words, pieces=()):
     """What a run writes, and asks of the system, in order: a write into the file with its place, a sync, or output."""
     if not shutil.which("strace"):
         raise Skipped("strace is not here")
     log = os.path.join(folder, "log")
-    ran = subprocess.run(["strace", "-xx", "-s", "8192", "-o", log, "-e", "trace=lseek,write,fdatasync", PROGRAM, *words],
-                         input=data, capture_output=True, timeout=DEADLINE)
+    strace = ["strace", "-xx", "-s", "8192", "-o", log, "-e", "trace=write,pwrite64,fdatasync"]
+    out, _, said = fed([*strace, PROGRAM, *words], pieces)
     if not os.path.exists(log) or b"exited with" not in bytes_of(log):
-        raise Skipped(f"strace cannot run a program: {ran.stderr.decode().strip()}")
-    place, calls = 0, []
-    for name, fields in re.findall(r"^(lseek|write|fdatasync)\((.*)\) += \d+$", bytes_of(log).decode(), re.M):
-        number, *fields = fields.split(", ")
-        if name == "lseek":
-            place = int(fields[0])
-        elif name == "fdatasync":
+        raise Skipped(f"strace cannot run a program: {said.decode().strip()}")
+    calls = []
+    for name, fields in re.findall(r"^(write|pwrite64|fdatasync)\((.*)\) += \d+$", bytes_of(log).decode(), re.M):
+        _, *fields = fields.split(", ")
+        if name == "fdatasync":
             calls.append(("sync", None, None))
-        else:
-            piece = bytes.fromhex(fields[0].strip('"').replace("\\x", ""))
-            calls.append(("output" if number == "1" else "write", place, piece))
-    return ran.stdout, calls
+            continue
+        piece = bytes.fromhex(fields[0].strip('"').replace("\\x", ""))
+        calls.append(("write", int(fields[2]), piece) if name == "pwrite64" else ("output", None, piece))
+    return out, calls

@@ -9,7 +9,7 @@ import subprocess
 import formats
 import model
 from model import BLOCK, Store, bodies_of, get, put, reply
-from program import DEADLINE, PROGRAM, PUT_A, Skipped, StoreFile, bytes_of, complaint, expect, expect_prefix, run, serve
+from program import DEADLINE, PROGRAM, PUT_A, Skipped, StoreFile, bytes_of, complaint, expect, expect_prefix, fed, run, serve
 from tracing import traced
 
 
@@ -27,9 +27,9 @@ def a_sync_that_fails_is_a_device_fault(folder):
         got, syncs = traced(folder, words, f"inject=fdatasync:error=EIO:when={call}")
         expect(f"the file, {call}", (got, syncs[-1][2]), (fault, "-1 EIO"))
     # the syncs of a serving run: at its opening, and two for each put
-    puts = b"".join(put(tag, b"%d" % tag, b"v") for tag in range(3))
+    puts = [put(tag, b"%d" % tag, b"v") for tag in range(3)]
     for call in range(1, 8):
-        got, syncs = traced(folder, ["serve", StoreFile(folder).path], f"inject=fdatasync:error=EIO:when={call}", data=puts)
+        got, syncs = traced(folder, ["serve", StoreFile(folder).path], f"inject=fdatasync:error=EIO:when={call}", pieces=puts)
         done = b"".join(reply(tag, model.DONE) for tag in range((call - 2) // 2))
         if call > 1:
             done += reply((call - 2) // 2, model.DEVICE_FAULT)
@@ -39,21 +39,19 @@ def a_sync_that_fails_is_a_device_fault(folder):
 def a_fault_amid_a_publication_leaves_the_store_before_or_after(folder):
     puts = [put(tag, b"%d" % tag, b"v") for tag in range(6)]
     seen = set()
-    for call, most in (("fdatasync", 17), ("write", 23)):
+    for call, most in (("fdatasync", 17), ("pwrite64", 23)):
         for number in range(1, most + 1):
             store = StoreFile(folder, 4, 100, 10)
             how = f"trace=fsync,fdatasync,{call}", f"inject={call}:error=ENOSPC:when={number}"
-            got, _ = traced(folder, ["serve", store.path], *how, data=b"".join(puts))
+            got, _ = traced(folder, ["serve", store.path], *how, pieces=puts)
             statuses = [body[4] for body in bodies_of(got[0])]
             answered = statuses.count(model.DONE)
-            if got[1] == model.SINK:
-                continue  # it was the write of a reply
             expect(f"{call} {number}", (got[1], got[2]), (5, complaint(5)))
             store.model = expect_prefix(f"{call} {number}", store.path, store.model, puts, answered)
             expect(f"{call} {number}, acknowledged", store.model.counts()[2] in (answered, answered + 1), True)
             seen.add((call, answered, formats.read(bytes_of(store.path)).head.generation))
             store.expect_answers(f"{call} {number}, again", [*puts, *(get(tag, b"%d" % tag) for tag in range(6))])
-    expect("what was seen", seen >= {(call, 4, generation) for call in ("fdatasync", "write") for generation in (1, 2)}, True)
+    expect("what was seen", seen >= {(call, 4, generation) for call in ("fdatasync", "pwrite64") for generation in (1, 2)}, True)
 
 
 def a_folder_or_file_without_leave_is_a_device_fault(folder):
@@ -112,7 +110,7 @@ def a_full_device_is_a_device_fault(folder):
     puts = [put(tag, b"%d" % tag, b"value") for tag in range(5)]
     want = reply(0, model.DONE) + reply(1, model.DONE) + reply(2, model.DEVICE_FAULT)
     most = 2 * BLOCK + 2 * len(formats.record_of((model.PUT, 0, b"0", b"value"))) + 5
-    got = run(["serve", store.path], input=b"".join(puts), preexec_fn=lambda: limited(most))
+    got = fed([PROGRAM, "serve", store.path], puts, preexec_fn=lambda: limited(most))
     expect("puts", got, (want, 5, complaint(5)))
     status, store.model = formats.opened(bytes_of(store.path))
     expect("kept", (status, store.model.changes), (0, [(model.PUT, 0, key, b"value") for key in (b"0", b"1")]))

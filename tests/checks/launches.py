@@ -8,7 +8,7 @@ import formats
 import model
 from launching import MAKING, REFUSED, Terminal, expect_files, launch, limited
 from model import BLOCK, Store, put, reply
-from program import DEADLINE, GET_A, LAUNCHER, PUT_A, StoreFile, bytes_of, complaint, expect, hexed
+from program import DEADLINE, GET_A, LAUNCHER, PUT_A, StoreFile, bytes_of, complaint, expect, fed, hexed
 
 
 def the_launcher_passes_words_input_and_status_on(folder):
@@ -72,10 +72,13 @@ def a_file_at_its_largest_size_is_told(folder):
     expect("format", got, (b"", 5, complaint(5)))
     # the record of the second put lies across the end of what may be written
     store = StoreFile(folder)
-    puts = put(0, b"0", b"value") + put(1, b"1", b"value")
+    puts = [put(0, b"0", b"value"), put(1, b"1", b"value")]
     most = 2 * BLOCK + len(formats.record_of((model.PUT, 0, b"0", b"value"))) + 5
-    got = launch(["serve", store.path], input=puts, preexec_fn=lambda: limited(most))
-    expect("serve", got, (reply(0, model.DONE) + reply(1, model.DEVICE_FAULT), 5, complaint(5)))
+    got = launch(["serve", store.path], input=b"".join(puts), preexec_fn=lambda: limited(most))
+    expect("serve, both in one batch", got, (reply(0, model.DEVICE_FAULT), 5, complaint(5)))
+    store = StoreFile(folder)
+    got = fed([LAUNCHER, "serve", store.path], puts, preexec_fn=lambda: limited(most))
+    expect("serve, one by one", got, (reply(0, model.DONE) + reply(1, model.DEVICE_FAULT), 5, complaint(5)))
 
 
 def what_a_file_holds_is_not_overwritten_unasked(folder):

@@ -9,7 +9,7 @@ import formats
 import model
 from model import BLOCK, Store, bodies_of, close_cursor, frame, get, info, next_pairs, open_cursor, put, scan, stat
 from program import StoreFile, Wrong, bytes_of, expect, expect_kept, expect_opened, serve
-from samples import drawn_beside_cursors, drawn_changes, folders_of
+from samples import batch_ends, drawn_beside_cursors, drawn_changes, folders_of
 from tracing import calls_of, traced
 
 
@@ -23,19 +23,20 @@ def the_file_is_synced_at_each_sync_and_its_folder_once(folder):
         expect(f"format {path}", got, (made.line(), 0, b""))
         # the manifest, the superblock and its gate; the folder with the first of them
         expect(f"format {path}, syncs", syncs, [file_synced, folder_synced, file_synced, file_synced])
-        puts = b"".join(put(tag, b"%d" % tag, b"v") for tag in range(4))
-        out, status = made.serve(puts)
-        got, syncs = traced(folder, ["serve", path], data=puts)
+        puts = [put(tag, b"%d" % tag, b"v") for tag in range(4)]
+        together = path == "a.store"
+        out, status = made.serve(b"".join(puts))
+        got, syncs = traced(folder, ["serve", path], pieces=[b"".join(puts)] if together else puts)
         expect(f"serve {path}", got, (out, status, b""))
-        # the opening, and for each put its record and its gate
-        expect(f"serve {path}, syncs", syncs, [file_synced, folder_synced, *(8 * [file_synced])])
+        # the opening, and for each batch its records and the gate in front of them
+        expect(f"serve {path}, syncs", syncs, [file_synced, folder_synced, *((2 if together else 8) * [file_synced])])
         # one more, for which the journal is emptied; what looks at the store syncs nothing behind the opening, and writes nothing
         fifth = put(9, b"9", b"v")
         expect(f"serve {path}, a fifth put", serve(file, [fifth]), (*made.serve(fifth), b""))
         before = bytes_of(file)
         looks = (get(1, b"1") + get(2, b"9") + scan(3) + info(4) + stat(5) + open_cursor(6) + next_pairs(7, 1) + close_cursor(8, 1))
         out, status = made.serve(looks)
-        got, syncs = traced(folder, ["serve", path], data=looks)
+        got, syncs = traced(folder, ["serve", path], pieces=[looks])
         expect(f"serve {path}, looks", got, (out, status, b""))
         expect(f"serve {path}, syncs of looks", syncs, [file_synced, folder_synced])
         expect(f"serve {path}, the file's bytes are the same", bytes_of(file) == before, True)
@@ -43,8 +44,15 @@ def the_file_is_synced_at_each_sync_and_its_folder_once(folder):
 
 # What a run writes and syncs, call by call. `synced` has the bytes that were durable when it began, `pending` the writes before
 # it that were not. So many changes as `least` were acknowledged before it; None says that no store was there. `made` says how many
-# changes are made once so many commands are answered, and `stores` what the store is after each number of changes.
-History = collections.namedtuple("History", "synced pending calls least made stores")
+# changes are made once so many commands are answered, `ends` how many after each batch, and `stores` what the store is after
+# each number of changes.
+class History(collections.namedtuple("History", "synced pending calls least made ends stores")):
+    __slots__ = ()
+
+    def may_have(self, answered):
+        """How many changes a crash may leave where so many commands are answered: all or none of the batch under way."""
+        least = self.made[answered] if answered else self.least or 0
+        return [end for end in self.ends if end >= least][:2]
 
 
 def image_of(synced, pending, choose=lambda old, piece: piece):
@@ -91,26 +99,28 @@ def moments(history, left_out=None):
     yield len(history.calls), len(bodies_of(output)), synced, pending
 
 
-def served_history(folder, name, store, frames):
-    """The history of a run that serves these frames, on a file all of which is durable."""
-    synced = bytes_of(store.path)
-    out, calls = calls_of(folder, ["serve", store.path], b"".join(frames))
+def served_history(folder, name, store, frames, together=False):
+    """The history of a run that serves these frames, one by one or in one piece, on a file all of which is durable."""
+    synced, ends = bytes_of(store.path), [store.model.counts()[2]]
+    ends += batch_ends(store, frames) if together else []
+    out, calls = calls_of(folder, ["serve", store.path], [b"".join(frames)] if together else frames)
     expect(name, out == copy.deepcopy(store.model).serve(b"".join(frames))[0], True)
     stores = [copy.deepcopy(store.model)]
     for piece in frames:
         store.model.serve(piece)
         stores.append(copy.deepcopy(store.model))
     made = [after.counts()[2] for after in stores]
-    return History(synced, [], calls, made[0], made, dict(zip(made, stores)))
+    return History(synced, [], calls, made[0], made, ends if together else sorted(set(made)), dict(zip(made, stores)))
 
 
 def a_cut_of_power_loses_nothing_acknowledged(folder):
     chance = random.Random(24)
     seen = set()
-    for turn in range(3):
-        store, again = StoreFile(folder, 4, 1000, 100), StoreFile(folder, 4, 1000, 100)
-        frames = drawn_beside_cursors(chance, 90, store.model, 6, 0.2) if turn else drawn_changes(chance, 50, 1, 6, 0.2)
-        history = served_history(folder, f"turn {turn}", store, frames)
+    for turn, together in enumerate((False, False, True, True)):
+        mem = 40 if turn == 3 else 4
+        store, again = StoreFile(folder, mem, 1000, 100), StoreFile(folder, mem, 1000, 100)
+        frames = drawn_beside_cursors(chance, 90, store.model, 6, 0.2) if turn == 1 else drawn_changes(chance, 50, 1, 6, 0.2)
+        history = served_history(folder, f"turn {turn}", store, frames, together)
         for number, answered, synced, pending in moments(history):
             for choice, data in enumerate(images_of(synced, pending, chance)):
                 name = f"turn {turn}, call {number}, choice {choice}"
@@ -119,7 +129,7 @@ def a_cut_of_power_loses_nothing_acknowledged(folder):
                 if chance.random() < 0.01:
                     expect_opened(f"{name}, the program", again.path, data)
         expect(f"turn {turn}, the file at last", synced == bytes_of(store.path), True)
-    wanted = {(0, 0), (0, 1), (1, 0), (2, 0), (2, 1), (3, 0), (4, 0), (4, 1)}
+    wanted = {(0, 0), (0, 1), (1, 0), (2, 0), (2, 1), (3, 0), (4, 0), (4, 1), (0, 3), (4, 3)}
     expect("what was seen", sorted(wanted - seen), [])
 
 
@@ -174,7 +184,7 @@ def formatted_history(folder):
     out, calls = calls_of(folder, ["format", os.path.join(folder, "new.store"), *map(str, store.limits)])
     expect("format", out, store.line())
     calls = [(call, place, frame(piece) if call == "output" else piece) for call, place, piece in calls]
-    return History(b"", [], calls, None, [0, 0], {0: store})
+    return History(b"", [], calls, None, [0, 0], [0], {0: store})
 
 
 def killed_history(folder, first, last, chance):

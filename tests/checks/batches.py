@@ -1,0 +1,133 @@
+"""Batches: changes whose frames came together become durable together, all or none, and their replies leave together."""
+
+import copy
+import random
+import shutil
+import time
+
+import formats
+import model
+from model import bodies_of, clone, delete, get, put, reply, scan, stat
+from program import (
+    DEADLINE, StoreFile, bytes_of, close, complaint, expect, expect_alike, expect_told, in_memory, serve, start)
+from samples import BATCH_MAX, batch_ends, drawn_changes
+from tracing import calls_of, traced
+
+# What is served in one piece, and where a fault is met: a batch that is full, one with a clone in it, and two with a get between.
+FULL = [put(tag, b"%02d" % tag, b"v") for tag in range(BATCH_MAX)]
+WITH_CLONE = [put(1, b"a", b"1"), put(2, b"b", b"2"), clone(3), put(4, b"a", b"3", 1), delete(5, b"b", 1)]
+CUT_BY_A_GET = [put(1, b"a", b"1"), put(2, b"b", b"2"), get(3, b"a"), put(4, b"a", b"3"), put(5, b"c", b"4")]
+
+
+def counted(calls):
+    """How many calls of each kind stand in this list of calls."""
+    return {kind: sum(call == kind for call, *_ in calls) for kind in ("write", "sync", "output")}
+
+
+def changes_that_come_together_share_a_commit(folder):
+    puts = [put(tag, b"%02d" % tag, b"v") for tag in range(40)]
+    for name, pieces, batches in (("in one piece", [b"".join(puts)], 3), ("one by one", puts, 40),
+                                  ("in two pieces", [b"".join(puts[:7]), b"".join(puts[7:])], 4)):
+        store = StoreFile(folder)
+        want, _ = store.model.serve(b"".join(puts))
+        out, calls = calls_of(folder, ["serve", store.path], pieces)
+        expect(f"{name}, the replies", out, want)
+        # two writes and two syncs a batch, and the opening's sync
+        expect(name, counted(calls), {"write": 2 * batches, "sync": 2 * batches + 1, "output": batches})
+        store.expect_bytes(name)
+
+
+def no_reply_leaves_before_its_change_is_durable(folder):
+    store = StoreFile(folder)
+    _, calls = calls_of(folder, ["serve", store.path], [b"".join([*FULL, get(90, b"03"), *WITH_CLONE])])
+    kinds = [call for call, *_ in calls]
+    commit = ["write", "sync", "write", "sync"]
+    expect("the order of calls", kinds, ["sync", *commit, "output", "output", *commit, "output"])
+
+
+@in_memory
+def a_stream_is_answered_alike_wherever_it_is_cut(folder):
+    chance = random.Random(39)
+    fresh = StoreFile(folder, 16, 1000, 100)
+    frames = drawn_changes(chance, 32, 1, 6, 0.2)
+    for place, other in ((3, get(90, b"1")), (9, scan(91)), (17, put(92, b"", b"")), (25, stat(93)), (26, get(94, b"2", 1)),
+                         (30, put(95, b"k", b"v", 99)), (33, clone(96, 98)), (37, get(97, b"3"))):
+        frames.insert(place, other)
+    expect("frames", len(frames), 40)
+    stream = b"".join(frames)
+    want = copy.deepcopy(fresh.model).serve(stream)[0]
+    for cut in range(len(stream)):
+        path = shutil.copy(fresh.path, fresh.path + ".cut")
+        expect(f"cut at {cut}", serve(path, [stream[:cut], stream[cut:]] if cut else [stream]), (want, 0, b""))
+    after = copy.deepcopy(fresh.model)
+    after.serve(stream)
+    expect_alike("the file at last", formats.opened(bytes_of(path))[1], after)
+
+
+@in_memory
+def kills_amid_batches_leave_all_or_none(folder):
+    chance, seen = random.Random(40), set()
+    for turn in range(200):
+        if turn % 10 == 0:
+            store = StoreFile(folder, chance.choice((4, 20, 64)), 100000, 16384)
+        frames = drawn_changes(chance, 60, len(store.model.parents), 6, 0.2)
+        ends = [store.model.counts()[2], *batch_ends(store, frames)]
+        child = start(store.path)
+        child.stdin.write(b"".join(frames))  # less than the pipe takes at once, so the program reads all of it at once
+        time.sleep(chance.random() / 100)
+        child.kill()
+        child.wait(DEADLINE)
+        got = child.stdout.read()
+        close(child)
+        answered = len(bodies_of(got))
+        after = copy.deepcopy(store.model)
+        want = b"".join(after.serve(piece)[0] for piece in frames[:answered])
+        expect(f"turn {turn}, replies", got[:len(want)] == want, True)
+        left = formats.opened(bytes_of(store.path))[1]
+        changes = left.counts()[2]
+        expect(f"turn {turn}, {changes} changes", changes in [end for end in ends if end >= after.counts()[2]][:2], True)
+        expect_told(f"turn {turn}", store.path)
+        seen.add(changes > ends[0])
+        store.model = left
+    expect("what was seen", seen, {False, True})
+
+
+def a_batch_that_fails_is_told_of_once(folder):
+    for name, frames in (("a full batch", FULL), ("with a clone", WITH_CLONE), ("cut by a get", CUT_BY_A_GET)):
+        statuses = set()
+        for call in ("pwrite64", "write", "fdatasync"):
+            for number in range(1, 12):
+                statuses.add(expect_whole_after_a_fault(f"{name}, {call} {number}", folder, frames, call, number))
+        expect(f"{name}, statuses", statuses, {model.ENDED, model.DEVICE, model.SINK})
+
+
+def expect_whole_after_a_fault(name, folder, frames, call, number):
+    """The replies of a run whose call of this number fails, and the file, which has all or none of each batch. The status."""
+    store = StoreFile(folder)
+    ends = [0, *batch_ends(store, frames)]
+    how = f"trace=fsync,fdatasync,{call}", f"inject={call}:error=EIO:when={number}"
+    (out, status, said), _ = traced(folder, ["serve", store.path], *how, pieces=[b"".join(frames)])
+    answered = sum(body[4] != model.DEVICE_FAULT for body in bodies_of(out))
+    want, _ = copy.deepcopy(store.model).serve(b"".join(frames[:answered]))
+    if status == model.DEVICE and (call, number) != ("fdatasync", 1):  # that is the opening's, before any reply
+        want += reply(model.tag_of(frames[answered][4:]), model.DEVICE_FAULT)
+    expect(name, (out, said), (want, complaint(status)))
+    if status == model.ENDED:
+        expect(f"{name}, all are answered", answered, len(frames))
+    for piece in frames[:answered]:
+        store.model.serve(piece)
+    left = formats.opened(bytes_of(store.path))[1]
+    changes = left.counts()[2]
+    expect(f"{name}, {changes} changes", changes in [end for end in ends if end >= store.model.counts()[2]][:2], True)
+    store.model = left
+    store.expect_answers(f"{name}, again", [get(1, b"a"), get(2, b"03"), *frames])
+    return status
+
+
+CHECKS = [
+    changes_that_come_together_share_a_commit,
+    no_reply_leaves_before_its_change_is_durable,
+    a_stream_is_answered_alike_wherever_it_is_cut,
+    kills_amid_batches_leave_all_or_none,
+    a_batch_that_fails_is_told_of_once,
+]
