@@ -52,12 +52,12 @@ def measured(folder, *words):
 def the_bench_finds_both_stores_alike(folder):
     ran = subprocess.run([sys.executable, str(TOP / "bench" / "run"), "--counts", "40,80", "--gets", "20", "--mem", "16",
                           "--disk", folder], capture_output=True, timeout=60)
-    expect("its status", (ran.returncode, ran.stderr.count(b"\n")), (0, 8))
+    expect("its status", (ran.returncode, ran.stderr.count(b"\n")), (0, 10))
     titles = re.findall(rb"^### `(\w+)`", ran.stdout, re.MULTILINE)
-    expect("its tables", titles, [b"puts", b"chain", b"sparse", b"star"])
-    expect("its scans", ran.stdout.count("| µs a scan of 100 | µs a pair, whole version | µs a pair, by a cursor |".encode()), 4)
+    expect("its tables", titles, [b"puts", b"chain", b"sparse", b"star", b"deleted"])
+    expect("its scans", ran.stdout.count("| µs a scan of 100 | µs a pair, whole version | µs a pair, by a cursor |".encode()), 5)
     rows = re.findall(rb"^\| (40|80) \| (castle|SQLite) \|", ran.stdout, re.MULTILINE)
-    expect("its rows", rows, [(b"40", b"castle"), (b"40", b"SQLite"), (b"80", b"castle"), (b"80", b"SQLite")] * 4)
+    expect("its rows", rows, [(b"40", b"castle"), (b"40", b"SQLite"), (b"80", b"castle"), (b"80", b"SQLite")] * 5)
 
 
 def one_wrong_answer_is_noticed_wherever_it_comes(folder):
@@ -123,22 +123,22 @@ def replies_are_no_bytes_of_the_file(folder):
 TABLE = """\
 ### `chain`: {}
 
-| Changes | Store | µs a change, synced | µs a change, in memory | µs a get | µs a scan of 100 | µs a pair, whole version \
-| µs a pair, by a cursor | Opening, ms | Bytes of the file | Bytes written a change |
-|---|---|---|---|---|---|---|---|---|---|---|
-| 10 | castle | 1,000.0 | 20.0 | 30.0 | 400.0 | 0.50 | 0.60 | 7.00 | 8,000 | 90 |
-| 10 | SQLite | 1.0 |  | 2.0 | 3.0 | 4.00 |  | 5.00 | 6 |  |
-| 1,000 | castle | 1,000.0 | 200.0 | 3,000.0 | 400.0 | 0.50 | 0.60 | 70.00 | 80,000,000 | 9 |
-| 1,000 | SQLite | 1.0 |  | 2.0 | 3.0 | 4.00 |  | 5.00 | 6 |  |
-| grows by | castle | 0.00 | 0.50 | 1.00 | 0.00 | 0.00 | 0.00 | 0.50 | 2.00 | -0.50 |
-| grows by | SQLite | 0.00 |  | 0.00 | 0.00 | 0.00 |  | 0.00 | 0.00 |  |
+| Changes | Store | µs a change, synced | the same, together | µs a change, in memory | µs a get | µs a scan of 100 \
+| µs a pair, whole version | µs a pair, by a cursor | Opening, ms | Bytes of the file | Bytes written a change |
+|---|---|---|---|---|---|---|---|---|---|---|---|
+| 10 | castle | 1,000.0 | 100.0 | 20.00 | 30.0 | 400.0 | 0.50 | 0.60 | 7.00 | 8,000 | 90 |
+| 10 | SQLite | 1.0 | 0.5 |  | 2.0 | 3.0 | 4.00 |  | 5.00 | 6 |  |
+| 1,000 | castle | 1,000.0 | 100.0 | 200.00 | 3,000.0 | 400.0 | 0.50 | 0.60 | 70.00 | 80,000,000 | 9 |
+| 1,000 | SQLite | 1.0 | 0.5 |  | 2.0 | 3.0 | 4.00 |  | 5.00 | 6 |  |
+| grows by | castle | 0.00 | 0.00 | 0.50 | 1.00 | 0.00 | 0.00 | 0.00 | 0.50 | 2.00 | -0.50 |
+| grows by | SQLite | 0.00 | 0.00 |  | 0.00 | 0.00 | 0.00 |  | 0.00 | 0.00 |  |
 """
 
 
 def a_table_shows_what_was_measured(folder):
     new = bench.Measured
-    plain = new(change=1e-6, get=2e-6, scan=3e-6, pair=4e-6, cursor=None, opening=5e-3, size=6, written=None)
-    rows = [(count, {CASTLE: (new(1e-3, 1, 1, 1, 1, 1, size, written), new(fast, get, 4e-4, 5e-7, 6e-7, opening, 1, 1)),
+    plain = new(change=1e-6, together=5e-7, get=2e-6, scan=3e-6, pair=4e-6, cursor=None, opening=5e-3, size=6, written=None)
+    rows = [(count, {CASTLE: (new(1e-3, 1e-4, 1, 1, 1, 1, 1, size, written), new(None, fast, get, 4e-4, 5e-7, 6e-7, opening, 1, 1)),
                      SQLITE: (plain, None)})
             for count, opening, size, written, fast, get in ((10, 7e-3, 8000, 90, 2e-5, 3e-5), (1000, 7e-2, 80_000_000, 9, 2e-4, 3e-3))]
     expect("the table", "\n".join(bench.table("chain", rows)), TABLE.format(bench.chain.__doc__))

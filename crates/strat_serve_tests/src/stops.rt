@@ -202,5 +202,5 @@ fn a_crash_leaves_every_put_that_was_acknowledged(rt: HostRuntime) {
         looks: 13,
         batch: 4,
     };
-    assert!(rt; served_stops(rt.alloc(), &store, plan).is_some_and(|calls| calls > 80));
+    assert!(rt; served_stops(rt.alloc(), &store, plan).is_some_and(|calls| calls > 52));
 }
