@@ -39,7 +39,7 @@ def a_sync_that_fails_is_a_device_fault(folder):
 def a_fault_amid_a_publication_leaves_the_store_before_or_after(folder):
     puts = [put(tag, b"%d" % tag, b"v") for tag in range(6)]
     seen = set()
-    for call, most in (("fdatasync", 17), ("pwrite64", 23)):
+    for call, most in (("fdatasync", 17), ("pwrite64", 17)):
         for number in range(1, most + 1):
             store = StoreFile(folder, 4, 100, 10)
             how = f"trace=fsync,fdatasync,{call}", f"inject={call}:error=ENOSPC:when={number}"

@@ -51,8 +51,9 @@ class History(collections.namedtuple("History", "synced pending calls least made
 
     def may_have(self, answered):
         """How many changes a crash may leave where so many commands are answered: all or none of the batch under way."""
-        least = self.made[answered] if answered else self.least or 0
-        return [end for end in self.ends if end >= least][:2]
+        made = self.made[answered]
+        least, most = made if answered else self.least or 0, min((end for end in self.ends if end > made), default=made)
+        return [end for end in self.ends if least <= end <= most]
 
 
 def image_of(synced, pending, choose=lambda old, piece: piece):
@@ -196,7 +197,8 @@ def killed_history(folder, first, last, chance):
     store.model = copy.deepcopy(first.stores[formats.opened(data)[1].counts()[2]])
     frames = [stat(0), *drawn_changes(chance, 12, len(store.model.parents), 6, 0.2)]
     history = served_history(folder, f"after call {last}", store, frames)
-    return history._replace(synced=synced, pending=pending, least=first.made[answered], stores={**first.stores, **history.stores})
+    return history._replace(synced=synced, pending=pending, least=first.made[answered], ends=sorted({*first.ends, *history.ends}),
+                            stores={**first.stores, **history.stores})
 
 
 def histories(folder, chance):
