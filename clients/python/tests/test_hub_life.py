@@ -222,6 +222,8 @@ class EndTest(HubCase):
 
     def test_what_was_taken_before_a_signal_is_answered(self) -> None:
         for number in (signal.SIGTERM, signal.SIGINT, signal.SIGHUP):
+            if signal.getsignal(number) is signal.SIG_IGN:  # as SIGHUP is under nohup, and then the hub ignores it too
+                continue
             self.served()
             idle = self.client()
             program, clients = self.waiting(*(frames.put(5, 0, b"%d" % client, b"v") for client in range(10)))
@@ -303,8 +305,8 @@ class EndTest(HubCase):
         with self.assertRaises(errors.DeviceFault):
             for done in range(100):
                 store.put(0, f"{done}", b"v" * 100)
-        for gone in (store, other):
-            with self.assertRaises(errors.HubGone):
+        for gone in (store, other):  # the hub may take the command before it sees that its program has ended
+            with self.assertRaises((errors.HubGone, errors.Unanswered)):
                 gone.get(0, "other")
         status, said = self.ended()
         self.assertEqual(status, 5)
