@@ -208,7 +208,7 @@ def the_client_is_a_package_without_a_registry(folder):
         has = {path.name for path in pathlib.Path(source, "castle").iterdir() if path.suffix in (".py", ".typed")}
         expect(f"from the {name}, files", has - set(os.listdir(os.path.join(target, "castle"))), set())
         usage = python(os.path.join(target, "bin", "castle-shell"), "--help")
-        expect(f"from the {name}, the shell", usage.splitlines()[0], "usage: castle-shell FILE")
+        expect(f"from the {name}, the shell", usage.split()[:2], ["usage:", "castle-shell"])
         usage = python(os.path.join(target, "bin", "castle-hub"), "--help")
         expect(f"from the {name}, the hub", usage.split()[:2], ["usage:", "castle-hub"])
         del environment["PYTHONPATH"]

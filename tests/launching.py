@@ -133,7 +133,7 @@ class Checkout:
         self.stamp = os.path.join(self.top, "crates", "castle", "out", "built")
         shutil.copytree(TOP / "launcher", os.path.join(self.top, "launcher"))
         for name in ("castle", "README.md", "clients/python/pyproject.toml"):
-            self.write(name, (TOP / name).read_text())
+            shutil.copyfile(TOP / name, self.write(name, ""))
         os.chmod(self.launcher, 0o755)
         self.sources = [self.write(f"crates/{crate}/{name}", "") for crate in ("castle", "low")
                         for name in ("src/lib.rt", "specs/Lib.antt", "proofs/deep/Lemmas.antt")]
