@@ -11,16 +11,16 @@ use Rattle.strat_model.specs.Spelling.{Spells}
 use Rattle.def_pins.proofs.runs.batches_leave_all_or_nothing.Goals as goal
 
 -- where others follow, an interrupted body asks for a change
-asked : {at : Position} {h : Interruption} {y : Exchange} {more : List Exchange} → more ≡ y ∷ [] → (more ≡ []) ⊎ AsksForChange at h.body h.response
+asked : (at : Position) (h : Interruption) (y : Exchange) (more : List Exchange) → more ≡ y ∷ [] → (more ≡ []) ⊎ AsksForChange at h.body h.response
     → (r : Request) × Spells h.body h.response.tag r × (is_carried_out at r ≡ true)
-asked one (inl none) = let e : y ∷ [] ≡ [] = sym one ∙ none in absurd cc
-asked one (inr made) = (made.request, made.spelled, made.made)
+asked at h y more one (inl none) = let e : y ∷ [] ≡ [] = sym one ∙ none in absurd cc
+asked at h y more one (inr made) = (made.request, made.spelled, made.made)
 
 pub returns : goal.returns
 returns c = record {
   tables = λ x after end h. refl;
   none = λ x after end. refl;
-  change = λ mem xs after h y k one. asked one k.change;
+  change = λ mem xs after h y k one. asked after h y k.more one k.change;
   next = λ mem xs after h y k one. (
     (subst (λ (ms : List Exchange). IsRun mem h.done ms k.end) one k.batch.run).0,
     (subst (λ (ms : List Exchange). AllByRecursion (IsChangeMade mem) ms) one k.batch.each).0,
