@@ -22,7 +22,7 @@ fn array_at<'a>(view: &View<'a>, v: Version, n: usize) -> Option<&'a ArrayDesc>
     requires room { n < 22 }
     ensures ok { option_copied result
         ≡ array_picked view.now.tree.now.parents view.now.levels v n }
-    ensures len { HaveNumbers view.now.levels }
+    ensures kept { HaveNumbers view.now.levels }
 {
     match &view.levels {
         Picked::Live(levels) => {
@@ -40,8 +40,8 @@ fn source_at<'a>(view: &View<'a>, v: Version, i: usize) -> Source<'a>
     requires fits { v < length view.now.tree.now.parents }
     requires room { i < 24 }
     ensures ok { (f : Image) → content_of f view.now.pool.now result ≡ content_at f view.now v i }
-    ensures found { IsOfView view.now v result }
-    ensures same { arrays_at result ≡ arrays_numbered view.now v i }
+    ensures kept { IsOfView view.now v result }
+    ensures found { arrays_at result ≡ arrays_numbered view.now v i }
 {
     if i == 0 {
         return Source::Zero(view.zero);

@@ -25,7 +25,7 @@ pub struct Log {
 impl Log {
     /// A disk with these bytes, all of them durable.
     pub fn at_rest(alloc: Global, bytes: Vec<u8>) -> Result<Log, AllocError>
-        ensures len { IfOk result (λ l. l.present.bytes.items ≡ bytes.items) }
+        ensures found { IfOk result (λ l. l.present.bytes.items ≡ bytes.items) }
         ensures ok { IfOk result (λ l. plane_of l.present
             ≡ at_rest (slice_index bytes.items)) }
     {

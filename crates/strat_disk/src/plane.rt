@@ -34,7 +34,7 @@ impl Plane {
 
     /// These bytes, all of them durable.
     pub fn at_rest(alloc: Global, bytes: Vec<u8>) -> Result<Plane, AllocError>
-        ensures len { IfOk result (λ p. p.bytes.items ≡ bytes.items) }
+        ensures found { IfOk result (λ p. p.bytes.items ≡ bytes.items) }
         ensures ok { IfOk result (λ p. plane_of p ≡ at_rest (slice_index bytes.items)) }
     {
         let durable = bytes.to_vec(alloc)?;
@@ -127,7 +127,7 @@ impl Plane {
     /// Becomes equal to another of its length.
     pub fn copy_from(&mut self, other: &Plane)
         requires { length self.old.bytes.items ≡ length other.now.bytes.items }
-        ensures same { plane_of self.new ≡ plane_of other.now }
+        ensures ok { plane_of self.new ≡ plane_of other.now }
         ensures len { length self.new.bytes.items ≡ length self.old.bytes.items }
     {
         copy(&mut self.bytes, &other.bytes);

@@ -204,7 +204,7 @@ impl Journal {
     /// nothing but another recovery is of use.
     pub fn turn<D: Disk>(&mut self, disk: &mut D) -> Result<(), Failed>
         ensures ok { OnOk result (self.new ≡ region_turned self.old) }
-        ensures none { OnOk result (self.new ≡ region_begun self.old) }
+        ensures state { OnOk result (self.new ≡ region_begun self.old) }
         ensures err { OnErr result (self.new ≡ self.old) }
         ensures kept { OnOk result ((f : Image) → Exposes (D.view disk.old) f
             → IsDurable (D.view disk.old)

@@ -158,9 +158,9 @@ impl RegionReader {
     fn record(&self, alloc: Global, at: usize) -> Result<Option<(OwnedChange, usize)>, Trouble>
         requires fits { (at < length self.now.bytes) × (length self.now.bytes ≤ self.now.size) }
         ensures found { IfOk result (λ r. HoldsRecord self.now at r) }
-        ensures end { IfOk result (λ r. IfSome r
+        ensures fits { IfOk result (λ r. IfSome r
             (λ x. (x.1 ≤ at + 1288) × (x.1 ≤ length self.now.bytes))) }
-        ensures kept { IfOk result (λ r. IfSome r
+        ensures end { IfOk result (λ r. IfSome r
             (λ x. EndsRecord self.now.bytes at x.0 x.1)) }
         ensures damaged { (b : ℕ) → IsErrOf result (Damaged b)
             → HoldsNoRecord self.now at × (b ≡ block_of (self.now.first + at)) }
@@ -187,9 +187,9 @@ impl RegionReader {
         requires fits { (at ≤ length self.old.bytes) × (at + 1288 ≤ self.old.size) }
         ensures found { IfOk result (λ r. (f : Image) → Exposes (D.view disk.old) f
             → MatchesImage f self.old → Stored f self.old at r) }
-        ensures end { IfOk result (λ r. IfSome r
+        ensures fits { IfOk result (λ r. IfSome r
             (λ x. (x.1 ≤ at + 1288) × (x.1 ≤ length self.new.bytes))) }
-        ensures kept { IfOk result (λ r. IfSome r
+        ensures end { IfOk result (λ r. IfSome r
             (λ x. EndsRecord self.new.bytes at x.0.change x.1)) }
         ensures damaged { (b : ℕ) → IsErrOf result (Damaged b) → (f : Image)
             → Exposes (D.view disk.old) f → MatchesImage f self.old → StoredNone f self.old at b }

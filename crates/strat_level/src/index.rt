@@ -77,7 +77,7 @@ fn add_tag(index: &mut Vec<Option<u32>>, number: u32, tag: &[Version]) -> Result
 /// for each. O(its length plus the lengths of all tags).
 pub(crate) fn index_of(alloc: Global, arrays: &[ArrayDesc]) -> Result<Vec<Option<u32>>, LevelFault>
     ensures ok { IfOk result (λ index. IsIndexOf index.items arrays.now) }
-    ensures none { OnOk result (HaveDisjointTags arrays.now) }
+    ensures kept { OnOk result (HaveDisjointTags arrays.now) }
     ensures err { IfErr result (λ e. IfOverlap e (λ v. 1 < arrays_for arrays.now v)) }
 {
     let mut index = Vec::new(alloc);

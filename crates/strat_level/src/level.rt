@@ -42,7 +42,7 @@ impl Level {
         requires fits { 1 ≤ desc.horizon }
         requires room { desc_leads desc ≤ 4294967295 }
         ensures ok { IfOk result (λ level. level ≡ desc) }
-        ensures none { OnOk result (HaveDisjointTags desc.arrays) }
+        ensures kept { OnOk result (HaveDisjointTags desc.arrays) }
         ensures cause { IfErr result (λ e. IfOverlap e.0 (λ v. 1 < arrays_for desc.arrays v)) }
         ensures same { IfErr result (λ e. e.1 ≡ desc) }
     {

@@ -212,7 +212,7 @@ fn is_all(reader: &Reader<'_>, manifest: &Manifest) -> bool
 /// were read.
 pub fn parse(alloc: Global, bytes: &[u8]) -> Result<Manifest, ManifestFault>
     ensures ok { IfOk result (λ m. manifest_in newest_format bytes.now ≡ Some (manifest_of m)) }
-    ensures kept { IfOk result (λ m. SpellsManifest newest_format bytes.now (manifest_of m)) }
+    ensures found { IfOk result (λ m. SpellsManifest newest_format bytes.now (manifest_of m)) }
     ensures cause { IfErr result (λ e. e ≡ fault.Refused
         → manifest_in newest_format bytes.now ≡ None) }
 {

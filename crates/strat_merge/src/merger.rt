@@ -54,7 +54,7 @@ fn pass<D: Disk, R: Run<D>>(merger: &mut Merger<R>, run: usize, disk: &mut D) ->
         (map R.view merger.new.runs.items) run) }
     ensures kept { OnOk result
         (IsTournament (map R.view merger.new.runs.items) merger.new.winners.items) }
-    ensures time { OnOk result (merger.new.consumed ≡ one_more merger.old.consumed) }
+    ensures state { OnOk result (merger.new.consumed ≡ one_more merger.old.consumed) }
     ensures reads { ReadsRuns R.view Device Damaged (D.view disk.old) (D.view disk.new)
         (D.faults disk.old) (D.faults disk.new) (D.reads disk.old) (D.reads disk.new)
         merger.old.runs.items merger.new.runs.items result }
@@ -109,7 +109,7 @@ fn take<D: Disk, R: Run<D>>(
         (IsTournament (map R.view merger.new.runs.items) merger.new.winners.items) }
     ensures len { OnOk result (length arena.new.pairs ≡ length group.new) }
     ensures room { OnOk result (IsTrue (have_pairs arena.new.pairs group.new)) }
-    ensures time { OnOk result (merger.new.consumed ≡ one_more merger.old.consumed) }
+    ensures state { OnOk result (merger.new.consumed ≡ one_more merger.old.consumed) }
     ensures fits { (e : KeyEntry) → head_at (map R.view merger.old.runs.items) run ≡ Some e
         → IsTrue (fits_fields e) }
     ensures end { (e : KeyEntry) (v : RunView)

@@ -74,11 +74,11 @@ pub fn purge(group: &mut GroupBuf, tree: &Tree)
     requires kept { IsTrue (is_descending group.old) }
     requires fits { IsTrue (are_below (length tree.now.parents) group.old) }
     ensures ok { group.new ≡ kept_items tree.now.parents group.old }
-    ensures same { (pairs : List KeyValue) (key : List ℕ)
+    ensures found { (pairs : List KeyValue) (key : List ℕ)
         → IsTrue (list_all (is_of key) (entries_of pairs group.old))
         → entries_of pairs group.new ≡ purged tree.now.parents (entries_of pairs group.old) }
     ensures kept { IsTrue (is_descending group.new) }
-    ensures fits { (p : Kept → Bool) → IsTrue (list_all p group.old)
+    ensures same { (p : Kept → Bool) → IsTrue (list_all p group.old)
         → IsTrue (list_all p group.new) }
 {
     let _ = tree.count();

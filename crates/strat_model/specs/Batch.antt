@@ -52,7 +52,7 @@ tables_behind None end = []
 tables_behind (Some h) end = bare end.table ∷ []
 
 -- the tables of a run that is continued: those before each body that was answered otherwise than by a fault, the one after
--- them, and that after its continuation; none of those amid a batch
+-- them, and that after its continuation; none of those amid the batch that was interrupted
 abbrev pub tables_continued : Transcript → Position → List Table
 tables_continued transcript end =
     tables_before transcript.exchanges

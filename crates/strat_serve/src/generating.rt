@@ -71,7 +71,7 @@ impl Frames {
 fn copy_front(into: &mut [u8], from: &[u8]) -> usize
     ensures len { result ≡ min (length from.now) (length into.old) }
     ensures ok { take result into.new ≡ take result from.now }
-    ensures room { length into.new ≡ length into.old }
+    ensures same { length into.new ≡ length into.old }
 {
     let n = from.len().min(into.len());
     into[..n].copy_from_slice(&from[..n]);

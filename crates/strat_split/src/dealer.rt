@@ -138,7 +138,7 @@ impl Dealer {
     fn reserve(&mut self, items: usize) -> Result<(), NoMemory>
         requires room { items ≤ 4294967295 }
         ensures len { length self.new.heads ≡ length self.old.heads }
-        ensures room { OnOk result (length self.new.nexts ≡ items) }
+        ensures ok { OnOk result (length self.new.nexts ≡ items) }
     {
         reserve_for(&mut self.taken, &mut self.nexts, items)
     }

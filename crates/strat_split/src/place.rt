@@ -62,7 +62,7 @@ fn first_placed(alloc: Global, survey: &Survey, first: u32) -> Result<Draft, NoM
 /// No part, and no version in one.
 fn undrafted(alloc: Global, n: usize) -> Result<Draft, NoMemory>
     ensures ok { IfOk result (λ draft. draft.labels.items ≡ replicate n 4294967295) }
-    ensures same { IfOk result (λ draft. draft.joins.items ≡ replicate n 4294967295) }
+    ensures found { IfOk result (λ draft. draft.joins.items ≡ replicate n 4294967295) }
     ensures none { IfOk result (λ draft. draft.parts.items ≡ []) }
 {
     let labels = vec![in alloc; IN_NO_PART; n]?;

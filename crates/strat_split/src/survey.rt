@@ -21,7 +21,7 @@ pub(crate) fn parent_of(survey: &Survey, v: usize) -> usize
     requires kept { IsTree survey.now.parents.now }
     requires fits { (0 < v) × (v < length survey.now.parents.now) }
     ensures ok { result ≡ up survey.now.parents.now v }
-    ensures len { result < v }
+    ensures fits { result < v }
 {
     match survey.parents[v] {
         Some(p) => p as usize,

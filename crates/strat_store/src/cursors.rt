@@ -81,7 +81,7 @@ pub(crate) fn reply_to_open_cursor(
             (OpenCursor version lo.now hi.now) (plain result);
       };
     } }
-    ensures same { (is_fault result ≡ false) × (result ≢ reply.Found) }
+    ensures cause { (is_fault result ≡ false) × (result ≢ reply.Found) }
 {
     if !held.memory.has(version) {
         return Reply::Refused(Refusal::UnknownVersion);
@@ -154,7 +154,7 @@ pub(crate) fn reply_to_close_cursor(held: &mut OpenStore, number: u64) -> Reply
             (plain result);
       };
     } }
-    ensures same { (is_fault result ≡ false) × (result ≢ reply.Found)
+    ensures cause { (is_fault result ≡ false) × (result ≢ reply.Found)
         × (result ≢ reply.Refused why.NoMemory) }
 {
     let there = held.memory.close_cursor(number);

@@ -9,7 +9,7 @@ loop-i-init c = packs_none c.args.view.now c.args.v _ (omega arith)
 
 pub loop-i-preserved : goal.loop-i-preserved
 loop-i-preserved c =
-    let numbered : IsNumbered c.args.view.now c.args.v c.loop-i.i c.source_at-source.result = (c.source_at-source.ensures.found, c.source_at-source.ensures.ok, c.source_at-source.ensures.same) in
+    let numbered : IsNumbered c.args.view.now c.args.v c.loop-i.i c.source_at-source.result = (c.source_at-source.ensures.kept, c.source_at-source.ensures.ok, c.source_at-source.ensures.found) in
     elim c.if-is_place.branch [
       | then-is_place w ↦
           packs_more c.args.view.now c.args.v c.loop-i.i c.loop-i.count c.loop-i.places c.loop-i.invariant c.source_at-source.result numbered c.if-is_place.count c.if-is_place.places
@@ -20,4 +20,4 @@ loop-i-preserved c =
     ]
 
 pub returns-clause-ok : goal.returns-clause-ok
-returns-clause-ok c = packs_all c.args.view.now c.args.v c.loop-i.i c.loop-i.count c.loop-i.places c.loop-i.invariant c.array_at-first.ensures.len (omega (arith, c.loop-i-test.false, c.loop-i.auto.i-end))
+returns-clause-ok c = packs_all c.args.view.now c.args.v c.loop-i.i c.loop-i.count c.loop-i.places c.loop-i.invariant c.array_at-first.ensures.kept (omega (arith, c.loop-i-test.false, c.loop-i.auto.i-end))

@@ -6,8 +6,8 @@ pub loop-i-preserved : goal.loop-i-preserved
 loop-i-preserved c =
     indexed_next c.loop-i.index.items c.args.arrays.now c.loop-i.i c.index-arrays-i.result c.loop-i-test.true c.loop-i.invariant c.add_tag.new.index.items c.in-Ok.number c.as_slice.result.now (omega (arith, c.in-Ok.ensures)) c.as_slice.ensures.ok c.in_ok-add_tag.ensures.ok
 
-pub returns-clause-none : goal.returns-clause-none
-returns-clause-none c = disjoint_from c.loop-i.index.items c.args.arrays.now c.loop-i.i c.loop-i-test.false c.loop-i.invariant
+pub returns-clause-kept : goal.returns-clause-kept
+returns-clause-kept c = disjoint_from c.loop-i.index.items c.args.arrays.now c.loop-i.i c.loop-i-test.false c.loop-i.invariant
 
 pub returns-in_err-add_tag-clause-err : goal.returns-in_err-add_tag-clause-err
 returns-in_err-add_tag-clause-err c =

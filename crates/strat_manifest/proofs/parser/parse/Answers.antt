@@ -38,8 +38,8 @@ returns-clause-ok c =
     all_found c.args.bytes.now c.in_ok-head.head c.take_head.new.reader head c.in_ok-manifest.manifest c.take_behind.new.reader c.in_ok-manifest.ensures.ok
     (λ i. let f = c.type_inv.bytes i in omega arith) (omega arith) c.if-not-is_all.ensures.ok
 
-pub returns-clause-kept : goal.returns-clause-kept
-returns-clause-kept c =
+pub returns-clause-found : goal.returns-clause-found
+returns-clause-found c =
     let head = ap read_head (sym c.new-reader.ensures.ok) ∙ c.in_ok-head.ensures.ok in
     all_spelled c.args.bytes.now c.in_ok-head.head c.take_head.new.reader head c.in_ok-manifest.manifest c.take_behind.new.reader c.in_ok-manifest.ensures.ok
     (λ i. let f = c.type_inv.bytes i in omega arith) (omega arith) c.if-not-is_all.ensures.ok

@@ -23,5 +23,5 @@ returns-clause-kept c =
     consistent_after c.args.held.now c.close_cursor-there.new.self (CloseCursor c.args.number) (plain (reply_of_close c.close_cursor-there.result)) c.requires.kept
     (close_leaves c.args.held.now.memory c.close_cursor-there.new.self c.args.held.now.published.levels c.args.number c.close_cursor-there.result c.close_cursor-there.ensures.state c.close_cursor-there.ensures.none)
 
-pub returns-clause-same : goal.returns-clause-same
-returns-clause-same c = (ap is_fault c.reply_of_close.ensures.ok ∙ close_calm c.close_cursor-there.result, λ found. close_found c.close_cursor-there.result (sym c.reply_of_close.ensures.ok ∙ found), λ short. close_short c.close_cursor-there.result (sym c.reply_of_close.ensures.ok ∙ short))
+pub returns-clause-cause : goal.returns-clause-cause
+returns-clause-cause c = (ap is_fault c.reply_of_close.ensures.ok ∙ close_calm c.close_cursor-there.result, λ found. close_found c.close_cursor-there.result (sym c.reply_of_close.ensures.ok ∙ found), λ short. close_short c.close_cursor-there.result (sym c.reply_of_close.ensures.ok ∙ short))

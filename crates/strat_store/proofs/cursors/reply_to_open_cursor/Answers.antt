@@ -43,5 +43,5 @@ returns-clause-kept c =
     (start_leaves c.args.held.now.memory c.open_cursor-started.new.self c.args.held.now.published.levels c.args.version c.args.lo.now c.args.hi.now c.open_cursor-started.result
     c.open_cursor-started.ensures.ok c.open_cursor-started.ensures.err)
 
-pub returns-clause-same : goal.returns-clause-same
-returns-clause-same c = (ap is_fault c.reply_of_start.ensures.ok ∙ start_calm c.open_cursor-started.result, λ found. start_found c.open_cursor-started.result (sym c.reply_of_start.ensures.ok ∙ found))
+pub returns-clause-cause : goal.returns-clause-cause
+returns-clause-cause c = (ap is_fault c.reply_of_start.ensures.ok ∙ start_calm c.open_cursor-started.result, λ found. start_found c.open_cursor-started.result (sym c.reply_of_start.ensures.ok ∙ found))

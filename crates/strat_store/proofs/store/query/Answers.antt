@@ -151,15 +151,15 @@ pub returns-in-OpenCursor-clause-found : goal.returns-in-OpenCursor-clause-found
 returns-in-OpenCursor-clause-found g c = λ old f exposed calm. rw (c.in-OpenCursor.is, c.requires.room) (c.reply_to_open_cursor.ensures.found f c.args.cache.now)
 
 pub returns-in-OpenCursor-clause-len : goal.returns-in-OpenCursor-clause-len
-returns-in-OpenCursor-clause-len g c = rw (c.in-OpenCursor.is) (no_pairs c.reply_to_open_cursor.result c.args.out.now c.reply_to_open_cursor.ensures.same.1 c.requires.room)
+returns-in-OpenCursor-clause-len g c = rw (c.in-OpenCursor.is) (no_pairs c.reply_to_open_cursor.result c.args.out.now c.reply_to_open_cursor.ensures.cause.1 c.requires.room)
 
 pub returns-in-OpenCursor-clause-same : goal.returns-in-OpenCursor-clause-same
 returns-in-OpenCursor-clause-same g c = (through_refl _ _ _, reads_still _ _)
 
 pub returns-in-OpenCursor-clause-cause : goal.returns-in-OpenCursor-clause-cause
 returns-in-OpenCursor-clause-cause g c = rw (c.in-OpenCursor.is) (
-  fails_none (g.D.Disk.faults c.args.disk.now) c.reply_to_open_cursor.result c.reply_to_open_cursor.ensures.same.0,
-  tells_calm (g.D.Disk.view c.args.disk.now) (held_of c.args.held.now c.args.cache.now) _ c.reply_to_open_cursor.result c.reply_to_open_cursor.ensures.same.0 (λ short. (refl, refl)),
+  fails_none (g.D.Disk.faults c.args.disk.now) c.reply_to_open_cursor.result c.reply_to_open_cursor.ensures.cause.0,
+  tells_calm (g.D.Disk.view c.args.disk.now) (held_of c.args.held.now c.args.cache.now) _ c.reply_to_open_cursor.result c.reply_to_open_cursor.ensures.cause.0 (λ short. (refl, refl)),
 )
 
 pub reply_to_next_pairs-requires-clause-fits : goal.reply_to_next_pairs-requires-clause-fits
@@ -200,15 +200,15 @@ pub returns-in-CloseCursor-clause-found : goal.returns-in-CloseCursor-clause-fou
 returns-in-CloseCursor-clause-found g c = λ old f exposed calm. rw (c.in-CloseCursor.is, c.requires.room) (c.reply_to_close_cursor.ensures.found f c.args.cache.now)
 
 pub returns-in-CloseCursor-clause-len : goal.returns-in-CloseCursor-clause-len
-returns-in-CloseCursor-clause-len g c = rw (c.in-CloseCursor.is) (no_pairs c.reply_to_close_cursor.result c.args.out.now c.reply_to_close_cursor.ensures.same.1 c.requires.room)
+returns-in-CloseCursor-clause-len g c = rw (c.in-CloseCursor.is) (no_pairs c.reply_to_close_cursor.result c.args.out.now c.reply_to_close_cursor.ensures.cause.1 c.requires.room)
 
 pub returns-in-CloseCursor-clause-same : goal.returns-in-CloseCursor-clause-same
 returns-in-CloseCursor-clause-same g c = (through_refl _ _ _, reads_still _ _)
 
 pub returns-in-CloseCursor-clause-cause : goal.returns-in-CloseCursor-clause-cause
 returns-in-CloseCursor-clause-cause g c = rw (c.in-CloseCursor.is) (
-  fails_none (g.D.Disk.faults c.args.disk.now) c.reply_to_close_cursor.result c.reply_to_close_cursor.ensures.same.0,
-  tells_calm (g.D.Disk.view c.args.disk.now) (held_of c.args.held.now c.args.cache.now) _ c.reply_to_close_cursor.result c.reply_to_close_cursor.ensures.same.0 (λ short. absurd (c.reply_to_close_cursor.ensures.same.2 short)),
+  fails_none (g.D.Disk.faults c.args.disk.now) c.reply_to_close_cursor.result c.reply_to_close_cursor.ensures.cause.0,
+  tells_calm (g.D.Disk.view c.args.disk.now) (held_of c.args.held.now c.args.cache.now) _ c.reply_to_close_cursor.result c.reply_to_close_cursor.ensures.cause.0 (λ short. absurd (c.reply_to_close_cursor.ensures.cause.2 short)),
 )
 
 pub returns-in_default-clause-ok : goal.returns-in_default-clause-ok

@@ -8,7 +8,7 @@ pub invariant_of-self-clause-same_len : goal.invariant_of-self-clause-same_len
 invariant_of-self-clause-same_len c = omega (arith, c.copy_from.ensures.len, c.alter.ensures.len, c.args.self.now.same_len)
 
 pub invariant_of-self-clause-replays : goal.invariant_of-self-clause-replays
-invariant_of-self-clause-replays c = replays_none _ _ _ c.clear.ensures.items c.copy_from.ensures.same
+invariant_of-self-clause-replays c = replays_none _ _ _ c.clear.ensures.items c.copy_from.ensures.ok
 
 pub invariant_of-self-clause-quiet : goal.invariant_of-self-clause-quiet
 invariant_of-self-clause-quiet c = λ none i.

@@ -8,7 +8,7 @@ copied : (c : After-new) → c.in_ok-from_slice.field-0.items ≡ c.args.bytes.i
 copied c = c.in_ok-from_slice.ensures.items ∙ c.deref.ensures.value
 
 pub invariant_of-result-clause-same_len : goal.invariant_of-result-clause-same_len
-invariant_of-result-clause-same_len c = ap length (c.in_ok-first.ensures.len ∙ copied c ∙ sym c.in_ok-present.ensures.len)
+invariant_of-result-clause-same_len c = ap length (c.in_ok-first.ensures.found ∙ copied c ∙ sym c.in_ok-present.ensures.found)
 
 pub invariant_of-result-clause-replays : goal.invariant_of-result-clause-replays
 invariant_of-result-clause-replays c =

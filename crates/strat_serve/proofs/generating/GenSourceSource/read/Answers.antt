@@ -14,4 +14,4 @@ returns-clause-ok c =
     gives_front c.args.self.now s.frame.items rest c.copy_front-n.new.into s.given n (length c.args.into.now)
     (c.refill.ensures.ok ∙ c.self.view_is) c.refill.ensures.kept.within (λ all. none_follows s.count s.drawn s.state s.parents.items (c.refill.ensures.end all))
     (c.copy_front-n.ensures.len ∙ ap (λ (x : List ℕ). min (length x) (length c.args.into.now)) front)
-    (c.copy_front-n.ensures.ok ∙ ap (take n) front) c.copy_front-n.ensures.room
+    (c.copy_front-n.ensures.ok ∙ ap (take n) front) c.copy_front-n.ensures.same
