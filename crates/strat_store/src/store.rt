@@ -176,7 +176,7 @@ fn query<D: Disk>(
             reply_to_next_pairs(held, cache, buffers, disk, cursor, limit, out)
         }
         Command::CloseCursor { cursor } => reply_to_close_cursor(held, cursor),
-        // The premise leaves no change.
+        // Not reached: the commands left ask for a change.
         _ => Reply::Refused(Refusal::Malformed),
     }
 }
@@ -232,8 +232,8 @@ fn answer<D: Disk>(
     }
 }
 
-/// What look-ups and scans work with: a cache of 256 blocks, which takes memory as it fills, and room for 25 blocks. The
-/// only error is want of memory.
+/// What look-ups and scans work with: a cache of 256 blocks, which takes memory as it fills, room for 25 blocks, and hints
+/// where blocks begin. The only error is want of memory.
 fn take_read_buffers(alloc: Global) -> Result<(Cache, Scratch, ScanBuffers), NoMemory>
     ensures ok { IfOk result (λ room. room.0 ≡ empty_cache 256) }
 {
@@ -362,7 +362,7 @@ impl Store {
         ensures ok { self.now.spent ≡ false
             → slice_get (replies_staged self.now) i ≡ Some result }
     {
-        // A store that is not spent has a reply to each.
+        // The default is not reached: a store that is not spent has a reply to each staged change.
         self.replies.get(i).unwrap_or(Reply::Done)
     }
 
@@ -397,14 +397,18 @@ impl Store {
         Ok(())
     }
 
-    /// Opens the store on a disk. It syncs, reads the two superblock slots, each block of the manifest's chain, the active journal
-    /// region up to its first closed gate, and one gate of the other region, each once, and no block of an array. It shuts that
-    /// gate where it reads open while the active region has room (a run that was killed in a publication leaves it so): one
-    /// write and one sync more. Until the first sync succeeds a crash leaves only what it might have left before. Linear in the
-    /// manifest and the journal, but for O(log) at each array and each version. It takes the memory of all changes that do not
-    /// meet a full journal: 3.9 KB for each of `mem` and 75 bytes for each of `versions_max`, while it recovers 2.6 KB more for each
-    /// of `mem`; and the levels' descriptors twice, once with an index of versions. Up to 1 MiB of blocks is cached later. After an
-    /// error other than `Device` the disk is as it was; after that one too, or its last step failed, which shuts the gate.
+    /// Opens the store on a disk. It syncs; it reads both superblock slots, each block of the manifest's chain, each
+    /// block of the active journal region up to its first closed gate, and one gate of the other region. It reads no
+    /// block of an array. If that gate is open while the active region has room, it shuts the gate (a run that was
+    /// killed in a checkpoint leaves it open): at most one read, one write and one sync more. Linear in the manifest
+    /// and the journal, but for O(log) at each array and each version. Until the first sync succeeds a crash leaves
+    /// only what it might have left before. After an error other than `Device` the disk is as it was; after `Device` it
+    /// is so too, unless it was the last step that failed, which shuts the gate.
+    ///
+    /// It takes the memory of all changes that do not meet a full journal: 3.9 KB for each of `mem` and 75 bytes for
+    /// each of `versions_max`; 25 blocks, one for gets and 24 for scans; 0.5 MB for hints where blocks begin; and the
+    /// levels' descriptors twice, once with an index of versions. While it recovers it takes more: 2.6 KB for each of
+    /// `mem`, 0.3 MB, and 8 bytes for each block in use. Up to 1 MiB of blocks is cached later.
     pub fn attach<D: Disk>(alloc: Global, disk: &mut D) -> Result<Store, AttachFault>
         ensures ok { IfOk result (λ s. IsOpenedAs (D.view disk.old) (D.view disk.new) s
             × (s.cached ≡ empty_cache 256) × IsConsistent s) }
