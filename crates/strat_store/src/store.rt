@@ -251,21 +251,26 @@ impl Store {
         self.spent
     }
 
-    /// Carries out one command. The pairs of its answer are in `out`, from which all others are gone. A change is durable before
-    /// it is answered: two writes and two syncs, and in memory one insertion into level 0, or O(log versions_max) for a clone;
-    /// it takes no memory. A change that meets a full journal, one in `mem`, has it emptied into the levels first: the levels that
-    /// are merged are read twice, the new arrays and the manifest are written once, and there are five syncs at most. That takes
-    /// memory before anything of the store is replaced, and where there is none the answer is `NoMemory`, and the store is as it
-    /// was. A get asks level 0, and then in each level one array at most, by a binary search of its blocks; a scan goes through
-    /// level 0 and one array of each level, pair by pair. Either reads in an array of fewer than 2^n blocks n + 4 at most to search,
-    /// and each once more at most, and of an array that is not asked at the version none. These take no memory but for blocks that
-    /// are cached. An opening of a cursor copies where level 0's pairs stand, 12 bytes an item, and at most 22 descriptors, and
-    /// reads no block: `NoMemory` where there is none. The pairs it shares: a level 0 that was emptied keeps its memory while a
-    /// cursor reads it. A page of a cursor costs what a scan does, over the cursor's arrays, a closing O(arrays kept for cursors *
-    /// arrays of all cursors). Other look-ups are O(1), and read nothing.
-    /// `DeviceFault`: the disk counted a fault.
-    /// `Damaged`: this block of an array of the levels, or of one that a cursor holds on to, holds no entries, or in a level
-    /// none that come after those before it. After these two, and no other, the store is spent.
+    /// Carries out one command. The pairs of its answer are in `out`, which is emptied first.
+    ///
+    /// A change is durable before it is answered: two writes and two syncs, and in memory one insertion into level 0, or
+    /// O(log versions_max) for a clone. It takes no memory. A change that meets a full journal, one in `mem`, makes a
+    /// checkpoint first. That reads the blocks that it merges twice, writes the new arrays and the manifest once, and syncs
+    /// five times at most. It takes its memory before anything of the store is replaced; without it the answer is
+    /// `NoMemory`, and the store is as it was.
+    ///
+    /// A get asks level 0, and then one array of each level at most. A scan goes through level 0 and one array of each
+    /// level, pair by pair. In an array of fewer than 2^n blocks either reads n + 4 at most to search, and each once more at
+    /// most. It reads no array that is not asked at the version. These take no memory but for blocks that are cached.
+    ///
+    /// Opening a cursor copies level 0's items, 12 bytes each, and at most 22 descriptors, and reads no block; `NoMemory`
+    /// if there is no room for these. It shares the pairs: a level 0 that was emptied keeps its memory while a cursor reads
+    /// it. A page costs what a scan does, over the cursor's arrays. Closing costs O(arrays kept for cursors * arrays of all
+    /// cursors). Other look-ups are O(1), and read nothing.
+    ///
+    /// `DeviceFault`: the disk counted a fault. `Damaged`: this block of an array of the levels, or of one that a cursor
+    /// holds on to, holds no entries, or in a level none that come after those before it. After these two, and no other,
+    /// the store is spent.
     pub fn apply<D: Disk>(
         &mut self,
         disk: &mut D,
