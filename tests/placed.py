@@ -33,14 +33,20 @@ def calls(tree):
                 before = here
 
 
+def calls_it(tree, file, caller, name):
+    """Whether a function of the file, one that has the caller's name, calls one with this name."""
+    bodies = (tree.code(file)[it.at + len("fn"):it.end] for it in tree.functions(file) if it.name == caller)
+    return any(re.search(rf"(?<!fn )\b{name}(?:::<[^>]*>)?\(", body) for body in bodies)
+
+
 def calls_are_where_the_architecture_says(tree):
     if not CALLS.search(tree.text(ARCHITECTURE)):
         yield ARCHITECTURE, 1, "it lists no calls"
     for line, (file, name), before in calls(tree):
         if not re.search(rf"\bfn {name}\b", tree.code(file)):
             yield ARCHITECTURE, line, f"{file} has no function {name}"
-        elif before and not re.search(rf"(?<!fn )\b{name}(?:::<[^>]*>)?\(", tree.code(before[0])):
-            yield ARCHITECTURE, line, f"{before[0]} does not call {name}"
+        elif before and not calls_it(tree, *before, name):
+            yield ARCHITECTURE, line, f"{before[1]} of {before[0]} does not call {name}"
 
 
 def named_definitions(tree):
@@ -83,6 +89,7 @@ RIGHT = {
 FAULTS = [
     (ARCHITECTURE, "## Where the", "## Which", 1, calls_are_where_the_architecture_says),
     (ARCHITECTURE, "run, walk", "run, walks", 6, calls_are_where_the_architecture_says),
+    (ARCHITECTURE, "run, walk", "walk, run", 6, calls_are_where_the_architecture_says),
     (ARCHITECTURE, "low     step.rt  Low", "castle  step.rt  Low", 7, calls_are_where_the_architecture_says),
     ("crates/castle/src/run.rt", "    step();\n", "", 7, calls_are_where_the_architecture_says),
     (DEFINITIONS, "`half`", "`halves`", 4, definitions_are_where_the_page_says),

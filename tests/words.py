@@ -68,7 +68,7 @@ README_LINES = (15, 60)
 README_HEADINGS = ("Proved", "Premises", "Only tested", "Limits")
 
 Clause = collections.namedtuple("Clause", "kind name at end")
-Function = collections.namedtuple("Function", "name at clauses is_law parameters lines")
+Function = collections.namedtuple("Function", "name at end clauses is_law parameters lines")
 Definition = collections.namedtuple("Definition", "name file line")
 
 
@@ -137,8 +137,9 @@ def functions_of(code):
     for found in re.finditer(r"\bfn\s+(\w+)", code):
         clauses, end = clauses_of(code, found.end())
         is_law = re.match(r"\{\s*\}", code[end:end + 200]) is not None
-        lines = code.count("\n", end, after_braces(code, end)) - 1
-        yield Function(found[1], found.start(), clauses, is_law, parameters_of(code, found.end()), max(lines, 0))
+        after = after_braces(code, end)
+        lines = max(code.count("\n", end, after) - 1, 0)
+        yield Function(found[1], found.start(), after, clauses, is_law, parameters_of(code, found.end()), lines)
 
 
 def ghosts_of(code):

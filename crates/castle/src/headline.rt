@@ -63,10 +63,10 @@ pub fn a_serving_run_is_a_run_of_its_table<D: Viewed>()
         → (status ≡ 0) ⊎ (status ≡ 3) ⊎ (status ≡ 4) ⊎ (status ≡ 8) ⊎ (status ≡ 10) }
 {}
 
-/// Whatever the disk shows that a run is asked to serve: it is no store only where no slot is that of one, and damaged only
-/// where recovery finds a damaged block, or a command does; where recovery finds no store nothing is taken or sent; out of
-/// memory, or over no store, all stays as it was; where the device failed before a store was open, all but one gate; and where
-/// nothing failed the run ends as recovery finds the disk.
+/// A run that is asked to serve a file, whatever the disk shows. It finds no store only if no slot is that of one, and
+/// damage only if recovery or a command finds a damaged block. If recovery finds no store, nothing is taken or sent. Out of
+/// memory, or over no store, all stays as it was; if the device failed before a store was open, all but one gate. If
+/// nothing failed, the run ends as recovery finds the disk.
 pub fn a_serving_run_ends_as_recovery_finds_its_disk<D: Viewed>()
     ensures none { (path : List ℕ) (status : ℕ) (x y : Streams) (d e : D) (f : Image)
         → Runs (Some (Serve path)) 1099511627776 status (beside x (D.view d)) (beside y (D.view e))

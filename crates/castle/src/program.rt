@@ -19,17 +19,17 @@ use strat_serve::serve;
 /// Bytes that one serving run reads at most: 2^40.
 pub(crate) const BUDGET: u64 = 1_099_511_627_776;
 
-/// Runs the subcommand that the program's arguments name, these without the program's own name, and
-/// answers its exit status. Nothing is read or written where they name none.
+/// Runs the subcommand that the program's arguments name, and answers its exit status. The arguments come without the
+/// program's own name. If they name no subcommand, nothing is read or written.
 ///
-/// Serving takes the memory for its buffers, versions, journal and level 0 at its start. A change
-/// makes two writes and two syncs and one insertion into level 0; where the journal is full it is
-/// emptied into the levels first, which takes memory for that time. An opening of a cursor copies
-/// where level 0 stands, 12 bytes for each of its items, and reads nothing; a level 0 that was
-/// emptied stays in memory while a cursor reads it; a page of one costs what a scan of as many pairs
-/// costs. A get asks level 0 and then, until one says something, the levels, of each one array at
-/// most. A report of the levels reads what an opening reads, and no block of an array. A workload
-/// makes a store, serves its changes to it and opens it once more.
+/// - Serving takes the memory for its buffers, versions, journal and level 0 at its start.
+/// - A change makes one insertion into level 0. Changes that came together, sixteen at most, make two writes and two syncs.
+///   A change that meets a full journal makes a checkpoint first, which takes memory until it is done.
+/// - A get asks level 0, and then one array of each level at most, until one says something.
+/// - Opening a cursor copies level 0's items, 12 bytes each, and reads nothing. A level 0 that was emptied stays in memory
+///   while a cursor reads it. A page costs what a scan of as many pairs costs.
+/// - A report of the levels reads what recovery reads, and no block of an array.
+/// - A workload makes a store, serves its changes to it and reads it once more.
 pub fn run<S: Source, K: Sink, D: Disk>(
     alloc: Global,
     words: &[String],

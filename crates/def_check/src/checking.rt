@@ -32,7 +32,7 @@ pub fn a_check_blames_a_bad_block()
         × ((a : ArrayDesc) × Contains (descriptors h.manifest) a × IsUnread c a b)) }
 {}
 
-/// A disk that was just formatted and one after a publication are sound; a disk of zeros is no store; a descriptor that lies breaks
+/// A disk that was just formatted and one after a checkpoint are sound; a disk of zeros is no store; a descriptor that lies breaks
 /// rule k; a block of zeros is damaged.
 pub fn worked_disks_are_checked()
     ensures fresh { checked formatted ≡ Ok (Some []) }

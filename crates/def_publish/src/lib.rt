@@ -1,4 +1,4 @@
-//! What a store stands on, and that a publication changes no table: definitions and laws. The crate has no code
+//! What a store stands on, and that a checkpoint changes no table: definitions and laws. The crate has no code
 //! that runs.
 #![tactic(auto)]
 

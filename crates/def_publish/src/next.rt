@@ -68,7 +68,7 @@ pub fn promoted_contents_follow()
         × SaysTheSame (contents_state old) (contents_state new) }
 {}
 
-/// Contents that follow soundly may be the next if the journal has a change. Of two publications in a row the second needs
+/// Contents that follow soundly may be the next if the journal has a change. Of two checkpoints in a row the second needs
 /// none, if two changes are in front of both.
 pub fn contents_that_follow_a_change_may_be_next()
     ensures ok { (f g : Image) (old new : Contents) (made : Option LevelDesc)

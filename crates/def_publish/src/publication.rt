@@ -1,4 +1,4 @@
-//! Laws of a publication. Each is the contract of a function that does nothing.
+//! Laws of a checkpoint. Each is the contract of a function that does nothing.
 
 ghost use Rattle.std.specs.Prelude.{◌≡◌, ◌≢◌, ◌<◌, ◌⊎◌, ◌*◌, ℕ, Bool, [], ◌∷◌, Some, Ok};
 ghost use Rattle.def_crash.specs.Blocks.{TearsBlocks};
@@ -60,7 +60,7 @@ pub fn a_publication_leaves_the_old_contents_or_the_new<D: Viewed>()
         → (c : Image) → Since (D.view end) (D.view lay).moment c → ReadsAs c y }
 {}
 
-/// A publication is a trail of one table, wherever it ends: writes of free blocks, the laying of the next
+/// A checkpoint is a trail of one table, wherever it ends: writes of free blocks, the laying of the next
 /// superblock, which may fail, and the shutting of the old region, which may fail too.
 pub fn a_publication_is_a_trail_of_one_table<D: Viewed>()
     ensures laying { (old mid lay : D) (x y : Contents) (free : ℕ → Bool)

@@ -19,7 +19,7 @@ pub fn new_contents_stand()
 {}
 
 /// A disk whose journal is full, and that has the array and the manifest of the same state without a
-/// journal, is prepared for them: so no premise of a publication is empty. A generation may be left out. A journal
+/// journal, is prepared for them: so no premise of a checkpoint is empty. A generation may be left out. A journal
 /// without a change may be published too.
 pub fn a_disk_is_prepared()
     ensures prepared { IsPrepared (resting prepared_disk) chain_logged chain_next }

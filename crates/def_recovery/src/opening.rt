@@ -30,7 +30,7 @@ pub fn records_are_found()
         ≡ Some (record (fresh_state 4 100 10) { journal = Put 0 (0x61 ∷ []) (0x31 ∷ []) ∷ [] }) }
 {}
 
-/// After a publication the newer superblock leads to the array, and the journal goes on in the
+/// After a checkpoint the newer superblock leads to the array, and the journal goes on in the
 /// region that it made active: the state is that of a chain of clones. Where that region has room, what
 /// stands in the other one is not looked at.
 pub fn published_disks_open()
@@ -58,7 +58,7 @@ pub fn damage_is_named()
 
 /// A manifest that no store with its superblock has is blamed on its first block: one with a version that
 /// is not below the horizon, with more versions than the store takes, with more leads than updates, with
-/// fewer changes than publications.
+/// fewer changes than checkpoints.
 pub fn strange_manifests_are_refused()
     ensures horizon { recover (published_by chain_super
         (record chain_manifest { levels = map (with_horizon 3) chain_manifest.levels })) ≡ Err 8 }

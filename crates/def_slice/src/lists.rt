@@ -31,7 +31,7 @@ pub fn an_unsealed_level_holds_the_whole_journal()
 {}
 
 /// Both lists come from the journal: an opening that finds a full region makes them of its two parts. And once a
-/// publication has taken what was sealed, level 0 alone holds what came since.
+/// checkpoint has taken what was sealed, level 0 alone holds what came since.
 pub fn both_lists_come_from_the_journal()
     ensures full { (mem : ℕ) (journal : List Change) → mem ≤ length journal
         → HoldLists mem journal (set_all (filter_map update_of (drop mem journal)))

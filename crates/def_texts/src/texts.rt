@@ -46,7 +46,7 @@ pub fn report_of_a_deletion()
         ∷ codes "stored 4 updates 3 written 3" ∷ [] }
 {}
 
-/// The report of settings with two clones, each with a change of its own, before any publication.
+/// The report of settings with two clones, each with a change of its own, before any checkpoint.
 pub fn report_of_staged_settings()
     ensures { report (head_of 1 settings)
         ≡ codes "store generation 1 mem 64 changes 6 of 100000 versions 3 of 100"

@@ -83,6 +83,7 @@ impl Chunk {
         ensures room { result ≤ self.now.capacity }
         ensures fits { self.now.capacity < 2 ^ 64 }
     {
+        // For the proof: the capacity fits in 64 bits.
         let _capacity = self.capacity;
         self.written
     }
@@ -93,6 +94,7 @@ impl Chunk {
         ensures ok { self.new.bytes ≡ self.old.bytes ++ piece.now }
         ensures same { self.new.capacity ≡ self.old.capacity }
     {
+        // For the proof: the capacity fits in 64 bits.
         let _capacity = self.capacity;
         write_all(&mut self.cells, self.start, self.written, piece);
         self.written += piece.len();
@@ -112,6 +114,7 @@ impl Chunk {
         ensures ok { self.new ≡ record { bytes = []; capacity = self.old.capacity } }
         ensures fits { self.old.capacity < 2 ^ 64 }
     {
+        // For the proof: the capacity fits in 64 bits.
         let _capacity = self.capacity;
         self.written = 0;
     }

@@ -49,6 +49,7 @@ fn touch_block(blocks: &mut LruCache<(u64, u32), Block>, array: u64, index: u32)
     ensures len { length blocks.new.entries ≤ blocks.new.cap }
 {
     let there = blocks.promote(&(array, index));
+    // For the proof: the cache keeps no more blocks than it may.
     let _len = blocks.len();
     there
 }
@@ -59,6 +60,7 @@ fn insert_block(blocks: &mut LruCache<(u64, u32), Block>, array: u64, index: u32
     ensures len { length blocks.new.entries ≤ blocks.new.cap }
 {
     let _kept = blocks.put((array, index), block).is_ok();
+    // For the proof: the cache keeps no more blocks than it may.
     let _len = blocks.len();
 }
 
@@ -94,7 +96,7 @@ impl Cache {
         requires fits { AreWithin desc.now.extents }
         ensures kept { AddsOnly self.old self.new (desc.now.id, index) block.now }
     {
-        // What it says beside its answer: a block has an entry.
+        // For the proof: a block has an entry.
         let _some = block.len();
         let count = count_blocks(desc.extents.as_slice());
         let first = Outline::new(desc.id, count, block.key_at(0));

@@ -148,6 +148,7 @@ pub fn find<D: Disk>(
         → ReadsAtMost (n + 4 + length (blocks_of desc.now.extents))
         (D.reads disk.old) (D.reads disk.new) }
 {
+    // For the proof: the parents are a tree.
     let _versions = tree.count();
     let place = seek(disk, cache, desc, key, scratch)?;
     live_from(disk, cache, desc, tree, key, v, place, scratch, out)

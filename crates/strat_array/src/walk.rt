@@ -113,7 +113,7 @@ pub fn first_place_from<D: Disk>(
     if !load_scratch(disk, cache, desc, block, scratch)? {
         return Ok(None);
     }
-    // What it says beside its answer: a block has an entry.
+    // For the proof: a block has an entry.
     let _some = scratch.has(0);
     Ok(Some(Place { block, index: 0 }))
 }

@@ -70,7 +70,8 @@ pub(crate) fn bound_of(alloc: Global, lo: &[u8]) -> Result<Vec<u8>, NoMemory>
     Ok(bound)
 }
 
-/// The bound behind the pairs that were told from a bound on, where others follow. O(1): it takes no memory.
+/// Where the next page starts: just after the last key told, or where this one did if none was told. `None` after the
+/// last page. O(1): it takes no memory.
 fn bound_behind(mut bound: Vec<u8>, more: bool, told: &PairBuf) -> Option<Vec<u8>>
     requires room { 256 ≤ vec_capacity bound }
     ensures ok { option_map (λ b. b.items) result ≡ goes_on (Some bound.items) more told.now }

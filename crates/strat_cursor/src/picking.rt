@@ -26,7 +26,7 @@ fn array_at<'a>(view: &View<'a>, v: Version, n: usize) -> Option<&'a ArrayDesc>
 {
     match &view.levels {
         Picked::Live(levels) => {
-            // How many levels there are is known where one is asked for.
+            // For the proof: there are 22 levels.
             let _level = levels.get(n + 1);
             levels.array_for(view.tree, n + 1, v)
         }
@@ -72,7 +72,7 @@ pub(crate) fn pick<'a>(view: &View<'a>, v: Version) -> Sources<'a>
     ensures ok { AreSourcesOf view.now v (take result.count result.places) }
     ensures fits { (result.count ≤ 24) × (length result.places ≡ 24) }
 {
-    // How many levels there are is known where one is asked for an array.
+    // For the proof: there are at most 22 levels or arrays.
     let _first = array_at(view, v, 0);
     let mut places = [Source::None; SOURCES];
     let mut count = 0;

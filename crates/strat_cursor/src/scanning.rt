@@ -97,7 +97,7 @@ fn tell_all<D: Disk>(
     ensures reads { ReadsAtMost (sum_over reads_left query.now.sources.now positions.old)
         (D.reads disk.old) (D.reads disk.new) }
 {
-    // What it says beside its answer: the versions are a tree.
+    // For the proof: the parents are a tree.
     let _versions = query.view.tree.count();
     while let Some(w) = leader(&Heads { query, positions }, winners) {
         if let Some(more) = emit_head(query, w, last, positions, out) {

@@ -321,7 +321,7 @@ pub(crate) fn advance<D: Disk>(
     match source {
         Source::None => Ok(()),
         Source::Zero(list) => {
-            // That there are more items than the place says is known where they are counted.
+            // For the proof: the place after this item has a number.
             let _items = list.items().len();
             position.item = stand_item(query, list, last, position.item + 1);
             Ok(())

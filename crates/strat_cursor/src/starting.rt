@@ -50,7 +50,7 @@ fn arrays_at(
         ≡ arrays_asked tree.now.parents levels.now version) }
     ensures len { IfOk result (λ arrays. length arrays ≤ 22) }
 {
-    // How many levels there are is known where one is asked for.
+    // For the proof: there are 22 levels.
     let _first = levels.get(1);
     let mut arrays = Listing::new(alloc);
     for above in 0..LEVELS {

@@ -82,7 +82,7 @@ pub(crate) fn index_of(alloc: Global, arrays: &[ArrayDesc]) -> Result<Vec<Option
 {
     let mut index = Vec::new(alloc);
     for i in 0..arrays.len() {
-        // So many descriptors fill any memory.
+        // No memory holds 2^32 descriptors.
         let Ok(number) = u32::try_from(i) else {
             return Err(LevelFault::NoMemory);
         };

@@ -69,7 +69,7 @@ impl ZeroView {
         ensures ok { option_and_then (λ i. slice_get (entries_held pool.now self.now) i) result
             ≡ find (is_of key.now) (live tree.now.parents (entries_held pool.now self.now) v) }
     {
-        // The count's clauses say that the parents are those of a tree.
+        // For the proof: the parents are a tree.
         let _versions = tree.count();
         let (from, to) = key_range(pool, self.arena, &self.items, key, v);
         let place = live_in(&self.items[from..to], tree, v)?;

@@ -81,7 +81,7 @@ impl Counts {
         ensures len { length self.new.own ≡ length self.old.own }
         ensures room { items_counted self.new ≡ items_counted self.old + length group.now }
     {
-        // A tree says with its count that it is one.
+        // For the proof: the parents are a tree.
         let _ = tree.count();
         number_once(&mut self.order, &mut self.is_numbered, tree);
         add_own(&mut self.own, group);

@@ -27,7 +27,7 @@ fn first_on_path(group: &[Item], tree: &Tree, v: Version) -> Option<usize>
     ensures ok { result
         ≡ position (λ item. is_ancestor tree.now.parents item.version v) group.now }
 {
-    // A tree says with its count that it is one.
+    // For the proof: the parents are a tree.
     let _ = tree.count();
     let above = count_above(group, v);
     match position_on_path(&group[above..], tree, v) {

@@ -9,7 +9,7 @@ pub type Parents = Listing<u32>;
 pub type LevelList = Listing<LevelDesc>;
 
 /// What a store keeps of itself beside its journal: how many changes and updates its levels hold, how
-/// many entries all publications wrote, the number of the next array, the parents, and the levels.
+/// many entries all checkpoints wrote, the number of the next array, the parents, and the levels.
 #[derive(Drop)]
 pub struct Manifest {
     pub changes: u32,

@@ -27,7 +27,7 @@ use strat_gate::SuperBlock;
 use strat_level::{Level, LevelFault, Levels};
 use strat_manifest::{LevelList, Manifest};
 
-/// What the last publication of a store left, as it is kept in memory: the manifest, the blocks of its chain, and its
+/// What the last checkpoint of a store left, as it is kept in memory: the manifest, the blocks of its chain, and its
 /// levels, each in the place of its number and with the index of its versions.
 #[derive(Drop)]
 pub struct Published {

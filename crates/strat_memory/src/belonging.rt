@@ -101,7 +101,7 @@ pub(crate) fn all_filled(levels: &[LevelDesc]) -> bool
     true
 }
 
-/// Whether there are no more publications, arrays and written entries than so many changes make. O(1).
+/// Whether there are no more checkpoints, arrays and written entries than so many changes make. O(1).
 pub(crate) fn has_few_publications(
     generation: u64,
     changes: u32,
@@ -158,7 +158,7 @@ pub fn mark_arrays(space: &mut Space, arrays: &[ArrayDesc]) -> Result<bool, NoMe
     Ok(true)
 }
 
-/// The same of the arrays of levels.
+/// Marks the blocks of every array of every level; `false` if one is used already or stands twice.
 fn mark_levels(space: &mut Space, levels: &[LevelDesc]) -> Result<bool, NoMemory>
     ensures ok { IfOk result (λ marked. MatchBool marked
         (UsesMore space.old (extents_of (arrays_in levels.now)) space.new)
@@ -172,7 +172,8 @@ fn mark_levels(space: &mut Space, levels: &[LevelDesc]) -> Result<bool, NoMemory
     Ok(true)
 }
 
-/// The same of a chain and of the arrays of levels.
+/// Marks the blocks of a manifest's chain and of every array of every level; `false` if one is used already or stands
+/// twice.
 fn mark_all(space: &mut Space, chain: &Extents, levels: &[LevelDesc]) -> Result<bool, NoMemory>
     ensures ok { IfOk result (λ marked. MatchBool marked
         (UsesMore space.old (chain.now ++ extents_of (arrays_in levels.now)) space.new)
@@ -230,7 +231,7 @@ fn add_ids(seen: &mut BTreeSet<u64>, arrays: &[ArrayDesc]) -> Result<bool, NoMem
     Ok(true)
 }
 
-/// The same of the arrays of levels.
+/// Adds the number of every array of every level to a set; `false` if one is in it already.
 fn add_all_ids(seen: &mut BTreeSet<u64>, levels: &[LevelDesc]) -> Result<bool, NoMemory>
     ensures ok { IfOk result (λ apart. (rest : List ℕ) → MatchBool apart
         (are_new (contains nat_cmp seen.new) rest

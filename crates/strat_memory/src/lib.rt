@@ -1,5 +1,5 @@
 //! What an open store holds in memory: versions, level 0 and cursors, and the manifest and the levels that its last
-//! publication left.
+//! checkpoint left.
 #![tactic(auto)]
 
 pub mod admitting;

@@ -242,7 +242,7 @@ impl Memory {
             Change::Clone { version } => Reply::Made {
                 version: self.add_child(version),
             },
-            // A drop is refused.
+            // Not reached: every drop was refused before.
             Change::DropVersion { .. } => Reply::Done,
         }
     }

@@ -5,7 +5,7 @@ use crate::memory::Memory;
 use strat_gate::SuperBlock;
 use strat_journal::Journal;
 
-/// An open store: its newest superblock and the slot of that, what its last publication left, its journal, and what it
+/// An open store: its newest superblock and the slot of that, what its last checkpoint left, its journal, and what it
 /// has in memory of versions and of level 0.
 #[derive(Drop)]
 pub struct OpenStore {

@@ -153,7 +153,7 @@ fn gather<D: Disk, R: Run<D>>(
         (D.faults disk.old) (D.faults disk.new) (D.reads disk.old) (D.reads disk.new)
         merger.old.runs.items merger.new.runs.items result }
 {
-    // The count's range is known where it is read.
+    // For the proof: the count fits in 64 bits.
     let _consumed = merger.consumed;
     let Some(first) = leader(&contest_of::<D, R>(&merger.runs), &merger.winners) else {
         return Ok(false);

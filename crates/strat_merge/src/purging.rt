@@ -39,7 +39,7 @@ fn is_needed(item: &Item, later: &[Item], tree: &Tree) -> bool
     if !item.gone {
         return true;
     }
-    // A tree says with its count that it is one.
+    // For the proof: the parents are a tree.
     let _ = tree.count();
     match tree.parent(item.version) {
         Some(p) => has_value(later, tree, p),
@@ -81,6 +81,7 @@ pub fn purge(group: &mut GroupBuf, tree: &Tree)
     ensures same { (p : Kept → Bool) → IsTrue (list_all p group.old)
         → IsTrue (list_all p group.new) }
 {
+    // For the proof: the parents are a tree.
     let _ = tree.count();
     group.keep(tree);
 }

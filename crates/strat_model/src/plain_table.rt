@@ -80,7 +80,7 @@ impl PlainTable {
         ensures none { grows (request_of command.now) ≡ false
             → IsStep self.old (request_of command.now) result out.new self.new }
     {
-        // What every table keeps is known where a field is used.
+        // For the proof: what every table keeps.
         let _ = &self.changes;
         out.clear();
         match *command {

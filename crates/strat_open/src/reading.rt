@@ -54,7 +54,7 @@ impl Reading {
         &self.found.sb
     }
 
-    /// What the last publication left.
+    /// What the last checkpoint left.
     pub fn manifest(&self) -> &Manifest
         ensures ok { manifest_of result.now ≡ self.now.manifest }
         ensures fits { length result.now.levels ≤ 22 }

@@ -52,7 +52,7 @@ pub(crate) fn sync_first<D: Disk>(disk: &mut D) -> Result<(), Failed>
     Ok(())
 }
 
-/// What the last publication left, from the blocks that a superblock leads to: one read a block. Damaged: the block
+/// What the last checkpoint left, from the blocks that a superblock leads to: one read a block. Damaged: the block
 /// of its chain with a wrong link, or the first where no manifest of such a store stands.
 fn read_published<D: Disk>(
     alloc: Global,
@@ -172,7 +172,7 @@ fn recover_memory(
     Ok(memory)
 }
 
-/// The journal of a superblock, behind what the last publication left, and memory with its changes carried out. It
+/// The journal of a superblock, behind what the last checkpoint left, and memory with its changes carried out. It
 /// reads each block of the active region at most once, none after its first closed gate, and one of the other region.
 /// Damaged: the block of a record that is no change, or of a change that is refused, or the other region's first where
 /// both regions hold too many. `NoMemory` also stands for a journal that goes on in the other region.
@@ -296,9 +296,9 @@ fn shut_other<D: Disk>(disk: &mut D, sb: &SuperBlock, journal: &Journal) -> Resu
     Ok(())
 }
 
-/// Opens the store on a disk. It syncs, reads what `recover_store` does, and shuts the first gate of the region that
-/// is not active where it was read open while the active one has room (a run that was killed in a publication leaves
-/// it so): at most one read, one write and one sync more. Until the sync succeeds a crash leaves only what it might
+/// Opens the store on a disk. It syncs, and reads what `recover_store` does. If the first gate of the region that is not
+/// active was read open while the active one has room, it shuts that gate (a run that was killed in a checkpoint leaves
+/// it open): at most one read, one write and one sync more. Until the sync succeeds a crash leaves only what it might
 /// have left before. It takes all the memory that the store needs beside its cache until its journal is full. After
 /// an error other than `Device` the disk is as it was; after that one too, or its last step failed, which shuts that
 /// gate.

@@ -100,7 +100,7 @@ pub(crate) fn begin_writing<D: Disk>(
     ensures reads { IfOk result (λ w. LeavesBlocks (arrays_to levels.now target)
         (views_of input_seen w.merger) (D.reads disk.old) (D.reads disk.new)) }
 {
-    // A tree says with its count how many versions there are at most.
+    // For the proof: there are at most 16,384 versions.
     let _versions = tree.count();
     counting.counts.finish(tree);
     let horizon = counting.counts.own_counts().len() as u32;

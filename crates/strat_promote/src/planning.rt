@@ -52,6 +52,7 @@ pub(crate) fn begin_filling(
     ensures kept { IfOk result (λ filling. IsFilling horizon filling) }
     ensures found { IfOk result (λ filling. AreNew first filling.writers.items) }
 {
+    // For the proof: the parents are a tree.
     let _versions = tree.count();
     let plan = plan(alloc, tree, counts, horizon)?;
     let hanging = Hanging::new(alloc, &plan)?;

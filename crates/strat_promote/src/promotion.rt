@@ -73,6 +73,7 @@ impl Promotion {
         ensures ok { IfOk result
             (λ p. IsBegun zero.now.list levels.now mem horizon next_array p) }
     {
+        // Nothing is asked of the versions before the first slice.
         let _versions = tree.count();
         let leads = leads_of(alloc, zero, levels)?;
         let target = target(&leads, mem);

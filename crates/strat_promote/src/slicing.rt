@@ -36,7 +36,7 @@ pub(crate) fn taken_in(stage: &Stage) -> u64
     }
 }
 
-/// Whether at least as many entries as a budget were taken since a count.
+/// Whether a call that began at a count has consumed its budget of entries.
 fn is_used_up(start: u64, budget: u64, stage: &Stage) -> bool
     requires { 1 ≤ budget }
     ensures ok { result ≡ true → (n : ℕ) → start ≡ min n (2 ^ 64 - 1)
@@ -58,7 +58,7 @@ fn has_left<D: Disk>(stage: &Stage) -> bool
     }
 }
 
-/// Whether at least as many entries as a budget were taken since a count, and one is left.
+/// Whether a call that began at a count has consumed its budget of entries, and more work remains.
 fn may_pause<D: Disk>(start: u64, budget: u64, stage: &Stage) -> bool
     requires { 1 ≤ budget }
     ensures ok { result ≡ true → (n : ℕ) → start ≡ min n (2 ^ 64 - 1)

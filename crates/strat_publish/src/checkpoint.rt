@@ -1,4 +1,4 @@
-//! A publication of a store, whole: its journal is emptied into its levels.
+//! A checkpoint of a store, whole: its journal is emptied into its levels.
 
 ghost use Rattle.std.specs.List.{list_all};
 ghost use Rattle.std.specs.Prelude.{◌≡◌, ◌<◌, ◌≤◌, ℕ, ◌+◌, ◌-◌, ◌*◌, ◌^◌, List, [], ◌∷◌, length, min, nat_le, nat_lt, Some, IfOk, OnOk, OnErr, IsErrOf, IsTrue};
@@ -158,7 +158,7 @@ fn compute_beside<D: Disk>(
     )
 }
 
-/// What takes the place of a store's superblock and of what its last publication left, and the number of the level that
+/// What takes the place of a store's superblock and of what its last checkpoint left, and the number of the level that
 /// was filled.
 #[derive(Drop)]
 struct Next {
@@ -189,8 +189,8 @@ fn has_new_numbers(made: &Made, next_array: u64) -> bool
     }
 }
 
-/// The next superblock, and the manifest that it leads to, tested as an opening tests them. `Unfit`: an opening would
-/// refuse them, or arrays have numbers that are not new, or no generation is left.
+/// The next superblock, and the manifest that it leads to, tested as recovery tests them. `Unfit`: recovery would refuse
+/// them, an array's number is not new, or no generation is left.
 fn admit_next(alloc: Global, held: &OpenStore, computed: Computed) -> Result<Next, Obstacle>
     requires kept { IsLawful (super_of held.now.sb)
         × IsTrue (is_lawful_manifest newest_format (manifest_of computed.manifest)) }
@@ -361,14 +361,15 @@ fn install<D: Disk>(held: &mut OpenStore, next: Next, disk: &mut D) -> Result<()
     Ok(())
 }
 
-/// Empties the journal into the levels: level 0 and the shallow levels become one new level, and the manifest after that
-/// takes the place of the last one. Memory is taken before the superblock is laid: where it runs out the store is as it
-/// was. `Unfit`: too few blocks are free, an array would have more than 2^25 entries, or another bound of our own was
-/// reached. No store that stands on its disk reaches one; the store is as it was, too. `Damaged` names a block of the
-/// store's arrays that is no block of entries, or is out of order: no store that stands on its disk has one. After
-/// `Device` only another opening can tell which contents the disk holds: they mean the same table. It reads each block of
-/// the arrays twice at most, writes the new arrays' blocks and those of the manifest once each, and takes five syncs at
-/// most.
+/// Makes a checkpoint: level 0 and the shallow levels become one new level, a new manifest names it, and a new superblock
+/// makes that the store's. The journal is empty then. It reads each block of the merged arrays twice at most, writes each
+/// block of the new arrays and of the manifest once, and syncs five times at most.
+///
+/// All memory is taken before the superblock is laid: without it the store is as it was. `Unfit`: too few blocks are free,
+/// an array would have more than 2^25 entries, or another bound of our own was reached. No store that stands on its disk
+/// reaches one, and the store is as it was then, too. `Damaged` names a block of the store's arrays that is no block of
+/// entries, or is out of order: no store that stands on its disk has one. After `Device` only recovery can tell which
+/// contents the disk holds; both mean the same table.
 pub fn publish<D: Disk>(alloc: Global, held: &mut OpenStore, disk: &mut D) -> Result<(), Obstacle>
     requires kept { ((cached : Blocks) → IsConsistent (held_of held.old cached))
         × (length held.old.journal.list ≡ held.old.sb.mem) }

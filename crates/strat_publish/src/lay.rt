@@ -1,4 +1,4 @@
-//! A publication: the next contents of a store take the place of those that stand on its disk.
+//! The writes of a checkpoint: the next contents of a store take the place of those that stand on its disk.
 
 ghost use Rattle.std.specs.Prelude.{IsTrue, ◌≡◌, ◌≤◌, ◌<◌, ◌+◌, ◌-◌, ◌^◌, ℕ, List, [], ◌∷◌, ◌++◌, Option, length, IsSome, IfOk, OnOk, OnErr, IsErrOf};
 ghost use Rattle.strat_base.specs.declared.descriptors.Extent.{Extent as TheExtent};
@@ -103,8 +103,8 @@ fn sync_written<D: Disk>(disk: &mut D) -> Result<(), Failed>
 
 /// Makes contents that were computed those of the disk: what was written becomes durable, their superblock is laid, and
 /// the journal goes on in the other region. A crash at any moment leaves the old contents or the new ones, which mean the
-/// same table. At most five syncs, whatever the size of the store. After an error only another opening can tell
-/// which of both the disk holds.
+/// same table. At most five syncs, whatever the size of the store. After an error only recovery can tell which
+/// of both the disk holds.
 pub(crate) fn lay_next<D: Disk>(
     disk: &mut D,
     slot: u8,

@@ -1,4 +1,4 @@
-//! A publication: the journal of a store is emptied into its levels, and other contents take the place of those on its
+//! A checkpoint: the journal of a store is emptied into its levels, and other contents take the place of those on its
 //! disk.
 #![tactic(auto)]
 

@@ -127,9 +127,8 @@ fn next_counts(old: &Manifest, made: &Made) -> Result<(u64, u64), Unfit>
     Ok((written, next_array))
 }
 
-/// The manifest after a promotion of what a store has in memory, in new memory: all changes are behind it, the level that
-/// was made stands before those that are deeper than its number, and what its arrays have is counted. O(size).
-/// `Unfit`: counts that no store reaches.
+/// The manifest of the next checkpoint, in new memory: it counts all changes of the journal and the entries of the new
+/// arrays, and lists the new level before the deeper ones. O(size). `Unfit`: counts that no store reaches.
 pub(crate) fn next_manifest(
     alloc: Global,
     old: &Manifest,

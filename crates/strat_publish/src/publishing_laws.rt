@@ -1,4 +1,4 @@
-//! Laws of a publication of a store. Each is the contract of a function that does nothing.
+//! Laws of a checkpoint of a store. Each is the contract of a function that does nothing.
 
 ghost use Rattle.std.specs.Prelude.{◌≡◌, ◌≤◌, ℕ, List, length, Option, IsTrue};
 ghost use Rattle.strat_base.specs.declared.descriptors.Extent.{Extent};
@@ -60,7 +60,7 @@ pub fn what_was_written_beside_is_computed<D: Viewed>()
         → IsComputed (D.view u) new.slot new.sb log old new }
 {}
 
-/// Eight entries are counted behind the four of the publication before; neither one less nor those of an array that has the
+/// Eight entries are counted behind the four of the checkpoint before; neither one less nor those of an array that has the
 /// number of one before it.
 pub fn entries_of_new_arrays_are_counted()
     ensures ok { CountsWritten (manifest_with_array 1 4 4) (manifest_with_array 2 8 12) }

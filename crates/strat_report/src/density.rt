@@ -15,7 +15,7 @@ pub(crate) struct Density {
     pub(crate) entries: u32,
 }
 
-/// Of the density of an array and the least of those behind it the lesser, that of the array where they are equal.
+/// The lesser of an array's density and the least of those after it; the array's own if they are equal.
 fn lesser(a: &ArrayDesc, behind: Option<Density>) -> Density
     ensures ok { (sparsest : Option Descriptor) → option_map density_of sparsest ≡ behind
         → density_of (sparser a.now sparsest) ≡ result }
@@ -29,8 +29,7 @@ fn lesser(a: &ArrayDesc, behind: Option<Density>) -> Density
     }
 }
 
-/// The least density of arrays and of those behind them, of which this is the least. Of equal ones it is that of the
-/// first. O(arrays).
+/// The least density of arrays and of others after them, whose least is given. Of equal ones the first. O(arrays).
 #[tactic(auto, using(crate::proofs::DensityLemmas::least_next))]
 fn least_with(arrays: &[ArrayDesc], behind: Option<Density>) -> Option<Density>
     ensures ok { (later : List Descriptor) → least_density later ≡ behind

@@ -59,9 +59,8 @@ fn refusal_of(fault: BodyFault) -> Refusal
     }
 }
 
-/// Answers a body, in the buffer for replies, and says which fault the store met, if it met one:
-/// then it is not to be used again. A change that is answered otherwise is durable: its cost is
-/// that of `Store::apply`.
+/// Writes the reply to a body into the buffer for replies. Answers the fault that the store met, if it met one; then it
+/// is not to be used again. A change that is answered otherwise is durable. The cost is that of `Store::apply`.
 pub fn answer_frame<D: Disk>(
     store: &mut Store,
     disk: &mut D,
@@ -110,8 +109,8 @@ pub(crate) fn send<K: Sink>(sink: &mut K, out: &OutBuf) -> Result<(), Failed>
     Ok(())
 }
 
-/// Serves the frame in the buffer alone: a change is durable before its reply is sent. Says what was met next, or how the run
-/// ends.
+/// Serves the frame in the buffer alone: a change is durable before its reply is sent. Answers what comes next, or how the
+/// run ends.
 pub(crate) fn serve_alone<K: Sink, D: Disk>(
     store: &mut Store,
     buffers: &mut Buffers,

@@ -64,8 +64,8 @@ fn keep_reply(
     told
 }
 
-/// Stages the change that a body asks for, if it asks for one that may be staged, and keeps its reply for later. Gives the
-/// body's tag then; if not, nothing has changed.
+/// Stages the change that a body asks for, and keeps its reply for later: the body's tag is answered. `None` if it asks
+/// for no change, or for one that may not be staged; then nothing has changed.
 fn stage_body(
     store: &mut Store,
     body: &[u8],
@@ -93,8 +93,8 @@ fn stage_body(
     None
 }
 
-/// Stages the changes of frames that are held, one after the other, up to a body that is not staged, the end of what is held or
-/// a frame that is too long; says which of these was met.
+/// Stages the changes of the frames that are held, one after the other. Answers what ended that: a body that is not
+/// staged, the end of what is held, or a frame that is too long.
 fn stage_frames(
     store: &mut Store,
     buffers: &mut Buffers,
@@ -137,7 +137,7 @@ fn send_kept<K: Sink>(sink: &mut K, kept: &ArrayVec<u8, REPLIES_MAX>) -> Result<
     Ok(())
 }
 
-/// Answers under the tag of the first change of a batch that the device failed.
+/// Sends DeviceFault under the tag of a batch's first change.
 fn refuse_batch<K: Sink>(
     sink: &mut K,
     tag: u32,
@@ -158,10 +158,10 @@ fn refuse_batch<K: Sink>(
     Ok(())
 }
 
-/// Makes the changes durable together whose frames are held, that in the buffer first, sixteen at most: two writes and two
-/// syncs, whatever their number. Their replies are sent once they are durable. Says what was met behind them, or how the
-/// run ends: where the device failed the first change alone is told so. If the body in the buffer is not staged, nothing
-/// has changed, and there is no answer.
+/// Makes changes durable together: that of the frame in the buffer, and those of the frames held after it, sixteen at
+/// most. Two writes and two syncs, whatever their number. Their replies are sent once they are durable. Answers what comes
+/// after them, or how the run ends. If the device fails, DeviceFault is sent to the first change alone. `None`: the body
+/// in the buffer is not staged, and nothing has changed.
 fn serve_group<K: Sink, D: Disk>(
     store: &mut Store,
     buffers: &mut Buffers,
@@ -212,8 +212,8 @@ fn serve_group<K: Sink, D: Disk>(
     }
 }
 
-/// Serves the frame in the buffer: with those after it whose changes become durable together with its own, or alone. Says
-/// what was met next, or how the run ends.
+/// Serves the frame in the buffer: together with the changes of frames held after it, or alone. Answers what comes next,
+/// or how the run ends.
 pub(crate) fn serve_turn<K: Sink, D: Disk>(
     store: &mut Store,
     buffers: &mut Buffers,

@@ -118,11 +118,10 @@ fn serve_frames<S: Source, K: Sink, D: Disk>(
     }
 }
 
-/// Opens the store on a disk and serves frames from a source to a sink, until the source ends or as
-/// many bytes were read as the budget has. It takes the memory for frames, pairs and replies before
-/// it touches the disk, and reads at most 4,096 bytes at a time. It reads on when each whole frame among
-/// them is answered: any reply may be the one that fails, and by then no more was read than a piece behind
-/// those whose replies went out. A reply goes out when the change that it answers is durable.
+/// Opens the store on a disk and serves frames from a source to a sink, until the source ends or as many bytes were read
+/// as the budget has. It takes the memory for frames, pairs and replies before it touches the disk. It reads at most 4,096
+/// bytes at a time, and reads on only when every whole frame before has its reply. A reply goes out only when the change
+/// that it answers is durable.
 #[tactic(auto, using(def_crash::proofs::MomentLemmas::passes_trans))]
 pub fn serve<S: Source, K: Sink, D: Disk>(
     alloc: Global,

@@ -1,4 +1,4 @@
-//! Runs over several publications, stopped at each call of their disk, crashed, opened again, and gone on with.
+//! Runs over several checkpoints, stopped at each call of their disk, crashed, opened again, and gone on with.
 
 ghost use Rattle.std.specs.Prelude.{◌≤◌, ◌+◌, ◌^◌};
 

@@ -46,6 +46,7 @@ fn survey_of<'a>(tree: &'a Tree, counts: &'a Counts, horizon: u32) -> Survey<'a>
     } }
     ensures kept { IsSized (told result) }
 {
+    // For the proof: the parents are a tree.
     let _ = tree.count();
     Survey {
         parents: tree.parents(),

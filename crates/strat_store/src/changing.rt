@@ -116,7 +116,7 @@ fn carry_out<D: Disk>(held: &mut OpenStore, disk: &mut D, change: &Change<'_>) -
     held.memory.take(change)
 }
 
-/// Why a change is refused before which a publication gave up. A bound that was reached is told as want of memory.
+/// How a change is refused if the checkpoint before it gave up. A bound that was reached is told as want of memory.
 fn refusal_of(obstacle: Obstacle) -> Refusal
     ensures ok { result ≡ refusal_of_trouble (told_as obstacle) }
 {
@@ -127,8 +127,8 @@ fn refusal_of(obstacle: Obstacle) -> Refusal
     }
 }
 
-/// Carries out a change that is not refused, where the journal is full: it is emptied into the levels first, and the change
-/// begins it anew. It costs a publication, and then what `carry_out` costs.
+/// Carries out a change that is not refused, where the journal is full: a checkpoint empties it into the levels, and then
+/// the change begins it anew. It costs a checkpoint, and then what `carry_out` costs.
 fn carry_out_anew<D: Disk>(
     alloc: Global,
     held: &mut OpenStore,
@@ -170,7 +170,7 @@ fn carry_out_anew<D: Disk>(
 
 /// Carries out a change: one that is refused changes nothing, and a full journal is emptied into the levels first. A change
 /// costs two writes and two syncs, and one insertion into level 0 or O(log versions_max); one in `mem` changes costs a
-/// publication before these. NoMemory: a publication took no more memory, and nothing has changed. DeviceFault: the disk
+/// checkpoint before these. NoMemory: the checkpoint ran out of memory, and nothing has changed. DeviceFault: the disk
 /// failed. Damaged: a block of an array is bad. After these two the store is not to be used again.
 pub(crate) fn change<D: Disk>(
     alloc: Global,

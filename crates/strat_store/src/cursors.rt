@@ -141,7 +141,7 @@ pub(crate) fn reply_to_next_pairs<D: Disk>(
     reply_of_next(told)
 }
 
-/// Closes a cursor. The blocks of arrays that were kept for it alone are free from the next publication on. UnknownCursor:
+/// Closes a cursor. The blocks of arrays that were kept for it alone are free from the next checkpoint on. UnknownCursor:
 /// no cursor has the number.
 pub(crate) fn reply_to_close_cursor(held: &mut OpenStore, number: u64) -> Reply
     requires kept { (cached : Blocks) → IsConsistent (held_of held.old cached) }

@@ -101,8 +101,8 @@ fn has_place(journal: &Journal, staged: usize) -> bool
     staged < STAGED_MAX && staged < journal.room() as usize
 }
 
-/// Puts a change behind those that are staged, of which there are so many, and takes it in memory. It answers what is told
-/// of the change; or nothing where it may not be staged, and then nothing has changed. No memory, no device call.
+/// Stages a change after so many others, and has memory make it. Answers the reply that waits for it; or `None` if it may
+/// not be staged, and then nothing has changed. It takes no memory and makes no device call.
 pub(crate) fn stage_change(
     held: &mut OpenStore,
     staged: usize,

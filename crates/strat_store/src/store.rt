@@ -176,7 +176,7 @@ fn query<D: Disk>(
             reply_to_next_pairs(held, cache, buffers, disk, cursor, limit, out)
         }
         Command::CloseCursor { cursor } => reply_to_close_cursor(held, cursor),
-        // The premise leaves no change.
+        // Not reached: the commands left ask for a change.
         _ => Reply::Refused(Refusal::Malformed),
     }
 }
@@ -232,8 +232,8 @@ fn answer<D: Disk>(
     }
 }
 
-/// What look-ups and scans work with: a cache of 256 blocks, which takes memory as it fills, and room for 25 blocks. The
-/// only error is want of memory.
+/// What look-ups and scans work with: a cache of 256 blocks, which takes memory as it fills, room for 25 blocks, and hints
+/// where blocks begin. The only error is want of memory.
 fn take_read_buffers(alloc: Global) -> Result<(Cache, Scratch, ScanBuffers), NoMemory>
     ensures ok { IfOk result (λ room. room.0 ≡ empty_cache 256) }
 {
@@ -251,21 +251,26 @@ impl Store {
         self.spent
     }
 
-    /// Carries out one command. The pairs of its answer are in `out`, from which all others are gone. A change is durable before
-    /// it is answered: two writes and two syncs, and in memory one insertion into level 0, or O(log versions_max) for a clone;
-    /// it takes no memory. A change that meets a full journal, one in `mem`, has it emptied into the levels first: the levels that
-    /// are merged are read twice, the new arrays and the manifest are written once, and there are five syncs at most. That takes
-    /// memory before anything of the store is replaced, and where there is none the answer is `NoMemory`, and the store is as it
-    /// was. A get asks level 0, and then in each level one array at most, by a binary search of its blocks; a scan goes through
-    /// level 0 and one array of each level, pair by pair. Either reads in an array of fewer than 2^n blocks n + 4 at most to search,
-    /// and each once more at most, and of an array that is not asked at the version none. These take no memory but for blocks that
-    /// are cached. An opening of a cursor copies where level 0's pairs stand, 12 bytes an item, and at most 22 descriptors, and
-    /// reads no block: `NoMemory` where there is none. The pairs it shares: a level 0 that was emptied keeps its memory while a
-    /// cursor reads it. A page of a cursor costs what a scan does, over the cursor's arrays, a closing O(arrays kept for cursors *
-    /// arrays of all cursors). Other look-ups are O(1), and read nothing.
-    /// `DeviceFault`: the disk counted a fault.
-    /// `Damaged`: this block of an array of the levels, or of one that a cursor holds on to, holds no entries, or in a level
-    /// none that come after those before it. After these two, and no other, the store is spent.
+    /// Carries out one command. The pairs of its answer are in `out`, which is emptied first.
+    ///
+    /// A change is durable before it is answered: two writes and two syncs, and in memory one insertion into level 0, or
+    /// O(log versions_max) for a clone. It takes no memory. A change that meets a full journal, one in `mem`, makes a
+    /// checkpoint first. That reads the blocks that it merges twice, writes the new arrays and the manifest once, and syncs
+    /// five times at most. It takes its memory before anything of the store is replaced; without it the answer is
+    /// `NoMemory`, and the store is as it was.
+    ///
+    /// A get asks level 0, and then one array of each level at most. A scan goes through level 0 and one array of each
+    /// level, pair by pair. In an array of fewer than 2^n blocks either reads n + 4 at most to search, and each once more at
+    /// most. It reads no array that is not asked at the version. These take no memory but for blocks that are cached.
+    ///
+    /// Opening a cursor copies level 0's items, 12 bytes each, and at most 22 descriptors, and reads no block; `NoMemory`
+    /// if there is no room for these. It shares the pairs: a level 0 that was emptied keeps its memory while a cursor reads
+    /// it. A page costs what a scan does, over the cursor's arrays. Closing costs O(arrays kept for cursors * arrays of all
+    /// cursors). Other look-ups are O(1), and read nothing.
+    ///
+    /// `DeviceFault`: the disk counted a fault. `Damaged`: this block of an array of the levels, or of one that a cursor
+    /// holds on to, holds no entries, or in a level none that come after those before it. After these two, and no other,
+    /// the store is spent.
     pub fn apply<D: Disk>(
         &mut self,
         disk: &mut D,
@@ -362,7 +367,7 @@ impl Store {
         ensures ok { self.now.spent ≡ false
             → slice_get (replies_staged self.now) i ≡ Some result }
     {
-        // A store that is not spent has a reply to each.
+        // The default is not reached: a store that is not spent has a reply to each staged change.
         self.replies.get(i).unwrap_or(Reply::Done)
     }
 
@@ -397,14 +402,18 @@ impl Store {
         Ok(())
     }
 
-    /// Opens the store on a disk. It syncs, reads the two superblock slots, each block of the manifest's chain, the active journal
-    /// region up to its first closed gate, and one gate of the other region, each once, and no block of an array. It shuts that
-    /// gate where it reads open while the active region has room (a run that was killed in a publication leaves it so): one
-    /// write and one sync more. Until the first sync succeeds a crash leaves only what it might have left before. Linear in the
-    /// manifest and the journal, but for O(log) at each array and each version. It takes the memory of all changes that do not
-    /// meet a full journal: 3.9 KB for each of `mem` and 75 bytes for each of `versions_max`, while it recovers 2.6 KB more for each
-    /// of `mem`; and the levels' descriptors twice, once with an index of versions. Up to 1 MiB of blocks is cached later. After an
-    /// error other than `Device` the disk is as it was; after that one too, or its last step failed, which shuts the gate.
+    /// Opens the store on a disk. It syncs; it reads both superblock slots, each block of the manifest's chain, each
+    /// block of the active journal region up to its first closed gate, and one gate of the other region. It reads no
+    /// block of an array. If that gate is open while the active region has room, it shuts the gate (a run that was
+    /// killed in a checkpoint leaves it open): at most one read, one write and one sync more. Linear in the manifest
+    /// and the journal, but for O(log) at each array and each version. Until the first sync succeeds a crash leaves
+    /// only what it might have left before. After an error other than `Device` the disk is as it was; after `Device` it
+    /// is so too, unless it was the last step that failed, which shuts the gate.
+    ///
+    /// It takes the memory of all changes that do not meet a full journal: 3.9 KB for each of `mem` and 75 bytes for
+    /// each of `versions_max`; 25 blocks, one for gets and 24 for scans; 0.5 MB for hints where blocks begin; and the
+    /// levels' descriptors twice, once with an index of versions. While it recovers it takes more: 2.6 KB for each of
+    /// `mem`, 0.3 MB, and 8 bytes for each block in use. Up to 1 MiB of blocks is cached later.
     pub fn attach<D: Disk>(alloc: Global, disk: &mut D) -> Result<Store, AttachFault>
         ensures ok { IfOk result (λ s. IsOpenedAs (D.view disk.old) (D.view disk.new) s
             × (s.cached ≡ empty_cache 256) × IsConsistent s) }

@@ -39,7 +39,7 @@ pub fn what_is_refused_meets_no_fault<D: Viewed>()
 {}
 
 /// A command that asks for no change and is about no cursor leaves the cursors, the journal and all else in memory; a change
-/// leaves the cursors, or what a publication does; and no array is kept that was not held.
+/// leaves the cursors, or what a checkpoint does; and no array is kept that was not held.
 pub fn commands_leave_cursors()
     ensures looked { (old new : Held) (a : Answer) → LeavesCursors old Stat a new
         → (new.memory.cursors ≡ old.memory.cursors) × (new.log ≡ old.log)

@@ -1,4 +1,4 @@
-//! Contents that follow others: their numbers, publications that are refused, and how many changes may be in the journal.
+//! Contents that follow others: their numbers, checkpoints that are refused, and how many changes may be in the journal.
 //! Each is the contract of a function that does nothing.
 
 ghost use Rattle.std.specs.Prelude.{◌≡◌, List, [], ◌∷◌, Option, None, Err};
@@ -59,7 +59,7 @@ pub fn publications_may_come_at_other_fills()
 
 /// Contents may not take the place of others over the newest slot, with an older generation, with the same region, with
 /// changes twice, without the one behind a full region, or without a pair. They may not be the next where there are more
-/// publications than changes, nor keep another format than the newest.
+/// checkpoints than changes, nor keep another format than the newest.
 pub fn wrong_publications_are_refused()
     ensures slot { ¬ Succeeds chain_logged (record chain_next { slot = 0 }) }
     ensures older { ¬ Succeeds chain_logged (at_generation 1 chain_next) }

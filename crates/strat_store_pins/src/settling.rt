@@ -61,7 +61,7 @@ pub fn a_full_journal_is_published<D: Viewed>()
 {}
 
 /// A command that was not carried out as a change, and was not told that the device failed, left slot, superblock, manifest and
-/// levels; one that was told so left them, or those of a publication.
+/// levels; one that was told so left them, or those of a checkpoint.
 pub fn no_other_command_publishes<D: Viewed>()
     ensures same { (d e : D) (old new : Held) (told : Reply)
         → LeavesPublished (D.view d) (D.view e) old false told new

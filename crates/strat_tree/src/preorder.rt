@@ -52,7 +52,7 @@ impl Preorder {
             → IsPreorder (length self.old.starts) parents self.new }
         ensures len { length self.new.starts ≡ length self.old.starts }
     {
-        // A tree says with its count that it is one.
+        // For the proof: the parents are a tree.
         let _ = tree.count();
         put_in_order(&mut self.starts, &mut self.ends, tree);
     }
@@ -92,7 +92,7 @@ fn add_sizes(sizes: &mut [u32], tree: &Tree)
     requires len { length sizes.old ≤ length tree.now.parents }
     ensures ok { AreSizes tree.now.parents (length sizes.old) (λ v. slice_index sizes.new v) }
 {
-    // A tree says with its count that it is one.
+    // For the proof: the parents are a tree.
     let _ = tree.count();
     let mut v = sizes.len();
     while v > 1 {
@@ -111,7 +111,7 @@ fn lay_out(starts: &mut [u32], ends: &mut [u32], tree: &Tree)
     ensures ok { AreIntervals tree.now.parents (length ends.old)
         (λ v. slice_index starts.new v) (λ v. slice_index ends.new v) }
 {
-    // A tree says with its count that it is one.
+    // For the proof: the parents are a tree.
     let _ = tree.count();
     for v in 0..ends.len() {
         let start = pass_up(ends, tree.parent(v as Version), v);

@@ -180,7 +180,7 @@ impl Tree {
         requires { (u < length self.now.parents) × (v < length self.now.parents) }
         ensures ok { result ≡ is_ancestor self.now.parents u v }
     {
-        // What every tree keeps is known where a field is used.
+        // For the proof: what every tree keeps.
         let _ = &self.parents;
         self.below(v, u + 1) == u
     }
