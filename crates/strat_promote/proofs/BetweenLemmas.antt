@@ -26,9 +26,9 @@ use Rattle.strat_promote.specs.Promotions.{HasBegun, IsItsJob}
 use Rattle.strat_promote.specs.Stages.{IsUnderway, stage_writers}
 use Rattle.strat_promote.specs.Steps.{Inputs}
 use Rattle.strat_promote.specs.Written.{IsWriting}
-use Rattle.strat_promote.specs.declared.counting.Counting.{Counting}
+use Rattle.strat_promote.specs.declared.first_pass.Counting.{Counting}
 use Rattle.strat_promote.specs.declared.input.Input.{Input}
-use Rattle.strat_promote.specs.declared.passing.Writing.{Writing}
+use Rattle.strat_promote.specs.declared.second_pass.Writing.{Writing}
 use Rattle.strat_promote.specs.declared.promotion.Promotion.{Promotion}
 use Rattle.strat_promote.specs.declared.stage.Stage.{Stage}
 use Rattle.strat_promote.specs.declared.stage.Stage.TheVariants as stage

@@ -14,7 +14,7 @@ use Rattle.def_promote.specs.Purge.{is_needed, purged}
 use Rattle.strat_split.specs.PlanSeen.{plan_seen}
 use Rattle.strat_promote.specs.Job.{Job, runs_in, input_count, groups_kept, part_content}
 use Rattle.strat_promote.specs.Written.{IsWriting}
-use Rattle.strat_promote.specs.declared.passing.Writing.{Writing}
+use Rattle.strat_promote.specs.declared.second_pass.Writing.{Writing}
 use Rattle.strat_promote.proofs.BudgetLemmas.{goes_with, next_fits}
 use Rattle.strat_promote.proofs.PassLemmas.{filter_fewer}
 

@@ -35,7 +35,7 @@ use Rattle.strat_promote.specs.Leads.{leads_in}
 use Rattle.strat_promote.specs.Stages.{IsArrayMade, IsPlanMade, IsMade}
 use Rattle.strat_promote.specs.Steps.{Inputs, IsReadySource, IsTaskIn}
 use Rattle.strat_promote.specs.Written.{IsAllWritten}
-use Rattle.strat_promote.specs.declared.passing.Writing.{Writing}
+use Rattle.strat_promote.specs.declared.second_pass.Writing.{Writing}
 use Rattle.strat_promote.specs.declared.step.Task.{Task}
 
 contains_from : {X : Type 0} (xs : List X) (x : X) → Among x xs → Contains xs x

@@ -36,7 +36,7 @@ use Rattle.strat_promote.specs.Filled.{IsFilling}
 use Rattle.strat_promote.specs.Job.{Job, runs_in, input_count, groups_kept, part_content}
 use Rattle.strat_promote.specs.Steps.{Inputs, IsReadySource, IsTaskIn}
 use Rattle.strat_promote.specs.Written.{PlansJob, HasContent}
-use Rattle.strat_promote.specs.declared.passing.Writing.{Writing}
+use Rattle.strat_promote.specs.declared.second_pass.Writing.{Writing}
 use Rattle.strat_promote.specs.declared.step.Task.{Task}
 use Rattle.strat_promote.proofs.BoundLemmas.{kept_fewer, merged_fewer}
 use Rattle.strat_promote.proofs.MadeLemmas.{input_low, kept_groups, kept_low, merged_from}

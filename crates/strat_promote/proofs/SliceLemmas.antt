@@ -25,9 +25,9 @@ use Rattle.strat_promote.specs.Spaces.{HasAmpleRoom, HasFewFree, TakesMore}
 use Rattle.strat_promote.specs.Stages.{IsSteady, IsUnderway, IsMade, IsReadFrom, IsReadOf, ReadsOnce, HasLeft, IsTakenUp, stage_writers, stage_consumed, blocks_due, how_far}
 use Rattle.strat_promote.specs.Steps.{Inputs, IsReadySource, IsTaskIn, StepsOn, SlicesOn}
 use Rattle.strat_promote.specs.Turning.{GoesFurther, stage_after, AreAllNew, WritesOn}
-use Rattle.strat_promote.specs.declared.counting.Counting.{Counting}
+use Rattle.strat_promote.specs.declared.first_pass.Counting.{Counting}
 use Rattle.strat_promote.specs.declared.input.Input.{Input}
-use Rattle.strat_promote.specs.declared.passing.Writing.{Writing}
+use Rattle.strat_promote.specs.declared.second_pass.Writing.{Writing}
 use Rattle.strat_promote.specs.declared.stage.Stage.{Stage}
 use Rattle.strat_promote.specs.declared.stage.Stage.TheVariants as stage
 use Rattle.strat_promote.specs.declared.step.Step.{Step}

@@ -43,7 +43,7 @@ use Rattle.strat_promote.specs.Job.{Job, runs_in, input_count, blocks_listed, Is
 use Rattle.strat_promote.specs.Leads.{leads_in}
 use Rattle.strat_promote.specs.Taken.{group_kept, TakesKept}
 use Rattle.strat_promote.specs.Written.{IsWriting, IsAllWritten}
-use Rattle.strat_promote.specs.declared.passing.Writing.{Writing}
+use Rattle.strat_promote.specs.declared.second_pass.Writing.{Writing}
 use Rattle.strat_promote.proofs.LeadLemmas.{entries_same, misfit_same}
 use Rattle.strat_promote.proofs.PassLemmas.{none_left, kept_same, kept_more, versions_of_items, runs_more, runs_ended, count_stays}
 use Rattle.strat_promote.proofs.TakenLemmas.{items_pass}

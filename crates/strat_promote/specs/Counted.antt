@@ -11,7 +11,7 @@ use Rattle.strat_merge.specs.Runs.{RunView, lefts, blocks_left, IsBadFor}
 use Rattle.def_split.specs.Groups.{grouped_entries, group_versions}
 use Rattle.def_promote.specs.Merging.{MergesTo, Merges}
 use Rattle.strat_promote.specs.Job.{Job, runs_in, input_count, blocks_listed, IsBadInput, groups_kept}
-use Rattle.strat_promote.specs.declared.counting.Counting.{Counting}
+use Rattle.strat_promote.specs.declared.first_pass.Counting.{Counting}
 
 -- what is known of a first pass over the versions below n, whatever disk its runs lie on
 pub record IsCounter {R : Type 0} (view : R → RunView) (n : ℕ) (c : Counting R) : Type 0 where

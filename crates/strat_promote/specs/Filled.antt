@@ -18,7 +18,7 @@ use Rattle.strat_live.specs.Group.{is_descending}
 use Rattle.strat_split.specs.Dealing.{items_taken}
 use Rattle.strat_split.specs.Hanging.{carriers_of}
 use Rattle.strat_split.specs.declared.parts.Plan.{Plan}
-use Rattle.strat_promote.specs.declared.writing.Filling.{Filling}
+use Rattle.strat_promote.specs.declared.filling.Filling.{Filling}
 
 -- what is known of a plan of the versions below n and its arrays, whatever was pushed
 pub record IsFilling (n : ℕ) (a : Filling) : Type 0 where

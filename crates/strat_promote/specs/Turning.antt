@@ -10,9 +10,9 @@ use Rattle.strat_promote.specs.InputFields.{input_seen}
 use Rattle.strat_promote.specs.Job.{Job, input_count}
 use Rattle.strat_promote.specs.Stages.{IsMade, how_far}
 use Rattle.strat_promote.specs.Written.{IsWriting}
-use Rattle.strat_promote.specs.declared.counting.Counting.{Counting}
+use Rattle.strat_promote.specs.declared.first_pass.Counting.{Counting}
 use Rattle.strat_promote.specs.declared.input.Input.{Input}
-use Rattle.strat_promote.specs.declared.passing.Writing.{Writing}
+use Rattle.strat_promote.specs.declared.second_pass.Writing.{Writing}
 use Rattle.strat_promote.specs.declared.stage.Stage.{Stage}
 use Rattle.strat_promote.specs.declared.stage.Stage.TheVariants as stage
 use Rattle.strat_promote.specs.declared.step.Task.{Task}

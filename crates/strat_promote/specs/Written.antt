@@ -18,7 +18,7 @@ use Rattle.def_state.specs.Counted.{own_at, keys_at}
 use Rattle.strat_promote.specs.Counted.{AreRunsOf}
 use Rattle.strat_promote.specs.Filled.{AreReadyFor, IsFilling}
 use Rattle.strat_promote.specs.Job.{Job, runs_in, input_count, groups_kept, part_content}
-use Rattle.strat_promote.specs.declared.passing.Writing.{Writing}
+use Rattle.strat_promote.specs.declared.second_pass.Writing.{Writing}
 
 -- what is known of a second pass over the versions below n, whatever disk its runs lie on
 pub record IsWriterOf {R : Type 0} (view : R → RunView) (n : ℕ) (w : Writing R) : Type 0 where

@@ -1,9 +1,9 @@
 //! Promotion: level 0 and the shallow levels become one new level.
 #![tactic(auto)]
 
-mod closing;
-mod counting;
 mod edges;
+mod filling;
+mod first_pass;
 pub mod input;
 mod input_run;
 mod inputs;
@@ -11,18 +11,18 @@ pub mod last_read;
 pub mod laws;
 pub mod lead_blocks;
 pub mod lead_run;
+mod next_group;
 pub mod obstacle;
-mod opening;
-mod passing;
+mod pass_starts;
 mod planning;
 pub mod promotion;
-mod pushing;
+mod push;
+mod seal;
+mod second_pass;
 mod slicing;
 mod stage;
 pub mod state_laws;
 mod step;
 mod tag;
-mod taking;
-mod writing;
 mod zero_copy;
 mod zero_run;

@@ -11,7 +11,7 @@ ghost use Rattle.strat_promote.specs.Planning.{AreNew};
 ghost use Rattle.strat_split.specs.PlanSeen.{plan_seen};
 ghost use Rattle.def_state.specs.Counted.{own_at, keys_at};
 
-use crate::writing::Filling;
+use crate::filling::Filling;
 use std::alloc::Global;
 use strat_array::ArrayWriter;
 use strat_base::NoMemory;

@@ -1,8 +1,8 @@
 //! How far a promotion is.
 
-use crate::counting::Counting;
+use crate::first_pass::Counting;
 use crate::input::Input;
-use crate::passing::Writing;
+use crate::second_pass::Writing;
 
 /// Nothing was read yet; or groups are counted; or they are written, and the first pass took so many entries.
 #[derive(Drop)]

@@ -31,12 +31,12 @@ ghost use Rattle.strat_promote.specs.Stages.{IsSteady, IsUnderway, IsMade, AreRe
 ghost use Rattle.strat_promote.specs.Steps.{Inputs, inputs_of, IsReadySource, IsTaskIn, StepsOn};
 ghost use Rattle.strat_promote.specs.declared.obstacle.Obstacle.TheVariants.{Damaged, Device, Unfit};
 
-use crate::closing::{describe_all, seal_all};
-use crate::counting::{Counting, count_group};
+use crate::first_pass::{Counting, count_group};
 use crate::input::Input;
 use crate::obstacle::Obstacle;
-use crate::opening::{begin_counting, begin_writing};
-use crate::passing::{Writing, write_group};
+use crate::pass_starts::{begin_counting, begin_writing};
+use crate::seal::{describe_all, seal_all};
+use crate::second_pass::{Writing, write_group};
 use crate::stage::Stage;
 use std::alloc::Global;
 use strat_arena::{Arena, ArenaPool};
