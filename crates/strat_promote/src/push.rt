@@ -28,7 +28,7 @@ use strat_extent::Space;
 
 /// Whether an array of so many entries may have one more, where so many blocks are free: no store comes so far that it may
 /// not.
-fn check_room(count: u32, free: u32) -> Result<(), Unfit>
+fn check_array_room(count: u32, free: u32) -> Result<(), Unfit>
     ensures ok { OnOk result ((count < 33554432) × (0 < free)) }
     ensures cause { OnErr result ((33554432 ≤ count) ⊎ (free ≡ 0)) }
 {
@@ -64,7 +64,7 @@ fn push_one<D: Disk>(
         (λ e. MeetsObstacle e (D.faults disk.old) (D.faults disk.new)) }
     ensures reads { D.reads disk.new ≡ D.reads disk.old }
 {
-    check_room(writer.count(), space.free())?;
+    check_array_room(writer.count(), space.free())?;
     writer.push(e, space, disk)?;
     Ok(())
 }

@@ -161,7 +161,7 @@ fn compute_beside<D: Disk>(
 /// What takes the place of a store's superblock and of what its last checkpoint left, and the number of the level that
 /// was filled.
 #[derive(Drop)]
-struct Next {
+struct NextContents {
     sb: SuperBlock,
     published: Published,
     target: usize,
@@ -191,7 +191,7 @@ fn has_new_numbers(made: &Made, next_array: u64) -> bool
 
 /// The next superblock, and the manifest that it leads to, tested as recovery tests them. `Unfit`: recovery would refuse
 /// them, an array's number is not new, or no generation is left.
-fn admit_next(alloc: Global, held: &OpenStore, computed: Computed) -> Result<Next, Obstacle>
+fn admit_next(alloc: Global, held: &OpenStore, computed: Computed) -> Result<NextContents, Obstacle>
     requires kept { IsLawful (super_of held.now.sb)
         × IsTrue (is_lawful_manifest newest_format (manifest_of computed.manifest)) }
     requires fits { (places.first_free held.now.sb.mem ≤ computed.first)
@@ -217,7 +217,7 @@ fn admit_next(alloc: Global, held: &OpenStore, computed: Computed) -> Result<Nex
     }
     let sb = next_super(&held.sb, computed.first, computed.length)?;
     match admit(alloc, &sb, computed.manifest, computed.chain)? {
-        Some(published) => Ok(Next {
+        Some(published) => Ok(NextContents {
             sb,
             published,
             target: computed.made.target,
@@ -229,7 +229,11 @@ fn admit_next(alloc: Global, held: &OpenStore, computed: Computed) -> Result<Nex
 /// Writes the next contents of a store but for their superblock beside what it holds, and tests what their manifest
 /// says. Errors are those of `compute_beside`, and want of memory; `Unfit` never comes where the store stands.
 #[tactic(auto, using(def_bytes::proofs::MarkLemmas::none_marked))]
-fn prepare_next<D: Disk>(alloc: Global, held: &OpenStore, disk: &mut D) -> Result<Next, Obstacle>
+fn prepare_next<D: Disk>(
+    alloc: Global,
+    held: &OpenStore,
+    disk: &mut D,
+) -> Result<NextContents, Obstacle>
     requires kept { (cached : Blocks) → IsConsistent (held_of held.now cached) }
     requires len { length held.now.journal.list ≡ held.now.sb.mem }
     ensures ok { IfOk result (λ next. (x : Contents) (cached : Blocks)
@@ -324,7 +328,7 @@ fn retire_levels(memory: &mut Memory, mut levels: LevelList, target: usize)
 
 /// Lays the superblock of what a store made ready, which then takes the place of what it holds. At most five syncs, and
 /// no memory.
-fn install<D: Disk>(held: &mut OpenStore, next: Next, disk: &mut D) -> Result<(), Failed>
+fn install<D: Disk>(held: &mut OpenStore, next: NextContents, disk: &mut D) -> Result<(), Failed>
     requires fits { (held.old.slot ≤ 1) × (held.old.journal.active ≤ 1)
         × IsLawful (super_of next.sb) }
     requires room { (held.old.memory.ready ≡ Some held.old.sb.mem)

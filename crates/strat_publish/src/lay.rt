@@ -43,7 +43,7 @@ use strat_promote::obstacle::{Obstacle, Unfit};
 const CHAIN_MOST: u32 = 1 << 20;
 
 /// Refuses a space with fewer free blocks than a manifest's chain may take: no store comes so far.
-fn check_room(space: &Space) -> Result<(), Unfit>
+fn check_chain_room(space: &Space) -> Result<(), Unfit>
     ensures ok { OnOk result (used_count space.now + 1048576 ≤ 4294967295 - space.now.first) }
     ensures cause { OnErr result (HasFewFree space.now (2 ^ 20)) }
 {
@@ -86,7 +86,7 @@ pub(crate) fn write_next<D: Disk>(
     ensures damaged { (b : ℕ) → IsErrOf result (Damaged b) → ⊥ }
     ensures reads { D.reads disk.new ≡ D.reads disk.old }
 {
-    check_room(space)?;
+    check_chain_room(space)?;
     let written = write(alloc, disk, space, m)?;
     Ok(written)
 }

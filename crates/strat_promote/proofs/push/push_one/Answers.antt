@@ -3,8 +3,8 @@ use Rattle.strat_promote.proofs.ObstacleLemmas.{fit_handed, gives_handed}
 use Rattle.strat_promote.proofs.SpacesLemmas.{takes_more}
 use Rattle.strat_promote.proofs.push.push_one.Goals as goal
 
-pub returns-in_err-check_room-clause-fits : goal.returns-in_err-check_room-clause-fits
-returns-in_err-check_room-clause-fits g c = λ unfit. elim c.in_err-check_room.ensures.cause [
+pub returns-in_err-check_array_room-clause-fits : goal.returns-in_err-check_array_room-clause-fits
+returns-in_err-check_array_room-clause-fits g c = λ unfit. elim c.in_err-check_array_room.ensures.cause [
   | inl full ↦ inl (omega (arith, full, c.count.ensures.ok))
   | inr none ↦ inr (omega (arith, none, c.free.ensures.ok))
 ]
