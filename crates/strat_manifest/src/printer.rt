@@ -1,4 +1,4 @@
-//! The spelling of a manifest: its length, and its bytes in memory of just that length.
+//! The spelling of a manifest, in memory of just its length.
 
 ghost use Rattle.std.specs.Prelude.{◌≡◌, ◌+◌, ◌*◌, ◌^◌, ◌≤◌, ◌<◌, ◌++◌, length, vec_len, vec_capacity, IfOk, IsTrue};
 ghost use Rattle.std.specs.List.{flat_map};
@@ -8,6 +8,7 @@ ghost use Rattle.def_bytes.specs.Manifest.{is_lawful_manifest, list_bytes, exten
 ghost use Rattle.strat_manifest.specs.ManifestView.{manifest_of};
 
 use crate::manifest::Manifest;
+use crate::size::manifest_size;
 use std::alloc::Global;
 use strat_base::{ArrayDesc, Extent, LevelDesc, NoMemory};
 
@@ -193,59 +194,6 @@ fn add_levels(out: &mut Vec<u8>, levels: &[LevelDesc])
     }
 }
 
-/// How many bytes the descriptor of an array has.
-#[tactic(auto, using(crate::proofs::PrintLemmas::array_size))]
-fn array_len(a: &ArrayDesc) -> usize
-    requires { length (array_bytes a.now) < 2 ^ 32 }
-    ensures ok { result ≡ length (array_bytes a.now) }
-{
-    28 + 8 * a.extents.len() + 4 * a.versions.len()
-}
-
-/// How many bytes the descriptors of arrays have.
-#[tactic(auto, using(crate::proofs::PrintLemmas::joined_all, crate::proofs::PrintLemmas::size_next))]
-fn arrays_len(arrays: &[ArrayDesc]) -> usize
-    requires { length (flat_map array_bytes arrays.now) < 2 ^ 32 }
-    ensures ok { result ≡ length (flat_map array_bytes arrays.now) }
-{
-    let mut len = 0;
-    for a in arrays {
-        len += array_len(a);
-    }
-    len
-}
-
-/// How many bytes the descriptor of a level has.
-#[tactic(auto, using(crate::proofs::PrintLemmas::level_size))]
-fn level_len(level: &LevelDesc) -> usize
-    requires { length (level_bytes level.now) < 2 ^ 32 }
-    ensures ok { result ≡ length (level_bytes level.now) }
-{
-    9 + arrays_len(level.arrays.as_slice())
-}
-
-/// How many bytes the descriptors of levels have.
-#[tactic(auto, using(crate::proofs::PrintLemmas::joined_all, crate::proofs::PrintLemmas::size_next))]
-fn levels_len(levels: &[LevelDesc]) -> usize
-    requires { length (flat_map level_bytes levels.now) < 2 ^ 32 }
-    ensures ok { result ≡ length (flat_map level_bytes levels.now) }
-{
-    let mut len = 0;
-    for level in levels {
-        len += level_len(level);
-    }
-    len
-}
-
-/// How many bytes the spelling of a manifest has.
-#[tactic(auto, using(crate::proofs::PrintLemmas::manifest_size))]
-fn manifest_len(m: &Manifest) -> usize
-    requires { length (manifest_bytes newest_format (manifest_of m.now)) < 2 ^ 32 }
-    ensures ok { result ≡ length (manifest_bytes newest_format (manifest_of m.now)) }
-{
-    29 + 4 * m.parents.len() + levels_len(m.levels.as_slice())
-}
-
 /// Adds the four numbers in front of a manifest.
 fn add_counts(out: &mut Vec<u8>, m: &Manifest)
     requires room { vec_len out.old + 24 ≤ vec_capacity out.old }
@@ -289,7 +237,7 @@ pub fn print(alloc: Global, m: &Manifest) -> Result<Vec<u8>, NoMemory>
     ensures len { IfOk result (λ bytes. vec_len bytes
         ≡ length (manifest_bytes newest_format (manifest_of m.now))) }
 {
-    let mut out = Vec::with_capacity(alloc, manifest_len(m))?;
+    let mut out = Vec::with_capacity(alloc, manifest_size(m) as usize)?;
     add_manifest(&mut out, m);
     Ok(out)
 }

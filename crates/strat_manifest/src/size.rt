@@ -58,7 +58,7 @@ fn levels_size(levels: &[LevelDesc]) -> u64
 
 /// How many bytes the spelling of a manifest has.
 #[tactic(auto, using(crate::proofs::PrintLemmas::manifest_size))]
-fn manifest_size(m: &Manifest) -> u64
+pub(crate) fn manifest_size(m: &Manifest) -> u64
     ensures ok { result
         ≡ min (length (manifest_bytes newest_format (manifest_of m.now))) (2 ^ 64 - 1) }
 {
