@@ -29,7 +29,7 @@ pub loop-i-preserved : goal.loop-i-preserved
 loop-i-preserved g c =
     let on = c.in_ok-record.ensures in (
       one_more _ _ _ _ _ _ _ _ _ _ _ _ _ _ c.loop-i.invariant.0 _ c.in-Some.record c.in-Some.next c.loop-i-test.true on.ok
-          (rw c.in-Some.is at on.found) (rw c.in-Some.is at on.end) (rw c.in-Some.is at on.kept) _ c.in_ok-push.ensures.items,
+          (rw c.in-Some.is at on.found) (rw c.in-Some.is at on.fits) (rw c.in-Some.is at on.end) _ c.in_ok-push.ensures.items,
       on.cause.ok ∙ c.loop-i.invariant.1,
     )
 
