@@ -480,5 +480,5 @@ module _ (start old new : Held) (count : ℕ) (held rest body : List ℕ) (met :
           runs = λ f t e shows. let so_far = p.runs f t e shows in run_on f t so_far (done.is.run so_far.contents so_far.rows so_far.stands);
         },
         are_more replies p.taken p.bodies p.answers before.held sent pending (as_many p.bodies p.answers p.answered) (body ∷ []) (response ∷ []) (response_bytes response)
-        (sym (append-nil (response_bytes response))) room,
+            (sym (append-nil (response_bytes response))) room,
       )

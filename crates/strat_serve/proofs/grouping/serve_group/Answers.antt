@@ -12,8 +12,9 @@ use Rattle.strat_model.specs.Stream.{frame, IsBody}
 use Rattle.strat_publish.specs.Settling.{LeavesPublished}
 use Rattle.strat_store.specs.Staging.{FollowsBatch, held_joined, reply_of_commit}
 use Rattle.strat_serve.specs.Grouping.{StagesBodies, StagesBody}
-use Rattle.strat_serve.specs.Pending.{Pending, SendsAtEnd}
+use Rattle.strat_serve.specs.Pending.{Pending, SendsAtEnd, SendsOrKeeps}
 use Rattle.strat_serve.specs.Progress.{Meets, ServesPending, waiting}
+use Rattle.strat_serve.specs.Session.{SendsPrefix}
 use Rattle.strat_serve.specs.World.{Streams, World, beside, world}
 use Rattle.strat_serve.proofs.CommittedLemmas.{group_broken, group_made}
 use Rattle.strat_serve.proofs.GiveUpLemmas.{caused_at_end}
@@ -24,7 +25,7 @@ use Rattle.strat_serve.proofs.StagedLemmas.{staged_answered, staged_count, stage
 use Rattle.strat_serve.proofs.TurnLemmas.{err_of, fewer_wait, is_err_of, is_ok_of, ok_of}
 use Rattle.strat_serve.proofs.grouping.serve_group.Given.{Over}
 use Rattle.strat_serve.proofs.grouping.serve_group.Goals as goal
-use Rattle.strat_serve.proofs.grouping.serve_group.Goals.{After-stage_frames-met, After-staged-many, After-commit}
+use Rattle.strat_serve.proofs.grouping.serve_group.Goals.{After-stage_frames-met}
 
 -- what a sink and a disk show, beside these streams
 abbrev shown : (g : Over) → Streams → g.row.K.Denot → g.row.D.Denot → World
@@ -71,19 +72,18 @@ commit-requires-clause-len g c =
     omega (arith, staged_count c.args.store.now c.stage_frames-met.new.store (c.args.buffers.now.frames.body ∷ b.others) (b.response ∷ b.more) b.all)
 
 -- so many changes were staged, sixteen at most
-many : (g : Over) (c : After-staged-many g) → (b : Batch g c.After-stage_frames-met) → (c.staged-many.result ≡ length (c.args.buffers.now.frames.body ∷ b.others)) × (c.staged-many.result ≤ 16)
-many g c b =
+many : (g : Over) (c : After-stage_frames-met g) (b : Batch g c) (n : ℕ) → n ≡ length c.stage_frames-met.new.store.log.batch → (n ≡ length (c.args.buffers.now.frames.body ∷ b.others)) × (n ≤ 16)
+many g c b n told =
     let count = staged_count c.args.store.now c.stage_frames-met.new.store (c.args.buffers.now.frames.body ∷ b.others) (b.response ∷ b.more) b.all in
-    let none : length c.args.store.now.log.batch ≡ 0 = ap length c.requires.kept.log.batch in
-    let told = c.staged-many.ensures.ok c.stage_frames-met.ensures.state in (
+    let none : length c.args.store.now.log.batch ≡ 0 = ap length c.requires.kept.log.batch in (
       omega (arith, count, none, told),
       omega (arith, staged_few c.args.store.now c.stage_frames-met.new.store (c.args.buffers.now.frames.body ∷ b.others) (b.response ∷ b.more) b.all (omega (arith, none)), told),
     )
 
 pub make_room-requires : goal.make_room-requires
 make_room-requires g c =
-    let at = goal.at.make_room-requires g c in
-    (many g at.After-staged-many (batch g at.After-stage_frames-met)).1
+    let before = (goal.at.make_room-requires g c).After-stage_frames-met in
+    record { len = (many g before (batch g before) c.staged-many.result (c.staged-many.ensures.ok c.stage_frames-met.ensures.state)).1 }
 
 -- the replies that were pending could not be sent
 pub returns-in_default-clause-ok : goal.returns-in_default-clause-ok
@@ -94,21 +94,7 @@ returns-in_default-clause-ok g c = λ start count budget x y d within p.
     pending_cut start c.args.store.now count (frame frames.body ++ frames.held) c.args.buffers.now.pending (beside x (g.D.Disk.view d)) (shown g y c.args.sink.now c.args.disk.now) p budget
     (g.K.Sink.held c.make_room.new.sink) (g.K.Sink.faults c.make_room.new.sink) within
     (frames_waiting next.Frame frames c.requires.len c.requires.room)
-    c.in_default.ensures.err
-
--- what a commit made of the run
-made : (g : Over) (c : After-commit g) (b : Batch g c.After-stage_frames-met) (y : Streams) (mem : ℕ) → c.args.store.now.log.mem ≡ mem → is_err c.commit.result ≡ false
-    → GroupMade c.args.store.now c.commit.new.self (shown g y c.make_room.new.sink c.args.disk.now) (shown g y c.make_room.new.sink c.commit.new.disk) mem (c.args.buffers.now.frames.body ∷ b.others) (b.response ∷ b.more)
-made g c b y mem same fine =
-    let staged : Held = c.stage_frames-met.new.store in
-    let done : is_ok c.commit.result ≡ true = is_ok_of c.commit.result fine in
-    let kept : IsConsistent c.commit.new.self = (ok_of c.commit.result fine c.commit.ensures.kept).0 in
-    group_made c.args.store.now staged (shown g y c.make_room.new.sink c.args.disk.now) (shown g y c.make_room.new.sink c.commit.new.disk) mem (c.staging_follows_the_table.ensures.ok c.args.disk.now)
-    c.args.buffers.now.frames.body b.others b.response b.more b.all c.requires.kept same b.each refl c.commit.ensures.time
-    c.commit.new.self (ok_of c.commit.result fine c.commit.ensures.ok) kept c.requires.fits (ok_of c.commit.result fine c.commit.ensures.cause.ok) (g.met.D.Disk.leaves_content c.commit.new.disk)
-    (ok_of c.commit.result fine c.commit.ensures.state)
-    (λ z stands. subst (λ (k : Bool). FollowsBatch (g.D.Disk.view c.args.disk.now) (g.D.Disk.view c.commit.new.disk) z staged.log.batch k) done (c.commit.ensures.trail z stands).0)
-    (subst (λ (k : Bool). LeavesPublished (g.D.Disk.view c.args.disk.now) (g.D.Disk.view c.commit.new.disk) staged k (reply_of_commit k) c.commit.new.self) done c.commit.ensures.same)
+    (subst (λ (r : Pending). SendsPrefix (g.K.Sink.held c.args.sink.now) (g.K.Sink.held c.make_room.new.sink) r.bytes) c.stage_frames-met.ensures.same c.in_default.ensures.err)
 
 -- the batch became durable, and its replies are pending
 pub returns-clause-ok : goal.returns-clause-ok
@@ -118,16 +104,28 @@ returns-clause-ok g c = λ start count budget x y d within p.
     let frames = c.args.buffers.now.frames in
     let fine : is_err c.commit.result ≡ false = sym c.is_err.ensures.value ∙ c.if-is_err.false in
     let rest = waiting c.stage_frames-met.result c.stage_frames-met.new.buffers.frames in
-    let n = many g at.After-staged-many b in
+    let n = many g at.After-stage_frames-met b c.staged-many.result (c.staged-many.ensures.ok c.stage_frames-met.ensures.state) in
     let count_is : length (b.response ∷ b.more) ≡ c.staged-many.result = as_many (c.args.buffers.now.frames.body ∷ b.others) (b.response ∷ b.more) (staged_answered c.args.store.now c.stage_frames-met.new.store (c.args.buffers.now.frames.body ∷ b.others) (b.response ∷ b.more) b.all) ∙ sym n.0 in
     let q = room_made start c.args.store.now count (frame frames.body ++ frames.held) c.args.buffers.now.pending (beside x (g.D.Disk.view d)) (shown g y c.args.sink.now c.args.disk.now) p
-    (g.K.Sink.held c.make_room.new.sink) (g.K.Sink.faults c.make_room.new.sink) c.make_room.new.pending c.in-Ok.ensures.ok c.in-Ok.ensures.cause.ok in
+    (g.K.Sink.held c.make_room.new.sink) (g.K.Sink.faults c.make_room.new.sink) c.make_room.new.pending
+    (subst (λ (r : Pending). SendsOrKeeps (g.K.Sink.held c.args.sink.now) (g.K.Sink.held c.make_room.new.sink) r c.make_room.new.pending) c.stage_frames-met.ensures.same c.in-Ok.ensures.ok) c.in-Ok.ensures.cause.ok in
+    let staged : Held = c.stage_frames-met.new.store in
+    let done : is_ok c.commit.result ≡ true = is_ok_of c.commit.result fine in
+    let kept : IsConsistent c.commit.new.self = (ok_of c.commit.result fine c.commit.ensures.kept).0 in
+    let mid = shown g y c.make_room.new.sink c.args.disk.now in
+    let now = shown g y c.make_room.new.sink c.commit.new.disk in
+    let made : GroupMade c.args.store.now c.commit.new.self mid now start.log.mem (frames.body ∷ b.others) (b.response ∷ b.more) =
+    group_made c.args.store.now staged mid now start.log.mem (c.staging_follows_the_table.ensures.ok c.args.disk.now) frames.body b.others b.response b.more b.all c.requires.kept q.so_far.mem b.each refl c.commit.ensures.time
+    c.commit.new.self (ok_of c.commit.result fine c.commit.ensures.ok) kept c.requires.fits (ok_of c.commit.result fine c.commit.ensures.cause.ok) (g.met.D.Disk.leaves_content c.commit.new.disk)
+    (ok_of c.commit.result fine c.commit.ensures.state)
+    (λ z stands. subst (λ (k : Bool). FollowsBatch (g.D.Disk.view c.args.disk.now) (g.D.Disk.view c.commit.new.disk) z staged.log.batch k) done (c.commit.ensures.trail z stands).0)
+    (subst (λ (k : Bool). LeavesPublished (g.D.Disk.view c.args.disk.now) (g.D.Disk.view c.commit.new.disk) staged k (reply_of_commit k) c.commit.new.self) done c.commit.ensures.same) in
     let r = answers_batch start c.args.store.now c.commit.new.self count (frame frames.body ++ frames.held) rest (frames.body ∷ b.others) (b.response ∷ b.more) c.make_room.new.pending
-    (beside x (g.D.Disk.view d)) (shown g y c.make_room.new.sink c.args.disk.now) (shown g y c.make_room.new.sink c.commit.new.disk) q (made g at.After-commit b y start.log.mem q.so_far.mem fine) (front g at.After-stage_frames-met b) refl
+    (beside x (g.D.Disk.view d)) mid now q made (front g at.After-stage_frames-met b) refl
     (omega (arith, count_is, c.in-Ok.ensures.len)) in
-    let kept : c.keep.new.self ≡ record { bytes = c.make_room.new.pending.bytes ++ sent_bytes (b.response ∷ b.more); count = c.make_room.new.pending.count + length (b.response ∷ b.more) } =
-    c.keep.ensures.ok ∙ (λ i. record { bytes = c.make_room.new.pending.bytes ++ (c.as_slice.ensures ∙ b.text) i; count = c.make_room.new.pending.count + sym count_is i }) in
-    subst (λ (k : Pending). ServesPending start c.commit.new.self count rest k (beside x (g.D.Disk.view d)) (shown g y c.make_room.new.sink c.commit.new.disk)) (sym kept) r
+    let pending : c.keep.new.self ≡ record { bytes = c.make_room.new.pending.bytes ++ sent_bytes (b.response ∷ b.more); count = c.make_room.new.pending.count + length (b.response ∷ b.more) } =
+    c.keep.ensures.ok ∙ (λ i. record { bytes = c.make_room.new.pending.bytes ++ (c.as_slice.ensures.value ∙ b.text) i; count = c.make_room.new.pending.count + sym count_is i }) in
+    subst (λ (k : Pending). ServesPending start c.commit.new.self count rest k (beside x (g.D.Disk.view d)) (shown g y c.make_room.new.sink c.commit.new.disk)) (sym pending) r
 
 pub returns-clause-kept : goal.returns-clause-kept
 returns-clause-kept g c =
@@ -156,14 +154,15 @@ returns-then-is_err-clause-ok g c = λ start count budget x y d within p.
     let now = shown g y c.refuse_batch.new.sink c.commit.new.disk in
     let told : Response = record { tag = b.response.tag; answer = refusal why.DeviceFault } in
     let q = room_made start c.args.store.now count (frame body ++ frames.held) c.args.buffers.now.pending (beside x (g.D.Disk.view d)) (shown g y c.args.sink.now c.args.disk.now) p
-    (g.K.Sink.held c.make_room.new.sink) (g.K.Sink.faults c.make_room.new.sink) c.make_room.new.pending c.in-Ok.ensures.ok c.in-Ok.ensures.cause.ok in
+    (g.K.Sink.held c.make_room.new.sink) (g.K.Sink.faults c.make_room.new.sink) c.make_room.new.pending
+    (subst (λ (r : Pending). SendsOrKeeps (g.K.Sink.held c.args.sink.now) (g.K.Sink.held c.make_room.new.sink) r c.make_room.new.pending) c.stage_frames-met.ensures.same c.in-Ok.ensures.ok) c.in-Ok.ensures.cause.ok in
     let broke : GroupBroken c.args.store.now mid now start.log.mem body b.others told =
     group_broken c.args.store.now staged mid now start.log.mem (c.staging_follows_the_table.ensures.ok c.args.disk.now) body b.others b.response b.more b.all c.requires.kept q.so_far.mem b.each refl c.commit.ensures.time
     c.commit.new.self (err_of c.commit.result failed c.commit.ensures.cause.err)
     (λ z stands. subst (λ (k : Bool). FollowsBatch (g.D.Disk.view c.args.disk.now) (g.D.Disk.view c.commit.new.disk) z staged.log.batch k) undone (c.commit.ensures.trail z stands).0)
     (subst (λ (k : Bool). LeavesPublished (g.D.Disk.view c.args.disk.now) (g.D.Disk.view c.commit.new.disk) staged k (reply_of_commit k) c.commit.new.self) undone c.commit.ensures.same) in
     batch_broken start c.args.store.now count budget (frame body ++ frames.held) rest body b.others told c.make_room.new.pending (beside x (g.D.Disk.view d)) mid now q within broke (front g at.After-stage_frames-met b)
-    (frames_waiting c.stage_frames-met.result c.stage_frames-met.new.buffers.frames b.meets c.stage_frames-met.ensures.fits) (omega (arith, (many g at.After-staged-many b).0, c.in-Ok.ensures.len)) c.refuse_batch.result (g.K.Sink.faults c.make_room.new.sink) (g.K.Sink.faults c.refuse_batch.new.sink)
+    (frames_waiting c.stage_frames-met.result c.stage_frames-met.new.buffers.frames b.meets c.stage_frames-met.ensures.fits) (omega (arith, (many g at.After-stage_frames-met b c.staged-many.result (c.staged-many.ensures.ok c.stage_frames-met.ensures.state)).0, c.in-Ok.ensures.len)) c.refuse_batch.result (g.K.Sink.faults c.make_room.new.sink) (g.K.Sink.faults c.refuse_batch.new.sink)
     (subst (λ (n : ℕ). SendsAtEnd ended.Device c.refuse_batch.result (g.K.Sink.held c.make_room.new.sink) (g.K.Sink.held c.refuse_batch.new.sink) (g.K.Sink.faults c.make_room.new.sink) (g.K.Sink.faults c.refuse_batch.new.sink)
     (c.make_room.new.pending.bytes ++ response_bytes (record { tag = n; answer = refusal why.DeviceFault }))) (sym b.tag) c.refuse_batch.ensures)
 
