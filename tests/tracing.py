@@ -3,8 +3,9 @@
 import os
 import re
 import shutil
+import subprocess
 
-from program import PROGRAM, Skipped, bytes_of, fed
+from program import DEADLINE, PIPES, PROGRAM, Skipped, bytes_of, close, expect, fed, read_exactly
 
 
 def traced(folder, words, *inject, pieces=()):
@@ -30,7 +31,7 @@ def calls_of(folder, words, pieces=()):
     if not shutil.which("strace"):
         raise Skipped("strace is not here")
     log = os.path.join(folder, "log")
-    strace = ["strace", "-xx", "-s", "8192", "-o", log, "-e", "trace=write,pwrite64,fdatasync"]
+    strace = ["strace", "-xx", "-s", "524288", "-o", log, "-e", "trace=write,pwrite64,fdatasync"]
     out, _, said = fed([*strace, PROGRAM, *words], pieces)
     if not os.path.exists(log) or b"exited with" not in bytes_of(log):
         raise Skipped(f"strace cannot run a program: {said.decode().strip()}")
@@ -43,3 +44,20 @@ def calls_of(folder, words, pieces=()):
         piece = bytes.fromhex(fields[0].strip('"').replace("\\x", ""))
         calls.append(("write", int(fields[2]), piece) if name == "pwrite64" else ("output", None, piece))
     return out, calls
+
+
+def transfers_of(folder, store, frames):
+    """The reads of standard input and the writes of standard output, in order, where each frame waits for the reply before it."""
+    if not shutil.which("strace"):
+        raise Skipped("strace is not here")
+    log = os.path.join(folder, "log")
+    child = subprocess.Popen(["strace", "-o", log, "-e", "trace=read,write", PROGRAM, "serve", store.path], **PIPES)
+    store.model.start_run()
+    for frame in frames:
+        child.stdin.write(frame)
+        want = store.model.answer(frame[4:])
+        expect(f"{frame[:40].hex()}", read_exactly(child.stdout, len(want)), want)
+    child.stdin.close()
+    child.wait(DEADLINE)
+    close(child)
+    return [{"0": "read", "1": "write"}[stream] for stream in re.findall(r"^(?:read|write)\(([01]),", bytes_of(log).decode(), re.M)]

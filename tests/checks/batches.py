@@ -1,4 +1,4 @@
-"""Batches: changes whose frames came together become durable together, all or none, and their replies leave together."""
+"""Batches: changes whose frames came together become durable together, all or none, and replies to frames that came together leave together."""
 
 import copy
 import random
@@ -7,15 +7,17 @@ import time
 
 import formats
 import model
-from model import bodies_of, clone, delete, get, put, reply, scan, stat
+from model import (
+    bodies_of, clone, close_cursor, delete, frame, get, info, next_pairs, open_cursor, put, reply, scan, stat)
 from program import (
     DEADLINE, StoreFile, bytes_of, close, complaint, expect, expect_alike, expect_told, in_memory, serve, start)
 from samples import BATCH_MAX, batch_ends, drawn_changes
-from tracing import calls_of, traced
+from tracing import calls_of, traced, transfers_of
 
 # What is served in one piece, and where a fault is met: a batch that is full, one with a clone in it, and two with a get between.
 FULL = [put(tag, b"%02d" % tag, b"v") for tag in range(BATCH_MAX)]
 WITH_CLONE = [put(1, b"a", b"1"), put(2, b"b", b"2"), clone(3), put(4, b"a", b"3", 1), delete(5, b"b", 1)]
+COMMIT = ["write", "sync", "write", "sync"]
 CUT_BY_A_GET = [put(1, b"a", b"1"), put(2, b"b", b"2"), get(3, b"a"), put(4, b"a", b"3"), put(5, b"c", b"4")]
 
 
@@ -39,10 +41,48 @@ def changes_that_come_together_share_a_commit(folder):
 
 def no_reply_leaves_before_its_change_is_durable(folder):
     store = StoreFile(folder)
-    _, calls = calls_of(folder, ["serve", store.path], [b"".join([*FULL, get(90, b"03"), *WITH_CLONE])])
-    kinds = [call for call, *_ in calls]
-    commit = ["write", "sync", "write", "sync"]
-    expect("the order of calls", kinds, ["sync", *commit, "output", "output", *commit, "output"])
+    out, calls = calls_of(folder, ["serve", store.path], [b"".join([*FULL, get(90, b"03"), *WITH_CLONE])])
+    # the reply to the get would be the seventeenth that waits, so the others leave in front of it
+    expect("the order of calls", [call for call, *_ in calls], ["sync", *COMMIT, "output", *COMMIT, "output"])
+    outputs = [piece for call, _, piece in calls if call == "output"]
+    expect("what is in each write", [len(bodies_of(piece)) for piece in outputs], [16, 6])
+    expect("all of it", b"".join(outputs), out)
+
+
+def replies_to_one_read_leave_in_one_write(folder):
+    value, large = b"v" * model.VALUE_MAX, [scan(tag) for tag in range(3)]
+    gets = [get(tag, b"%02d" % tag) for tag in range(40)]
+    pairs = [put(tag, b"%02d" % tag, value) for tag in range(70)]  # a page of these is more bytes than may wait for another
+    for name, before, frames, order, bodies in (
+            ("sixteen gets", FULL, gets[:16], ["output"], [16]),
+            ("forty gets", FULL, gets, 3 * ["output"], [16, 16, 8]),
+            ("puts and gets in turn", [], [put(1, b"a", b"1"), get(2, b"a"), put(3, b"a", b"2"), get(4, b"a")],
+             [*COMMIT, *COMMIT, "output"], [4]),
+            ("a full batch behind a get", [], [get(90, b"00"), *FULL], ["output", *COMMIT, "output"], [1, 16]),
+            ("look-ups and what is no command", FULL, [gets[0], scan(1), info(2), stat(3), open_cursor(4), next_pairs(5, 1), frame(b"?"),
+                                                       put(6, b"", b"v"), close_cursor(7, 1)], ["output"], [9]),
+            ("gets of the largest values", pairs, gets[:16], ["output"], [16]),
+            ("large pages", pairs, [gets[0], large[0], gets[1], large[1], large[2]], 3 * ["output"], [2, 2, 1]),
+            ("a frame that is too long", FULL, [gets[0], put(2, b"a", b"1"), b"\xff\xff\xff\xff"], [*COMMIT, "output"], [3])):
+        store = StoreFile(folder, 256)
+        store.model.serve(b"".join(before))
+        expect(f"{name}, before", serve(store.path, [b"".join(before)])[1], model.ENDED)
+        want, _ = store.model.serve(b"".join(frames))
+        out, calls = calls_of(folder, ["serve", store.path], [b"".join(frames)])
+        expect(f"{name}, the replies", out, want)
+        expect(f"{name}, the order of calls", [call for call, *_ in calls], ["sync", *order])
+        outputs = [piece for call, _, piece in calls if call == "output"]
+        expect(f"{name}, what is in each write", [len(bodies_of(piece)) for piece in outputs], bodies)
+        store.expect_bytes(name)
+
+
+def a_client_that_waits_costs_one_read_and_one_write_a_reply(folder):
+    store = StoreFile(folder)
+    asked = [put(1, b"a", b"1"), get(2, b"a"), scan(3), clone(4), delete(5, b"a"), open_cursor(6), next_pairs(7, 1), stat(8)]
+    transfers = transfers_of(folder, store, asked)
+    # the end of the input is one read more
+    expect("reads and writes", transfers, [*(len(asked) * ["read", "write"]), "read"])
+    store.expect_bytes("after it")
 
 
 @in_memory
@@ -62,6 +102,13 @@ def a_stream_is_answered_alike_wherever_it_is_cut(folder):
     after = copy.deepcopy(fresh.model)
     after.serve(stream)
     expect_alike("the file at last", formats.opened(bytes_of(path))[1], after)
+
+
+def unanswered(store, frames):
+    """How many changes a store has where the first of these frames are carried out that wait for their replies, sixteen at most."""
+    after = copy.deepcopy(store)
+    after.serve(b"".join(frames[:BATCH_MAX]))
+    return after.counts()[2]
 
 
 @in_memory
@@ -85,7 +132,8 @@ def kills_amid_batches_leave_all_or_none(folder):
         expect(f"turn {turn}, replies", got[:len(want)] == want, True)
         left = formats.opened(bytes_of(store.path))[1]
         changes = left.counts()[2]
-        expect(f"turn {turn}, {changes} changes", changes in [end for end in ends if end >= after.counts()[2]][:2], True)
+        most = unanswered(after, frames[answered:])
+        expect(f"turn {turn}, {changes} changes", changes in [end for end in ends if after.counts()[2] <= end <= most], True)
         expect_told(f"turn {turn}", store.path)
         seen.add(changes > ends[0])
         store.model = left
@@ -117,8 +165,10 @@ def expect_whole_after_a_fault(name, folder, frames, call, number):
     for piece in frames[:answered]:
         store.model.serve(piece)
     left = formats.opened(bytes_of(store.path))[1]
-    changes = left.counts()[2]
-    expect(f"{name}, {changes} changes", changes in [end for end in ends if end >= store.model.counts()[2]][:2], True)
+    changes, least = left.counts()[2], store.model.counts()[2]
+    known = [end for end in ends if end >= least]
+    allowed = [end for end in known if end <= unanswered(store.model, frames[answered:])] if status == model.SINK else known[:2]
+    expect(f"{name}, {changes} changes", changes in allowed, True)
     store.model = left
     store.expect_answers(f"{name}, again", [get(1, b"a"), get(2, b"03"), *frames])
     return status
@@ -127,6 +177,8 @@ def expect_whole_after_a_fault(name, folder, frames, call, number):
 CHECKS = [
     changes_that_come_together_share_a_commit,
     no_reply_leaves_before_its_change_is_durable,
+    replies_to_one_read_leave_in_one_write,
+    a_client_that_waits_costs_one_read_and_one_write_a_reply,
     a_stream_is_answered_alike_wherever_it_is_cut,
     kills_amid_batches_leave_all_or_none,
     a_batch_that_fails_is_told_of_once,

@@ -9,7 +9,7 @@ import formats
 import model
 from model import BLOCK, Store, bodies_of, close_cursor, frame, get, info, next_pairs, open_cursor, put, scan, stat
 from program import StoreFile, Wrong, bytes_of, expect, expect_kept, expect_opened, serve
-from samples import batch_ends, drawn_beside_cursors, drawn_changes, folders_of
+from samples import BATCH_MAX, batch_ends, drawn_beside_cursors, drawn_changes, folders_of
 from tracing import calls_of, traced
 
 
@@ -45,14 +45,14 @@ def the_file_is_synced_at_each_sync_and_its_folder_once(folder):
 # What a run writes and syncs, call by call. `synced` has the bytes that were durable when it began, `pending` the writes before
 # it that were not. So many changes as `least` were acknowledged before it; None says that no store was there. `made` says how many
 # changes are made once so many commands are answered, `ends` how many after each batch, and `stores` what the store is after
-# each number of changes.
-class History(collections.namedtuple("History", "synced pending calls least made ends stores")):
+# each number of changes. So many commands as `waits` may have been carried out that are not answered.
+class History(collections.namedtuple("History", "synced pending calls least made ends stores waits")):
     __slots__ = ()
 
     def may_have(self, answered):
-        """How many changes a crash may leave where so many commands are answered: all or none of the batch under way."""
-        made = self.made[answered]
-        least, most = made if answered else self.least or 0, min((end for end in self.ends if end > made), default=made)
+        """How many changes a crash may leave where so many commands are answered: all or none of each batch that no reply tells of."""
+        least = self.made[answered] if answered else self.least or 0
+        most = self.made[min(answered + self.waits, len(self.made) - 1)]
         return [end for end in self.ends if least <= end <= most]
 
 
@@ -111,7 +111,8 @@ def served_history(folder, name, store, frames, together=False):
         store.model.serve(piece)
         stores.append(copy.deepcopy(store.model))
     made = [after.counts()[2] for after in stores]
-    return History(synced, [], calls, made[0], made, ends if together else sorted(set(made)), dict(zip(made, stores)))
+    ends, waits = (ends, BATCH_MAX) if together else (sorted(set(made)), 1)
+    return History(synced, [], calls, made[0], made, ends, dict(zip(made, stores)), waits)
 
 
 def a_cut_of_power_loses_nothing_acknowledged(folder):
@@ -185,7 +186,7 @@ def formatted_history(folder):
     out, calls = calls_of(folder, ["format", os.path.join(folder, "new.store"), *map(str, store.limits)])
     expect("format", out, store.line())
     calls = [(call, place, frame(piece) if call == "output" else piece) for call, place, piece in calls]
-    return History(b"", [], calls, None, [0, 0], [0], {0: store})
+    return History(b"", [], calls, None, [0, 0], [0], {0: store}, 1)
 
 
 def killed_history(folder, first, last, chance):

@@ -1,5 +1,5 @@
 -- What a run comes to, by its status.
-use Rattle.std.proofs.Common.{◌≡◌, ◌≢◌, ◌⊎◌, ℕ, List, [], ◌∷◌, Option, Some, None, refl, sym, ap, subst, ◌∙◌, inl, inr, append-nil, arith}
+use Rattle.std.proofs.Common.{◌≡◌, ◌≢◌, ◌⊎◌, ◌≤◌, ℕ, List, [], ◌∷◌, length, Option, Some, None, refl, sym, ap, subst, ◌∙◌, inl, inr, append-nil, arith}
 use Rattle.std.specs.Prelude.{◌==◌, if◌then◌else◌, Ok, Err}
 use Rattle.def_crash.specs.Image.{Image, Outside}
 use Rattle.def_crash.specs.Moments.{DiskView, Exposes, Images, Since, KeepsImages}
@@ -18,10 +18,11 @@ use Rattle.def_recovery.specs.Head.{Head}
 use Rattle.def_recovery.specs.Opening.{recover}
 use Rattle.def_publish.specs.Standing.{ShowsTable}
 use Rattle.strat_open.specs.Following.{FollowsFrom, LeavesOpening}
+use Rattle.strat_memory.specs.Held.{head_held}
 use Rattle.strat_serve.specs.Session.{Took, AreNextIn, GaveUp, Served, RunOutcome, RefusesFor, EndsFor}
 use Rattle.strat_serve.specs.Tables.{AnswersAsTable, AnswersNothing, AnswersUntil, EndsAtTables, GoesThroughTables, KeepsSpace, begins_at}
 use Rattle.strat_serve.specs.World.{Streams, beside}
-use Rattle.strat_serve.proofs.TableLemmas.{answers_as_table, goes_through, keeps_space}
+use Rattle.strat_serve.proofs.TableLemmas.{answers_as_table, goes_through, keeps_space, no_device_at_end}
 use Rattle.castle.specs.Headline.{HasNotBegun}
 use Rattle.castle.specs.Outcomes.{EndsAsInput}
 use Rattle.castle.proofs.CompleteLemmas.{finds_none, finds_head}
@@ -200,6 +201,36 @@ module _ (x y : Streams) (v w : DiskView) (f : Image) (t : Table) (shows : Shows
 
   pub trail_by : (b : With status) × (GoesThroughTables b.run b.continued.end f v w ⊎ HasNotBegun status b.run v w)
   trail_by = subst (λ (n : ℕ). (b : With n) × (GoesThroughTables b.run b.continued.end f v w ⊎ HasNotBegun n b.run v w)) (sym is) (a.answers, a.trail)
+
+-- after a run over a disk that shows a table recovery finds no more changes in the journal than one region takes, unless
+-- the device or the sink failed, or memory ran out before the store was open
+module _ (x y : Streams) (v w : DiskView) (f : Image) (t : Table) (shows : ShowsTable f t) (exposed : Exposes v f) where
+  abbrev FindsFew : Image → Type 0
+  FindsFew c = (head : Head) × (recover c ≡ Ok (Some head)) × (length head.journal ≤ head.sb.mem)
+
+  pub finds_few : (how : Ended) → RunOutcome 1099511627776 how (beside x v) (beside y w) → RefusesFor how v w → how ≢ ended.Device → how ≢ ended.Sink → how ≢ ended.NoMemory → (c : Image) → Images w c → FindsFew c
+  finds_few how (inr served) refuses device sink memory c image =
+      let found = served.left (no_device_at_end how 1099511627776 served.session y.left served.ends device sink) f exposed in
+      (head_held found.0, found.3 t shows c image, found.1.log.few)
+  finds_few how (inl gave) refuses device sink memory c image = go how gave refuses device memory
+    where
+      go : (e : Ended) → GaveUp e (beside x v) (beside y w) → RefusesFor e v w → e ≢ ended.Device → e ≢ ended.NoMemory → FindsFew c
+      go ended.NoMemory gave refuses device memory = absurd (memory refl)
+      go ended.Device gave refuses device memory = absurd (device refl)
+      go ended.NotAStore gave refuses device memory =
+          let head = finds_head f t shows in
+          let e : ◌≡◌ {A = Read (Option Head)} (Ok (Some head.0)) (Ok None) = sym head.1 ∙ finds_none f (refuses.none refl f exposed) in absurd cc
+      go (ended.Damaged block) gave refuses device memory =
+          let head = finds_head f t shows in
+          let e : ◌≡◌ {A = Read (Option Head)} (Ok (Some head.0)) (Err block) = sym head.1 ∙ gave.damaged block refl f exposed in absurd cc
+      go ended.Done gave refuses device memory = absurd gave.ends
+      go ended.Usage gave refuses device memory = absurd gave.ends
+      go ended.FrameTooLong gave refuses device memory = absurd gave.ends
+      go ended.Truncated gave refuses device memory = absurd gave.ends
+      go ended.Source gave refuses device memory = absurd gave.ends
+      go ended.Sink gave refuses device memory = absurd gave.ends
+      go ended.Budget gave refuses device memory = absurd gave.ends
+      go ended.Unsound gave refuses device memory = absurd gave.ends
 
 -- the ends of a run over a store, one by one
 pub found_flat : (status : ℕ) → EndsAsInput status ⊎ (status ≡ 9) → (status ≡ 0) ⊎ (status ≡ 3) ⊎ (status ≡ 4) ⊎ (status ≡ 8) ⊎ (status ≡ 10) ⊎ (status ≡ 9)

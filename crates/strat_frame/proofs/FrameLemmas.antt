@@ -15,6 +15,10 @@ begins_with_frame held n fits n-is long =
     let rest : drop 4 held ≡ body ++ drop (4 + n) held = sym (take-append-drop n (drop 4 held)) ∙ ap (λ (x : List ℕ). body ++ x) (drop-drop n 4 held) in
     sym (take-append-drop 4 held) ∙ (λ j. front j ++ rest j) ∙ sym (append_assoc (be 4 (length body)) body (drop (4 + n) held))
 
+-- a frame of what is behind the first four bytes is as long as all of them
+pub framed_length : (bytes : List ℕ) → 4 ≤ length bytes → length (frame (drop 4 bytes)) ≡ length bytes
+framed_length bytes some = omega (arith, length-append (be 4 (length (drop 4 bytes))) (drop 4 bytes), length-be 4 (length (drop 4 bytes)), length-drop 4 bytes)
+
 -- the first bytes of a buffer are written over, and the rest stays
 pub framed : (old new : List ℕ) (len : ℕ) → 4 ≤ length old → len ≡ length old → new ≡ placed old 0 (be 4 (len - 4))
     → take len (new ++ drop (length new) old) ≡ frame (drop 4 old)
@@ -23,8 +27,7 @@ framed old new len some len-is e =
     let front : new ≡ be 4 (length (drop 4 old)) ++ drop (0 + length (be 4 (length (drop 4 old)))) old = e ∙ ap (λ (k : ℕ). placed old 0 (be 4 k)) n in
     let size : 0 + length (be 4 (length (drop 4 old))) ≡ 4 = omega (arith, length-be 4 (length (drop 4 old))) in
     let whole : new ≡ frame (drop 4 old) = front ∙ ap (λ (k : ℕ). be 4 (length (drop 4 old)) ++ drop k old) size in
-    let sizes : length (frame (drop 4 old)) ≡ length old = omega (arith, length-append (be 4 (length (drop 4 old))) (drop 4 old), length-be 4 (length (drop 4 old)), length-drop 4 old) in
-    let long : length new ≡ length old = ap length whole ∙ sizes in
+    let long : length new ≡ length old = ap length whole ∙ framed_length old some in
     let behind : drop (length new) old ≡ [] = drop_all (length new) old (omega arith) in
     let all : take len new ≡ new = take_all len new (omega arith) in
     ap (λ (x : List ℕ). take len (new ++ x)) behind ∙ ap (take len) (append-nil new) ∙ all ∙ whole

@@ -135,6 +135,7 @@ pub fn write_reply(tag: u32, reply: &Reply, pairs: &PairBuf, out: &mut OutBuf)
     requires none { out.old ≡ [] }
     requires found { reply.now ≡ Reply.Found → length pairs.now ≡ 1 }
     ensures ok { out.new ≡ frame (reply_body tag (as_told reply.now pairs.now)) }
+    ensures len { length out.new ≤ 328460 }
 {
     out.begin(tag);
     out.put_u8(reply_status(*reply));

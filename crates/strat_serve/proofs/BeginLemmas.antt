@@ -17,7 +17,7 @@ use Rattle.def_publish.proofs.PartsLemmas.{reads_head, state_parts}
 use Rattle.def_state.specs.State.{State}
 use Rattle.strat_open.specs.Following.{IsOpenedAs}
 use Rattle.strat_memory.specs.Held.{Held, StandsAt, StandsWith, head_held, position_at, table_at}
-use Rattle.strat_serve.specs.Session.{Begins}
+use Rattle.strat_serve.specs.Session.{Begins, IsFoundAs}
 
 -- a run that is served from an image begins at the table that it shows
 pub begins_there : (c : Image) (t : Table) (mem : ℕ) (start : Position) → ShowsTable c t → Begins c mem start → start.table ≡ t
@@ -46,3 +46,10 @@ stands_bare v s x closed stands = record {
   rows_are = subst (λ (c : HeldCursors). AreRowsOf stands.stands.content s.memory.parents c.opened []) (sym closed) tt;
   going = λ c among. absurd (contained_among [] c (subst (λ (cs : HeldCursors). Contains cs.opened c) closed among));
 }
+
+-- recovery of each image finds what a store holds that stands on the disk
+pub found_as : (v : DiskView) (s : Held) (x : Contents) → StandsWith v s x → IsFoundAs v s
+found_as v s x stands c image = reads_head c x (stands.stands.reads c image) ∙ ap (λ (y : Contents). found_with (contents_head y)) stands.held
+  where
+    found_with : Head → Read (Option Head)
+    found_with h = Ok (Some h)

@@ -90,7 +90,6 @@ module _ (base staged : Held) (mid now : World) (mem : ℕ) (law : StagesAt mid.
       quiet = staged_quiet base staged (body ∷ others) (response ∷ more) all;
       each = each;
       noisy = λ calm. one_writes base second body response all.1 calm.0;
-      few = few;
       passes = passes;
       faults = faults;
       kept = kept;

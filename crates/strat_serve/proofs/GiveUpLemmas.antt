@@ -1,5 +1,5 @@
 -- A serving run whose opening gave up, and what an end says of the opening.
-use Rattle.std.proofs.Common.{◌≡◌, ◌≢◌, ℕ, Some, refl, sym, ap, subst, ◌∙◌, inl, inr}
+use Rattle.std.proofs.Common.{◌≡◌, ◌≢◌, ℕ, List, Some, refl, sym, ap, subst, ◌∙◌, inl, inr}
 use Rattle.std.proofs.lemmas.Bool.{cases_eq}
 use Rattle.std.specs.Prelude.{Option, None, Ok, Err}
 use Rattle.strat_base.specs.declared.failures.Fault.{Fault}
@@ -18,6 +18,7 @@ use Rattle.strat_open.specs.declared.attach_fault.AttachFault.{AttachFault}
 use Rattle.strat_open.specs.declared.attach_fault.AttachFault.TheVariants as fault
 use Rattle.strat_open.specs.Causes.{ended_for}
 use Rattle.strat_open.specs.Following.{IsUnchanged, LeavesOpening}
+use Rattle.strat_serve.specs.Pending.{SendsAtEnd}
 use Rattle.strat_serve.specs.Session.{IsGivenUp, GaveUp, RefusesFor, EndHasCause, EndsFor, Served, IsEarlyEnd}
 use Rattle.strat_serve.specs.World.{World}
 
@@ -161,3 +162,38 @@ caused_by_fault how (broken.Damaged block) before now is rose same source sink =
   sink_same = λ _. sink;
   disk_same = λ _ _. same (λ e. let x : broken.Damaged block ≡ broken.Device = e in cc);
 }
+
+-- or it is the sink's, where the disk may have failed too
+pub caused_by_sink : (how : Ended) (before now : World) → how ≡ ended.Sink → Rose before.sink_faults now.sink_faults → now.source_faults ≡ before.source_faults → EndHasCause how before now
+caused_by_sink how before now is rose source = record {
+  source = λ e. absurd (let x : ended.Sink ≡ ended.Source = sym is ∙ e in cc);
+  sink = λ _. rose;
+  device = λ e. absurd (let x : ended.Sink ≡ ended.Device = sym is ∙ e in cc);
+  source_same = λ _. source;
+  sink_same = λ other. absurd (other is);
+  disk_same = λ _ other. absurd (other is);
+}
+
+-- a run that was to end for a fault ended for it, or for the sink's, at the pending replies
+pub caused_at_end : (how result : Ended) (f : Fault) (before now : World) (mid : Option (List ℕ)) (was : ℕ) (bytes : List ℕ) → how ≡ broken_by f → (f ≡ broken.Device → Rose before.disk_faults now.disk_faults)
+    → (f ≢ broken.Device → now.disk_faults ≡ before.disk_faults) → now.source_faults ≡ before.source_faults → was ≡ before.sink_faults
+    → SendsAtEnd how result mid now.held was now.sink_faults bytes → EndHasCause result before now
+caused_at_end how result f before now mid was bytes is rose same source sink (inl all) =
+    caused_by_fault result f before now (all.0 ∙ is) rose same source (all.2 ∙ sink)
+caused_at_end how result f before now mid was bytes is rose same source sink (inr cut) =
+    caused_by_sink result before now cut.0 (subst (λ (n : ℕ). Rose n now.sink_faults) sink cut.2) source
+
+-- and one that ended at a frame that is too long has that cause at most
+pub caused_at_long : (result : Ended) (before now : World) (mid : Option (List ℕ)) (was : ℕ) (bytes : List ℕ) → now.source_faults ≡ before.source_faults → was ≡ before.sink_faults → now.disk_faults ≡ before.disk_faults
+    → SendsAtEnd ended.FrameTooLong result mid now.held was now.sink_faults bytes → EndHasCause result before now
+caused_at_long result before now mid was bytes source sink disk (inl all) =
+    let is : result ≡ ended.FrameTooLong = all.0 in
+    record {
+      source = λ e. absurd (let x : ended.FrameTooLong ≡ ended.Source = sym is ∙ e in cc);
+      sink = λ e. absurd (let x : ended.FrameTooLong ≡ ended.Sink = sym is ∙ e in cc);
+      device = λ e. absurd (let x : ended.FrameTooLong ≡ ended.Device = sym is ∙ e in cc);
+      source_same = λ _. source;
+      sink_same = λ _. all.2 ∙ sink;
+      disk_same = λ _ _. disk;
+    }
+caused_at_long result before now mid was bytes source sink disk (inr cut) = caused_by_sink result before now cut.0 (subst (λ (n : ℕ). Rose n now.sink_faults) sink cut.2) source

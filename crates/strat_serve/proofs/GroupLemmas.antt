@@ -1,5 +1,5 @@
 -- A batch of a serving run: its changes become durable together, or fail together.
-use Rattle.std.proofs.Common.{◌≡◌, ◌≤◌, ℕ, ◌+◌, false, List, [], ◌∷◌, ◌++◌, length, take, map, Option, Some, None, refl, sym, ap, subst, ◌∙◌, inr, append_assoc, append-nil, length-append, arith}
+use Rattle.std.proofs.Common.{◌≡◌, ◌≤◌, ℕ, ◌+◌, false, List, [], ◌∷◌, ◌++◌, length, take, map, Option, Some, None, refl, sym, ap, subst, ◌∙◌, inl, inr, append_assoc, append-nil, length-append, arith}
 use Rattle.std.specs.Prelude.{Contains, IfSome, IsSome}
 use Rattle.std.specs.List.{flat_map, AllByRecursion}
 use Rattle.std.proofs.lemmas.Bool.{or_left, or_right}
@@ -35,12 +35,14 @@ use Rattle.strat_open.specs.Following.{FollowsFrom}
 use Rattle.strat_memory.specs.Held.{Held, IsConsistent, IsOnDisk, StandsAt, arrays_held, head_held, position_at}
 use Rattle.def_state.specs.State.{IsPaid}
 use Rattle.strat_memory.specs.Paying.{IsPaidIn, ArePaidSince}
-use Rattle.strat_serve.specs.Progress.{ServesSoFar, RunSoFar, Meets, waiting}
-use Rattle.strat_serve.specs.Session.{AreAnsweredBy, AreCalm, EndsFor, FollowsRun, IsSession, SendsPrefix, Sends, Served, Session, Took, WaitsForNone, WritesNothing, output}
+use Rattle.strat_serve.specs.Pending.{Pending, ArePending, SendsAtEnd, with_sent}
+use Rattle.strat_serve.specs.Progress.{ServesPending, ServesSoFar, RunSoFar, Meets, sent_also, waiting}
+use Rattle.strat_serve.specs.Session.{AreAnsweredBy, AreCalm, EndsFor, FollowsRun, IsSession, Sends, Served, Session, Took, WaitsForNone, WritesNothing, output}
 use Rattle.strat_serve.specs.World.{World}
-use Rattle.strat_serve.proofs.ProgressLemmas.{ahead_more, ahead_within, calm_front, few_all, few_held, follows_more, goes_from, paid_so_far, sent_then}
+use Rattle.strat_serve.proofs.PendingLemmas.{ahead_more, ahead_within, appends_behind, are_more, sends_but, sent_then, took_behind}
+use Rattle.strat_serve.proofs.ProgressLemmas.{as_many, calm_front, few_all, few_held, follows_more, goes_from, paid_so_far}
 use Rattle.strat_serve.proofs.PublishedLemmas.{held_then}
-use Rattle.strat_serve.proofs.SessionLemmas.{answered_front, as_many, each_then, ends_cut, took_all, whole_taken, with_bytes}
+use Rattle.strat_serve.proofs.SessionLemmas.{answered_front, each_then, whole_taken}
 use Rattle.strat_serve.proofs.StreamLemmas.{Frames, frames_of}
 
 -- what waits is frames and a rest
@@ -126,7 +128,6 @@ pub record GroupMade (old new : Held) (mid now : World) (mem : ℕ) (bodies : Li
   pub quiet : AllByRecursion (λ (r : Response). fault_told r.answer.reply ≡ None) responses
   pub each : AllByRecursion IsBody bodies
   pub noisy : AreCalm bodies responses → ⊥
-  pub few : length bodies ≤ 16
   pub passes : Passes mid.disk now.disk
   pub faults : now.disk_faults ≡ mid.disk_faults
   pub kept : IsConsistent new
@@ -162,10 +163,12 @@ module _ (start old new : Held) (count : ℕ) (held rest : List ℕ) (bodies : L
             (λ first. is.paid (paid_so_far start old before.disk mid.disk f t p.bodies p.answers so_far first));
       }
 
-  -- a batch was answered, sent and kept, and is the last of what was answered
-  pub answers_batch : held ≡ flat_map frame bodies ++ rest → Appends mid.held now.held (sent_bytes responses)
-      → (q : ServesSoFar start new count rest before now) × (q.answers ≡ p.answers ++ responses) × (q.bodies ≡ p.bodies ++ bodies) × (q.taken ≡ p.taken) × WaitsForNone q.taken q.bodies (length p.bodies)
-  answers_batch front sent =
+  -- a batch was answered and kept, and its replies are pending behind others
+  batch_kept : held ≡ flat_map frame bodies ++ rest → Appends mid.held now.held (sent_bytes responses)
+      → (replies : Pending) (sent : Option (List ℕ)) → ArePending replies p.taken p.bodies p.answers before.held sent → replies.count + length responses ≤ 16
+      → (q : ServesSoFar start new count rest before now)
+      × ArePending (record { bytes = replies.bytes ++ sent_bytes responses; count = replies.count + length responses }) q.taken q.bodies q.answers before.held sent
+  batch_kept front gives replies sent pending room =
       let ahead = ahead_more p.taken p.bodies bodies (length p.bodies) (omega arith) p.ahead in (
         record {
           taken = p.taken;
@@ -179,7 +182,7 @@ module _ (start old new : Held) (count : ℕ) (held rest : List ℕ) (bodies : L
           each = each_then p.bodies bodies p.each made.each;
           ahead = ahead_within p.taken (p.bodies ++ bodies) (length p.bodies) (length (p.bodies ++ bodies)) (omega (arith, length-append p.bodies bodies)) ahead;
           sent = subst (λ (x : List ℕ). Appends before.held now.held x) (sym (flat_map-append response_bytes p.answers responses))
-              (sent_then before.held mid.held now.held (sent_bytes p.answers) (sent_bytes responses) p.sent sent);
+              (sent_then before.held mid.held now.held (sent_bytes p.answers) (sent_bytes responses) p.sent gives);
           found = p.found;
           mem = made.mem_same ∙ p.mem;
           lawful = made.kept;
@@ -193,52 +196,43 @@ module _ (start old new : Held) (count : ℕ) (held rest : List ℕ) (bodies : L
           still = λ quiet. absurd (made.noisy (calm_back p.bodies bodies p.answers responses p.answered quiet));
           runs = λ f t e shows. let so_far = p.runs f t e shows in batch_on f t so_far (made.batch so_far.contents so_far.rows so_far.stands);
         },
-        refl,
-        refl,
-        refl,
-        ahead,
+        are_more replies p.taken p.bodies p.answers before.held sent pending (as_many p.bodies p.answers p.answered) bodies responses (sent_bytes responses) refl room,
       )
 
--- the sink failed at the replies to a batch that is durable
-module _ (start old new : Held) (count budget : ℕ) (held rest : List ℕ) (bodies : List (List ℕ)) (responses : List Response) (before mid now : World)
-    (p : ServesSoFar start old count held before mid) (made : GroupMade old new mid now start.log.mem bodies responses) where
-  pub batch_cut : count ≤ budget → held ≡ flat_map frame bodies ++ rest → Frames rest → SendsPrefix mid.held now.held (sent_bytes responses) → Served budget ended.Sink before now
-  batch_cut within front frames cut =
-      let sent : World = record now { held = with_bytes mid.held (sent_bytes responses) } in
-      let told : GroupMade old new mid sent start.log.mem bodies responses = record {
-        left = made.left;
-        answered = made.answered;
-        quiet = made.quiet;
-        each = made.each;
-        noisy = made.noisy;
-        few = made.few;
-        passes = made.passes;
-        faults = made.faults;
-        kept = made.kept;
-        going = made.going;
-        mem_same = made.mem_same;
-        leaves = made.leaves;
-        on_disk = made.on_disk;
-        retired = made.retired;
-        batch = made.batch;
-      } in
-      let q = answers_batch start old new count held rest bodies responses before mid sent p told front (took_all mid.held (sent_bytes responses)) in
-      let earlier = sent_bytes p.answers in
-      let many : length q.0.answers ≡ length p.answers + length responses = ap length q.1 ∙ length-append p.answers responses in
-      ends_cut start new count budget rest before sent q.0 within now.held now.sink_faults frames (length p.answers)
-      (omega (arith, many)) (omega (arith, many, as_many bodies responses made.answered, made.few))
-      (record {
-        sent = earlier ++ cut.sent;
-        later = cut.later;
-        parts = ap sent_bytes q.1 ∙ flat_map-append response_bytes p.answers responses
-            ∙ ap (λ (x : List ℕ). earlier ++ x) cut.parts ∙ sym (append_assoc earlier cut.sent cut.later);
-        some = cut.some;
-        appends = sent_then before.held mid.held now.held earlier cut.sent p.sent cut.appends;
-      }) (
-        cut.sent,
-        ap (λ (xs : List Response). sent_bytes xs ++ cut.sent) (sym (ap (take (length p.answers)) q.1 ∙ take_at p.answers responses (length p.answers) refl)),
-      )
-      (subst (λ (n : ℕ). WaitsForNone q.0.taken q.0.bodies n) (sym (as_many p.bodies p.answers p.answered)) q.4)
+-- the replies to a batch that is durable are pending
+module _ (start old new : Held) (count : ℕ) (held rest : List ℕ) (bodies : List (List ℕ)) (responses : List Response) (replies : Pending) (before mid now : World)
+    (p : ServesPending start old count held replies before mid) (made : GroupMade old new mid now start.log.mem bodies responses) where
+  abbrev virtual : World
+  virtual = sent_also now (replies.bytes ++ sent_bytes responses)
+
+  -- what a sink holds is no matter to the store
+  abbrev made_beside : GroupMade old new (sent_also mid replies.bytes) virtual start.log.mem bodies responses
+  made_beside = record {
+    left = made.left;
+    answered = made.answered;
+    quiet = made.quiet;
+    each = made.each;
+    noisy = made.noisy;
+    passes = made.passes;
+    faults = made.faults;
+    kept = made.kept;
+    going = made.going;
+    mem_same = made.mem_same;
+    leaves = made.leaves;
+    on_disk = made.on_disk;
+    retired = made.retired;
+    batch = made.batch;
+  }
+
+  pub answers_batch : held ≡ flat_map frame bodies ++ rest → now.held ≡ mid.held → replies.count + length responses ≤ 16
+      → ServesPending start new count rest (record { bytes = replies.bytes ++ sent_bytes responses; count = replies.count + length responses }) before now
+  answers_batch front same room =
+      let text : List ℕ = sent_bytes responses in
+      let gives : Appends (with_sent mid.held replies.bytes) (with_sent now.held (replies.bytes ++ text)) text =
+      subst (λ (o : Option (List ℕ)). Appends (with_sent mid.held replies.bytes) (with_sent o (replies.bytes ++ text)) text) (sym same) (took_behind mid.held replies.bytes text) in
+      let q = batch_kept start old new count held rest bodies responses before (sent_also mid replies.bytes) virtual p.so_far made_beside front gives replies now.held
+      (subst (λ (o : Option (List ℕ)). ArePending replies p.so_far.taken p.so_far.bodies p.so_far.answers before.held o) (sym same) p.pending) room in
+      record { so_far = q.0; pending = q.1 }
 
 -- a batch at a store that stands with contents failed: its first change is the run's interruption, and the others are what the run is continued over
 pub record IsBatchBroken (mid now : DiskView) (mem : ℕ) (old : Held) (x : Contents) (rows : List Cursor) (body : List ℕ) (others : List (List ℕ)) (response : Response) : Type 0 where
@@ -370,30 +364,39 @@ module _ (start old : Held) (count budget : ℕ) (held rest body : List ℕ) (ot
     follows = λ f t e shows. let so_far = p.runs f t e shows in run_broken f t so_far (broke.batch so_far.contents so_far.rows so_far.stands);
   }
 
-  -- its reply was sent
-  pub batch_broken : Appends mid.held now.held (response_bytes response) → Served budget ended.Device before now
-  batch_broken sent =
-      halts ended.Device
+  -- the pending replies were sent, that of its first body the last, or the sink failed at them
+  batch_ends : (result : Ended) (replies : Pending) (sent : Option (List ℕ)) (was is : ℕ) → mid.held ≡ with_sent sent replies.bytes → ArePending replies p.taken p.bodies p.answers before.held sent
+      → replies.count + 1 ≤ 16 → SendsAtEnd ended.Device result sent now.held was is (replies.bytes ++ response_bytes response) → Served budget result before now
+  batch_ends result replies sent was is there pending room (inl all) =
+      let more : Appends mid.held now.held (response_bytes response) =
+      subst (λ (o : Option (List ℕ)). Appends o now.held (response_bytes response)) (sym there) (appends_behind sent now.held replies.bytes (response_bytes response) all.1) in
+      subst (λ (x : Ended). Served budget x before now) (sym all.0)
+      (halts ended.Device
       (subst (λ (x : List ℕ). Appends before.held now.held x) (sym output_broken)
-      (sent_then before.held mid.held now.held (sent_bytes p.answers) (response_bytes response) p.sent sent))
-      told_fault
+      (sent_then before.held mid.held now.held (sent_bytes p.answers) (response_bytes response) p.sent more))
+      told_fault)
+  batch_ends result replies sent was is there pending room (inr cut) =
+      subst (λ (x : Ended). Served budget x before now) (sym cut.0)
+      (halts ended.Sink
+      (sends_but replies p.taken p.bodies p.answers before.held sent pending (as_many p.bodies p.answers p.answered) now.held (response_bytes response) cut.1
+      broken ((body ∷ others) ++ frames.bodies) (response ∷ []) [] refl refl refl (output_broken ∙ sym (append-nil (sent_bytes p.answers ++ response_bytes response))) room)
+      tt)
 
-  -- or the sink failed at it
-  pub batch_unsent : SendsPrefix mid.held now.held (response_bytes response) → Served budget ended.Sink before now
-  batch_unsent cut =
-      halts ended.Sink
-      (record {
-        cut = record {
-          sent = sent_bytes p.answers ++ cut.sent;
-          later = cut.later;
-          parts = output_broken ∙ ap (λ (x : List ℕ). sent_bytes p.answers ++ x) cut.parts ∙ sym (append_assoc (sent_bytes p.answers) cut.sent cut.later);
-          some = cut.some;
-          appends = sent_then before.held mid.held now.held (sent_bytes p.answers) cut.sent p.sent cut.appends;
-        };
-        whole = length p.answers;
-        last = omega (arith, length-append p.answers (response ∷ []));
-        part = cut.sent;
-        replied = ap (λ (xs : List Response). sent_bytes xs ++ cut.sent) (sym (take_at p.answers (response ∷ []) (length p.answers) refl));
-        ahead = ahead_broken;
-      })
-      tt
+-- the device failed at a batch, whose first body was answered so behind the pending replies
+pub batch_broken : (start old : Held) (count budget : ℕ) (held rest body : List ℕ) (others : List (List ℕ)) (response : Response) (replies : Pending) (before mid now : World)
+    → ServesPending start old count held replies before mid → count ≤ budget → GroupBroken old mid now start.log.mem body others response
+    → held ≡ flat_map frame (body ∷ others) ++ rest → Frames rest → replies.count + 1 ≤ 16
+    → (result : Ended) (was is : ℕ) → SendsAtEnd ended.Device result mid.held now.held was is (replies.bytes ++ response_bytes response) → Served budget result before now
+batch_broken start old count budget held rest body others response replies before mid now p within broke front frames room result was is ends =
+    batch_ends start old count budget held rest body others response before (sent_also mid replies.bytes) now p.so_far within
+    (record {
+      left = broke.left;
+      responds = broke.responds;
+      answer = broke.answer;
+      each = broke.each;
+      noisy = broke.noisy;
+      passes = broke.passes;
+      rose = broke.rose;
+      batch = broke.batch;
+    })
+    front frames result replies mid.held was is refl p.pending room ends

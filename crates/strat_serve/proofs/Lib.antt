@@ -9,6 +9,8 @@ pub mod GiveUpLemmas
 pub mod BatchedLemmas
 pub mod ProgressLemmas
 pub mod PublishedLemmas
+pub mod PendingLemmas
+pub mod KeptLemmas
 pub mod SendLemmas
 pub mod SessionLemmas
 pub mod SeveralLemmas

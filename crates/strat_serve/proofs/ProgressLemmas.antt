@@ -1,5 +1,5 @@
 -- A serving run while it goes on.
-use Rattle.std.proofs.Common.{◌≡◌, ◌≢◌, ◌≤◌, ◌<◌, ℕ, ◌+◌, true, false, List, [], ◌∷◌, ◌++◌, length, take, drop, map, Option, Some, None, refl, sym, ap, subst, ◌∙◌, ◌⊎◌, inl, inr, append_assoc, length-append, arith}
+use Rattle.std.proofs.Common.{◌≡◌, ◌≢◌, ◌≤◌, ◌<◌, ℕ, suc, ◌+◌, true, false, List, [], ◌∷◌, ◌++◌, length, take, drop, map, Option, Some, None, refl, sym, ap, subst, ◌∙◌, ◌⊎◌, inl, inr, append_assoc, length-append, arith}
 use Rattle.std.specs.Prelude.{Contains, IfSome, is_some}
 use Rattle.std.specs.List.{flat_map, AllByRecursion}
 use Rattle.std.proofs.lemmas.Bool.{and_right}
@@ -19,7 +19,6 @@ use Rattle.strat_cursor.specs.Looking.{arrays_there}
 use Rattle.def_bytes.specs.Layout.{region_at, other_region}
 use Rattle.def_bytes.specs.SuperBlock.{Super}
 use Rattle.strat_io.specs.Streams.{Appends, Gives}
-use Rattle.strat_io.proofs.StreamLemmas.{appends_then}
 use Rattle.strat_model.specs.Faults.{fault_told}
 use Rattle.strat_model.specs.declared.replies.Refusal.TheVariants as why
 use Rattle.strat_model.specs.declared.replies.Reply.{Reply}
@@ -43,10 +42,12 @@ use Rattle.strat_publish.proofs.LaidLemmas.{kept_on}
 use Rattle.strat_memory.proofs.OnDiskLemmas.{read_on}
 use Rattle.strat_memory.proofs.PayingLemmas.{paid_now, paid_reads, paid_then, stored_since}
 use Rattle.strat_serve.specs.Session.{Took, IsAtEnd, RespondsTo, AreAnsweredBy, AreCalm, WritesNothing, IsAnswered, ContinuesWith, StopsWith, FailsAsMet, WaitsForNone}
+use Rattle.strat_serve.specs.Pending.{Pending, ArePending}
 use Rattle.strat_serve.specs.Progress.{ServesSoFar, RunSoFar}
 use Rattle.strat_serve.specs.World.{World}
 use Rattle.strat_serve.proofs.AnswerLemmas.{told_damaged}
 use Rattle.strat_serve.proofs.BeginLemmas.{opens_begins, stands_bare}
+use Rattle.strat_serve.proofs.PendingLemmas.{ahead_more, ahead_within, are_more, sent_then}
 use Rattle.strat_serve.proofs.PublishedLemmas.{held_at_first, held_then}
 
 -- what was read was taken from the source
@@ -77,10 +78,6 @@ took_then a b c x y first second = record {
   hidden = λ e. second.hidden (first.hidden e);
 }
 
--- bytes were sent one after the other
-pub sent_then : (a b c : Option (List ℕ)) (x y : List ℕ) → Appends a b x → Appends b c y → Appends a c (x ++ y)
-sent_then a b c x y first second = appends_then a b c x y first second
-
 -- a store that holds the superblock and the manifest of another is on the disk where that one is
 pub still_on : (v : DiskView) (s t : Held) → KeepsPublished s t → IsOnDisk v s → IsOnDisk v t
 still_on v s t same on = kept_on v s t same on
@@ -98,6 +95,13 @@ took_none s = record { exposed = λ left e. (left, refl, e); hidden = λ e. e }
 -- nothing was sent
 sent_none : (s : Option (List ℕ)) → Appends s s []
 sent_none s = record { exposed = λ h e. e ∙ ap (λ (x : List ℕ). Some x) (sym (append-nil h)); hidden = λ e. e }
+
+-- there are as many responses as bodies
+pub as_many : (bodies : List (List ℕ)) (answers : List Response) → AreAnsweredBy bodies answers → length answers ≡ length bodies
+as_many [] [] all = refl
+as_many [] (r ∷ rs) all = absurd all
+as_many (b ∷ bs) [] all = absurd all
+as_many (b ∷ bs) (r ∷ rs) all = ap suc (as_many bs rs all.1)
 
 -- a run and one more answer
 pub run_more : (mem : ℕ) (p q r : Position) (xs : List Exchange) (body : List ℕ) (response : Response) → IsRun mem p xs q → Answers mem q body response r
@@ -193,30 +197,6 @@ ahead_read taken held piece bodies parts part short = record {
   short = short;
   parts = ap (λ (x : List ℕ). x ++ piece) parts ∙ append_assoc (flat_map frame bodies) held piece
       ∙ ap (λ (xs : List (List ℕ)). flat_map frame xs ++ (held ++ piece)) (sym (take_all (length bodies) bodies (omega arith)));
-}
-
--- the same behind bodies that were read later
-pub ahead_more : (taken : List ℕ) (bodies others : List (List ℕ)) (n : ℕ) → n ≤ length bodies → WaitsForNone taken bodies n → WaitsForNone taken (bodies ++ others) n
-ahead_more taken bodies others n most ahead = record {
-  read = ahead.read;
-  few = ahead.few;
-  held = ahead.held;
-  part = ahead.part;
-  piece = ahead.piece;
-  short = ahead.short;
-  parts = ahead.parts ∙ ap (λ (xs : List (List ℕ)). flat_map frame xs ++ (ahead.held ++ ahead.piece)) (sym (take-append-le ahead.read bodies others (omega (arith, ahead.few, most))));
-}
-
--- and where more bodies were answered
-pub ahead_within : (taken : List ℕ) (bodies : List (List ℕ)) (n m : ℕ) → n ≤ m → WaitsForNone taken bodies n → WaitsForNone taken bodies m
-ahead_within taken bodies n m le ahead = record {
-  read = ahead.read;
-  few = omega (arith, ahead.few, le);
-  held = ahead.held;
-  part = ahead.part;
-  piece = ahead.piece;
-  short = ahead.short;
-  parts = ahead.parts;
 }
 
 -- more bytes were taken and are held
@@ -462,10 +442,11 @@ module _ (start old new : Held) (count : ℕ) (held rest body : List ℕ) (met :
       flat_map-append response_bytes p.answers (response ∷ [])
       ∙ ap (λ (x : List ℕ). sent_bytes p.answers ++ x) (append-nil (response_bytes response))
 
-  -- one more body was answered, sent and kept, and is the last of those answered
+  -- one more body was answered and kept, and its reply is pending behind others
   pub answers : held ≡ frame body ++ rest → IsBody body → Appends mid.held now.held (response_bytes response)
-      → (q : ServesSoFar start new count rest before now) × (q.answers ≡ p.answers ++ response ∷ []) × WaitsForNone q.taken q.bodies (length p.bodies)
-  answers front fits sent =
+      → (replies : Pending) (sent : Option (List ℕ)) → ArePending replies p.taken p.bodies p.answers before.held sent → replies.count + 1 ≤ 16
+      → (q : ServesSoFar start new count rest before now) × ArePending (record { bytes = replies.bytes ++ response_bytes response; count = replies.count + 1 }) q.taken q.bodies q.answers before.held sent
+  answers front fits gives replies sent pending room =
       let ahead = ahead_more p.taken p.bodies (body ∷ []) (length p.bodies) (omega arith) p.ahead in
       let lawful : IsConsistent new = done.kept none in
       let not_device : met ≢ Some fault.Device = λ e. let f : ◌≡◌ {A = Option Fault} None (Some fault.Device) = sym none ∙ e in cc in (
@@ -480,7 +461,7 @@ module _ (start old new : Held) (count : ℕ) (held rest body : List ℕ) (met :
           parts = parts_more front;
           each = each_more p.bodies body p.each fits;
           ahead = ahead_within p.taken (p.bodies ++ body ∷ []) (length p.bodies) (length (p.bodies ++ body ∷ [])) (omega (arith, length-append p.bodies (body ∷ []))) ahead;
-          sent = subst (λ (x : List ℕ). Appends before.held now.held x) (sym text_more) (appends_then before.held mid.held now.held (sent_bytes p.answers) (response_bytes response) p.sent sent);
+          sent = subst (λ (x : List ℕ). Appends before.held now.held x) (sym text_more) (sent_then before.held mid.held now.held (sent_bytes p.answers) (response_bytes response) p.sent gives);
           found = p.found;
           mem = lawful.log.mem ∙ done.same ∙ sym p.lawful.log.mem ∙ p.mem;
           lawful = lawful;
@@ -498,6 +479,6 @@ module _ (start old new : Held) (count : ℕ) (held rest body : List ℕ) (met :
               (gate.0, gate.1, gate_still before.disk mid.disk now.disk f gate.0 gate.1 gate.2 p.passes (step_reads mid.disk now.disk old body met new out done.is parts.1));
           runs = λ f t e shows. let so_far = p.runs f t e shows in run_on f t so_far (done.is.run so_far.contents so_far.rows so_far.stands);
         },
-        refl,
-        ahead,
+        are_more replies p.taken p.bodies p.answers before.held sent pending (as_many p.bodies p.answers p.answered) (body ∷ []) (response ∷ []) (response_bytes response)
+            (sym (append-nil (response_bytes response))) room,
       )

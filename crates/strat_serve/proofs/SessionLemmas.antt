@@ -12,10 +12,10 @@ use Rattle.def_crash.specs.Faults.{Rose}
 use Rattle.def_crash.specs.Image.{Image}
 use Rattle.def_crash.specs.Moments.{DiskView, Passes}
 use Rattle.strat_io.specs.Streams.{Appends}
-use Rattle.strat_io.proofs.StreamLemmas.{appends_then}
 use Rattle.strat_model.specs.Faults.{broken_by, fault_told}
 use Rattle.strat_model.specs.declared.ended.Ended.{Ended}
 use Rattle.strat_model.specs.declared.ended.Ended.TheVariants as ended
+use Rattle.strat_model.specs.Answer.{Answer}
 use Rattle.strat_model.specs.Stream.{frame, IsBody, is_partial, is_too_long, Splits, Whole, Rest, Long, ending_of}
 use Rattle.strat_model.specs.Table.{Table, bare}
 use Rattle.strat_model.specs.Batch.{tables_before}
@@ -26,11 +26,14 @@ use Rattle.def_publish.specs.Standing.{ShowsTable}
 use Rattle.strat_open.specs.Following.{FollowsFrom}
 use Rattle.strat_memory.specs.Held.{Held, IsConsistent, IsOnDisk, head_held, position_at}
 use Rattle.strat_memory.proofs.PayingLemmas.{paid_now}
-use Rattle.strat_serve.specs.Session.{Took, IsAtEnd, SendsPrefix, too_long_bytes, AreAnsweredBy, AreCalm, ContinuesWith, StopsWith, Session, IsSession, AnswersAll, all_responses, output, last_output, Sends, EndsFor, FollowsRun, Served, WaitsForNone}
+use Rattle.strat_serve.specs.Session.{Took, IsAtEnd, SendsPrefix, too_long_bytes, AreAnsweredBy, AreCalm, ContinuesWith, StopsWith, Session, IsSession, AnswersAll, all_responses, output, last_output, Sends, EndsFor, FollowsRun, IsFoundAs, Served, WaitsForNone}
+use Rattle.strat_serve.specs.Pending.{Pending, ArePending, SendsAtEnd, with_sent}
 use Rattle.strat_serve.specs.World.{World}
 use Rattle.strat_serve.proofs.BatchedLemmas.{continues_over_nothing}
+use Rattle.strat_serve.proofs.BeginLemmas.{found_as}
 use Rattle.strat_serve.specs.Progress.{ServesSoFar, RunSoFar}
-use Rattle.strat_serve.proofs.ProgressLemmas.{Answered, few_all, few_held, follows_more, text_more, ahead_more, ahead_within, answered_more, step_responds, step_damaged, step_paid, step_reads, gate_still, calm_front, calm_parts, answers}
+use Rattle.strat_serve.proofs.PendingLemmas.{ahead_more, appends_behind, sends_but, sent_then}
+use Rattle.strat_serve.proofs.ProgressLemmas.{Answered, few_all, few_held, follows_more, answered_more, as_many, step_responds, step_damaged, step_paid, step_reads, gate_still, calm_front, calm_parts}
 use Rattle.strat_serve.proofs.PublishedLemmas.{published_still}
 use Rattle.strat_serve.proofs.StreamLemmas.{Frames, frames_of, partial_not_long}
 
@@ -45,17 +48,6 @@ answered_front [] others [] all = tt
 answered_front [] others (r ∷ rs) all = absurd all
 answered_front (b ∷ bs) others [] all = absurd all
 answered_front (b ∷ bs) others (r ∷ rs) all = (all.0, answered_front bs others rs all.1)
-
--- there are as many responses as bodies
-pub as_many : (bodies : List (List ℕ)) (answers : List Response) → AreAnsweredBy bodies answers → length answers ≡ length bodies
-as_many [] [] all = refl
-as_many [] (r ∷ rs) all = absurd all
-as_many (b ∷ bs) [] all = absurd all
-as_many (b ∷ bs) (r ∷ rs) all = ap suc (as_many bs rs all.1)
-
--- all but the last of a list with one more
-all_but_last : (xs : List Response) (x : Response) → take (length (xs ++ x ∷ []) - 1) (xs ++ x ∷ []) ≡ xs
-all_but_last xs x = take_at xs (x ∷ []) (length (xs ++ x ∷ []) - 1) (omega (arith, length-append xs (x ∷ [])))
 
 -- frames taken, and the frames and the rest of what was held
 pub whole_taken : (taken held rest : List ℕ) (bodies others : List (List ℕ)) → taken ≡ flat_map frame bodies ++ held → held ≡ flat_map frame others ++ rest → taken ≡ flat_map frame (bodies ++ others) ++ rest
@@ -139,32 +131,27 @@ module _ (start current : Held) (count budget : ℕ) (held : List ℕ) (before n
     faulted = λ told. absurd told;
     calm = λ _. p.calm;
     damaged = λ block told. absurd told;
-    left = λ _ f exposed. (current, p.lawful, p.on_disk f exposed);
+    left = λ _ f exposed. (
+      current,
+      p.lawful,
+      p.on_disk f exposed,
+      λ t shows. let so_far = p.runs f t exposed shows in found_as now.disk current so_far.contents so_far.stands.stands,
+    );
     still = λ calm. p.still (calm_front p.bodies others p.answers p.answered (subst (λ (l : List Response). AreCalm (p.bodies ++ others) l) tolds_all calm));
     follows = follows_unbroken others rest;
   }
 
-  -- the sink failed at the reply that went before
-  pub ends_cut : (sent : Option (List ℕ)) (faults : ℕ) → Frames held → (whole : ℕ) → whole ≤ length p.answers → length p.answers ≤ whole + 16 → (front : SendsPrefix before.held sent (sent_bytes p.answers))
-      → ((part : List ℕ) × (front.sent ≡ sent_bytes (take whole p.answers) ++ part)) → WaitsForNone p.taken p.bodies whole
-      → Served budget ended.Sink before (record now { held = sent; sink_faults = faults })
-  ends_cut sent faults f whole few most front replied ahead =
+  -- the sink failed at the replies that were pending
+  pub ends_cut : (replies : Pending) (sent now_sent : Option (List ℕ)) (faults : ℕ) → Frames held → ArePending replies p.taken p.bodies p.answers before.held sent → SendsPrefix sent now_sent replies.bytes
+      → Served budget ended.Sink before (record now { held = now_sent; sink_faults = faults })
+  ends_cut replies sent now_sent faults f pending cut =
       let last = last_output None (eqb (length p.answers) (length (session f.bodies f.rest).bodies)) (is_too_long f.rest) in
-      served ended.Sink f.bodies f.rest f.splits sent faults
-      (record {
-        cut = record {
-          sent = front.sent;
-          later = front.later ++ last;
-          parts = ap (λ (x : List ℕ). x ++ last) (ap sent_bytes tolds_all ∙ front.parts) ∙ append_assoc front.sent front.later last;
-          some = omega (arith, front.some, length-append front.later last);
-          appends = front.appends;
-        };
-        whole = whole;
-        last = omega (arith, most, ap length tolds_all);
-        part = replied.0;
-        replied = replied.1 ∙ ap (λ (xs : List Response). sent_bytes (take whole xs) ++ replied.0) (sym tolds_all);
-        ahead = ahead_more p.taken p.bodies f.bodies whole (omega (arith, few, as_many p.bodies p.answers p.answered)) ahead;
-      })
+      let output_is : sent_bytes (all_responses (session f.bodies f.rest)) ++ last ≡ (sent_bytes p.answers ++ []) ++ last =
+      ap (λ (x : List ℕ). x ++ last) (ap sent_bytes tolds_all ∙ sym (append-nil (sent_bytes p.answers))) in
+      served ended.Sink f.bodies f.rest f.splits now_sent faults
+      (sends_but replies p.taken p.bodies p.answers before.held sent pending (as_many p.bodies p.answers p.answered) now_sent []
+      (subst (λ (x : List ℕ). SendsPrefix sent now_sent x) (sym (append-nil replies.bytes)) cut)
+      (session f.bodies f.rest) f.bodies [] last refl refl refl output_is (omega (arith, pending.room)))
       tt
 
   -- behind the answers stands a frame that is too long
@@ -175,30 +162,23 @@ module _ (start current : Held) (count budget : ℕ) (held : List ℕ) (before n
     said_long : output (session [] held) ≡ sent_bytes (all_responses (session [] held)) ++ too_long_bytes
     said_long = let all : eqb (length p.answers) (length (session [] held).bodies) ≡ true = eq-eqb _ _ is_whole.all in rw (all, long) refl
 
-    pub ends_long : (sent : Option (List ℕ)) (faults : ℕ) → Appends now.held sent too_long_bytes → Served budget ended.FrameTooLong before (record now { held = sent; sink_faults = faults })
-    ends_long sent faults more =
-        served ended.FrameTooLong [] held splits_long sent faults
-        (subst (λ (x : List ℕ). Appends before.held sent x) (sym said_long) (appends_then before.held now.held sent (sent_bytes (all_responses (session [] held))) too_long_bytes sent_so_far more))
-        (is_whole, let e : ending_of held ≡ Long = rw long refl in e)
-
-    pub ends_long_cut : (sent : Option (List ℕ)) (faults : ℕ) → SendsPrefix now.held sent too_long_bytes → Served budget ended.Sink before (record now { held = sent; sink_faults = faults })
-    ends_long_cut sent faults front =
-        served ended.Sink [] held splits_long sent faults
-        (record {
-          cut = record {
-            sent = sent_bytes (all_responses (session [] held)) ++ front.sent;
-            later = front.later;
-            parts = said_long ∙ ap (λ (x : List ℕ). sent_bytes (all_responses (session [] held)) ++ x) front.parts ∙ sym (append_assoc (sent_bytes (all_responses (session [] held))) front.sent front.later);
-            some = front.some;
-            appends = appends_then before.held now.held sent (sent_bytes (all_responses (session [] held))) front.sent sent_so_far front.appends;
-          };
-          whole = length p.answers;
-          last = omega (arith, ap length tolds_all);
-          part = front.sent;
-          replied = ap (λ (xs : List Response). sent_bytes xs ++ front.sent) (sym (take_all (length p.answers) (all_responses (session [] held)) (omega (arith, ap length tolds_all))));
-          ahead = ahead_all [];
-        })
-        tt
+    -- which was answered behind the replies that were pending, or the sink failed at these
+    pub ends_long : (result : Ended) (replies : Pending) (sent now_sent : Option (List ℕ)) (was faults : ℕ) → now.held ≡ with_sent sent replies.bytes → ArePending replies p.taken p.bodies p.answers before.held sent
+        → SendsAtEnd ended.FrameTooLong result sent now_sent was faults (replies.bytes ++ too_long_bytes) → Served budget result before (record now { held = now_sent; sink_faults = faults })
+    ends_long result replies sent now_sent was faults there pending (inl all) =
+        let more : Appends now.held now_sent too_long_bytes = subst (λ (o : Option (List ℕ)). Appends o now_sent too_long_bytes) (sym there) (appends_behind sent now_sent replies.bytes too_long_bytes all.1) in
+        subst (λ (how : Ended). Served budget how before (record now { held = now_sent; sink_faults = faults })) (sym all.0)
+        (served ended.FrameTooLong [] held splits_long now_sent faults
+        (subst (λ (x : List ℕ). Appends before.held now_sent x) (sym said_long) (sent_then before.held now.held now_sent (sent_bytes (all_responses (session [] held))) too_long_bytes sent_so_far more))
+        (is_whole, let e : ending_of held ≡ Long = rw long refl in e))
+    ends_long result replies sent now_sent was faults there pending (inr cut) =
+        let output_is : output (session [] held) ≡ (sent_bytes p.answers ++ too_long_bytes) ++ [] =
+        said_long ∙ ap (λ (l : List Response). sent_bytes l ++ too_long_bytes) tolds_all ∙ sym (append-nil (sent_bytes p.answers ++ too_long_bytes)) in
+        subst (λ (how : Ended). Served budget how before (record now { held = now_sent; sink_faults = faults })) (sym cut.0)
+        (served ended.Sink [] held splits_long now_sent faults
+        (sends_but replies p.taken p.bodies p.answers before.held sent pending (as_many p.bodies p.answers p.answered) now_sent too_long_bytes cut.1
+        (session [] held) [] [] [] refl refl refl output_is (omega (arith, pending.room)))
+        tt)
 
   -- behind the answers stands less than a frame
   module _ (part : is_partial held ≡ true) where
@@ -235,19 +215,6 @@ module _ (start current : Held) (count budget : ℕ) (held : List ℕ) (before n
     pub ends_source : Served budget ended.Source before now
     ends_source = served ended.Source [] held splits_part now.held now.sink_faults sends_all (is_whole, not_long)
 
--- what a sink would hold with these bytes more
-abbrev pub with_bytes : Option (List ℕ) → List ℕ → Option (List ℕ)
-with_bytes None bytes = None
-with_bytes (Some held) bytes = Some (held ++ bytes)
-
--- such a sink took them
-pub took_all : (s : Option (List ℕ)) (bytes : List ℕ) → Appends s (with_bytes s bytes) bytes
-took_all None bytes = record { exposed = λ held e. absurd (let f : ◌≡◌ {A = Option (List ℕ)} None (Some held) = e in cc); hidden = λ e. refl }
-took_all (Some held) bytes = record {
-  exposed = λ other e. let same : held ≡ other = cc in ap (λ (x : List ℕ). Some (x ++ bytes)) same;
-  hidden = λ e. absurd (let f : ◌≡◌ {A = Option (List ℕ)} (Some held) None = e in cc);
-}
-
 -- a content that was exposed before is exposed still
 still_some : (before mid : DiskView) (f : Image) → Passes before mid → before.content ≡ Some f → (g : Image) × (mid.content ≡ Some g)
 still_some before mid f passes e = go mid.content refl (passes.exposed (some before.content e))
@@ -266,43 +233,6 @@ module _ (start old new : Held) (count budget : ℕ) (held rest body : List ℕ)
     (front : held ≡ frame body ++ rest) (fits : IsBody body) (bytes : AreBytes rest) where
   abbrev response : Response
   response = done.is.response
-
-  -- it met no fault, and its reply was sent
-  pub goes_on : met ≡ None → Appends mid.held now.held out → ServesSoFar start new count rest before now
-  goes_on none sent =
-      (answers start old new count held rest body met out before mid now p done none front fits (subst (λ (x : List ℕ). Appends mid.held now.held x) done.is.spelled sent)).0
-
-  -- it met no fault, and the sink failed at its reply
-  answers_cut : met ≡ None → SendsPrefix mid.held now.held (response_bytes response) → Served budget ended.Sink before now
-  answers_cut none cut =
-      let all = with_bytes mid.held (response_bytes response) in
-      let sent : World = record now { held = all } in
-      let told : Answered old new mid sent body met out = record {
-        left = done.left;
-        is = done.is;
-        passes = done.passes;
-        cause = done.cause;
-        spent = done.spent;
-        kept = done.kept;
-        same = done.same;
-        leaves = done.leaves;
-        damaged = done.damaged;
-      } in
-      let q = answers start old new count held rest body met out before mid sent p told none front fits (took_all mid.held (response_bytes response)) in
-      let earlier = sent_bytes p.answers in
-      ends_cut start new count budget rest before sent q.0 within now.held now.sink_faults (frames_of rest bytes) (length q.0.answers - 1) (omega arith) (omega arith) (record {
-        sent = earlier ++ cut.sent;
-        later = cut.later;
-        parts = ap sent_bytes q.1
-            ∙ text_more start old new count held rest body met out before mid now p done none
-            ∙ ap (λ (x : List ℕ). earlier ++ x) cut.parts ∙ sym (append_assoc earlier cut.sent cut.later);
-        some = cut.some;
-        appends = appends_then before.held mid.held now.held earlier cut.sent p.sent cut.appends;
-      }) (
-        cut.sent,
-        ap (λ (xs : List Response). sent_bytes xs ++ cut.sent) (sym (ap (λ (xs : List Response). take (length xs - 1) xs) q.1 ∙ all_but_last p.answers response)),
-      )
-      (ahead_within q.0.taken q.0.bodies (length p.bodies) (length q.0.answers - 1) (omega (arith, ap length q.1, length-append p.answers (response ∷ []), as_many p.bodies p.answers p.answered)) q.2)
 
   -- it met a fault
   module _ (f : Fault) (some : met ≡ Some f) where
@@ -380,11 +310,26 @@ module _ (start old new : Held) (count budget : ℕ) (held rest body : List ℕ)
           follows = continues.follows;
         }
 
+    -- no block is found damaged on a disk that shows a table
+    none_damaged : (b : ℕ) → f ≡ fault.Damaged b → (g : Image) (t : Table) → before.disk.content ≡ Some g → ShowsTable g t → ⊥
+    none_damaged b same g t exposed shows =
+        let so_far = p.runs g t exposed shows in
+        elim (done.is.run so_far.contents so_far.rows so_far.stands) [
+          | inl goes ↦ absurd (let x : false ≡ true = sym goes.going ∙ done.spent ∙ ap is_some some in cc)
+          | inr stops ↦
+              absurd (let x : ◌≡◌ {A = Option Fault} (Some fault.Device) (Some (fault.Damaged b)) = sym (ap (λ (a : Answer). fault_told a.reply) stops.answer) ∙ tells ∙ ap (λ (k : Fault). Some k) same in cc)
+        ]
+
     -- the superblock and the manifest of the store, unless the device failed
-    left_on : (k : Fault) → f ≡ k → (fault_told response.answer.reply ≡ Some fault.Device → ⊥) → (g : Image) → before.disk.content ≡ Some g → (store : Held) × IsConsistent store × IsOnDisk now.disk store
+    left_on : (k : Fault) → f ≡ k → (fault_told response.answer.reply ≡ Some fault.Device → ⊥) → (g : Image) → before.disk.content ≡ Some g
+        → (store : Held) × IsConsistent store × IsOnDisk now.disk store × ((t : Table) → ShowsTable g t → IsFoundAs now.disk store)
     left_on fault.Device same other g exposed = absurd (other (tells ∙ ap (λ (x : Fault). Some x) same))
-    left_on (fault.Damaged b) same other g exposed =
-        (old, p.lawful, step_damaged mid.disk now.disk old body met new out done.is b (some ∙ ap (λ (x : Fault). Some x) same) (p.on_disk g exposed))
+    left_on (fault.Damaged b) same other g exposed = (
+      old,
+      p.lawful,
+      step_damaged mid.disk now.disk old body met new out done.is b (some ∙ ap (λ (x : Fault). Some x) same) (p.on_disk g exposed),
+      λ t shows. absurd (none_damaged b same g t exposed shows),
+    )
 
     -- the run ended so, with the fault told or not
     halts : Passes before.disk mid.disk → (how : Ended) → Sends how before.held now.held broken → EndsFor how budget broken now.left → Served budget how before now
@@ -422,47 +367,32 @@ module _ (start old new : Held) (count budget : ℕ) (held rest body : List ℕ)
       follows = λ g t e shows. let so_far = p.runs g t e shows in run_broken g t so_far (done.is.run so_far.contents so_far.rows so_far.stands);
     }
 
-    -- the sink failed at its reply
-    fault_cut : Passes before.disk mid.disk → SendsPrefix mid.held now.held (response_bytes response) → Served budget ended.Sink before now
-    fault_cut passes cut =
+    -- the sink failed at the replies that were pending, its own the last
+    fault_cut : Passes before.disk mid.disk → (replies : Pending) (sent : Option (List ℕ)) → ArePending replies p.taken p.bodies p.answers before.held sent → replies.count + 1 ≤ 16
+        → SendsPrefix sent now.held (replies.bytes ++ response_bytes response) → Served budget ended.Sink before now
+    fault_cut passes replies sent pending room cut =
         halts passes ended.Sink
-        (record {
-          cut = record {
-            sent = sent_bytes p.answers ++ cut.sent;
-            later = cut.later;
-            parts = output_broken ∙ ap (λ (x : List ℕ). sent_bytes p.answers ++ x) cut.parts ∙ sym (append_assoc (sent_bytes p.answers) cut.sent cut.later);
-            some = cut.some;
-            appends = appends_then before.held mid.held now.held (sent_bytes p.answers) cut.sent p.sent cut.appends;
-          };
-          whole = length p.answers;
-          last = omega (arith, length-append p.answers (response ∷ []));
-          part = cut.sent;
-          replied = ap (λ (xs : List Response). sent_bytes xs ++ cut.sent) (sym (take_at p.answers (response ∷ []) (length p.answers) refl));
-          ahead = ahead_broken;
-        })
+        (sends_but replies p.taken p.bodies p.answers before.held sent pending (as_many p.bodies p.answers p.answered) now.held (response_bytes response) cut
+        broken (body ∷ (frames_of rest bytes).bodies) (response ∷ []) [] refl (append_assoc p.bodies (body ∷ []) (frames_of rest bytes).bodies) refl
+        (output_broken ∙ sym (append-nil (sent_bytes p.answers ++ response_bytes response))) room)
         tt
 
     -- all of it was sent
     sends_broken : Appends mid.held now.held out → Appends before.held now.held (output broken)
     sends_broken sent =
         subst (λ (x : List ℕ). Appends before.held now.held x) (sym output_broken)
-        (appends_then before.held mid.held now.held (sent_bytes p.answers) (response_bytes response) p.sent (subst (λ (x : List ℕ). Appends mid.held now.held x) done.is.spelled sent))
+        (sent_then before.held mid.held now.held (sent_bytes p.answers) (response_bytes response) p.sent (subst (λ (x : List ℕ). Appends mid.held now.held x) done.is.spelled sent))
 
-    -- its reply was sent
-    pub ends_broken : Passes before.disk mid.disk → Appends mid.held now.held out → (how : Ended) → how ≡ broken_by f → Served budget how before now
-    ends_broken passes sent how is = subst (λ (x : Ended). Served budget x before now) (sym is) (ends f refl)
+    -- the pending replies were sent, its own the last, or the sink failed at them
+    pub ends_broken : Passes before.disk mid.disk → (how result : Ended) → how ≡ broken_by f → (replies : Pending) (sent : Option (List ℕ)) (was is : ℕ) → mid.held ≡ with_sent sent replies.bytes
+        → ArePending replies p.taken p.bodies p.answers before.held sent → replies.count + 1 ≤ 16 → SendsAtEnd how result sent now.held was is (replies.bytes ++ out) → Served budget result before now
+    ends_broken passes how result is replies sent was faults there pending room (inl all) =
+        let more : Appends mid.held now.held out = subst (λ (o : Option (List ℕ)). Appends o now.held out) (sym there) (appends_behind sent now.held replies.bytes out all.1) in
+        subst (λ (x : Ended). Served budget x before now) (sym (all.0 ∙ is)) (ends f refl more)
       where
-        ends : (g : Fault) → f ≡ g → Served budget (broken_by g) before now
-        ends fault.Device same = halts passes ended.Device (sends_broken sent) (tells ∙ ap (λ (x : Fault). Some x) same)
-        ends (fault.Damaged b) same = halts passes (ended.Damaged b) (sends_broken sent) (tells ∙ ap (λ (x : Fault). Some x) same)
-
-  -- the sink failed at its reply, whether it met a fault or not
-  pub ends_unsent : Passes before.disk mid.disk → SendsPrefix mid.held now.held out → Served budget ended.Sink before now
-  ends_unsent passes cut = go met refl
-    where
-      unsent : SendsPrefix mid.held now.held (response_bytes response)
-      unsent = subst (λ (x : List ℕ). SendsPrefix mid.held now.held x) done.is.spelled cut
-
-      go : (o : Option Fault) → met ≡ o → Served budget ended.Sink before now
-      go None none = answers_cut none unsent
-      go (Some f) some = fault_cut f some passes unsent
+        ends : (g : Fault) → f ≡ g → Appends mid.held now.held out → Served budget (broken_by g) before now
+        ends fault.Device same more = halts passes ended.Device (sends_broken more) (tells ∙ ap (λ (x : Fault). Some x) same)
+        ends (fault.Damaged b) same more = halts passes (ended.Damaged b) (sends_broken more) (tells ∙ ap (λ (x : Fault). Some x) same)
+    ends_broken passes how result is replies sent was faults there pending room (inr cut) =
+        subst (λ (x : Ended). Served budget x before now) (sym cut.0)
+        (fault_cut passes replies sent pending room (subst (λ (x : List ℕ). SendsPrefix sent now.held (replies.bytes ++ x)) done.is.spelled cut.1))

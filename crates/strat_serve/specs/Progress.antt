@@ -22,6 +22,7 @@ use Rattle.def_publish.specs.Contents.{Contents, contents_state}
 use Rattle.def_publish.specs.Standing.{ShowsTable}
 use Rattle.strat_open.specs.Following.{ChangesGateAlone, FollowsFrom}
 use Rattle.strat_memory.specs.Held.{Held, IsConsistent, IsOnDisk, StandsAt, arrays_held, head_held, position_at}
+use Rattle.strat_serve.specs.Pending.{Pending, ArePending, with_sent}
 use Rattle.strat_serve.specs.Session.{Took, Begins, AreAnsweredBy, AreCalm, EndHasCause, Served, WaitsForNone, WasPublished}
 use Rattle.strat_serve.specs.World.{World}
 
@@ -73,6 +74,17 @@ pub record ServesSoFar (start current : Held) (count : ℕ) (held : List ℕ) (b
   pub runs : (f : Image) (t : Table) → before.disk.content ≡ Some f → ShowsTable f t
       → RunSoFar start current before.disk now.disk f t bodies answers
 
+-- a world whose sink holds these bytes more
+abbrev pub sent_also : World → List ℕ → World
+sent_also now bytes = record now { held = with_sent now.held bytes }
+
+-- a serving run so far whose last replies are pending: it is in progress as if the sink held these, too
+pub record ServesPending (start current : Held) (count : ℕ) (held : List ℕ) (replies : Pending)
+    (before now : World) : Type 0 where
+  pub so_far : ServesSoFar start current count held before (sent_also now replies.bytes)
+  pub pending :
+      ArePending replies so_far.taken so_far.bodies so_far.answers before.held now.held
+
 -- the bytes that wait where this was met: a frame in the buffer is among them until it is answered
 abbrev pub waiting : Next → Deframing → List ℕ
 waiting next.Frame d = frame d.body ++ d.held
@@ -84,12 +96,13 @@ Meets next.Frame d = IsBody d.body
 Meets next.NotYet d = is_partial d.held ≡ true
 Meets (next.TooLong length) d = is_too_long d.held ≡ true
 
--- a turn of a run that was so far in progress leaves it in progress in front of what was met next, or ended it
+-- a turn of a run that was so far in progress leaves it in progress in front of what was met next, with these replies
+-- pending, or ended it
 abbrev pub TurnsTo :
-    Result Next Ended → Held → Held → ℕ → ℕ → Deframing → World → World → Type 0
-TurnsTo (Ok met) start new count budget d before now =
-    ServesSoFar start new count (waiting met d) before now
-TurnsTo (Err how) start new count budget d before now = Served budget how before now
+    Result Next Ended → Held → Held → ℕ → ℕ → Deframing → Pending → World → World → Type 0
+TurnsTo (Ok met) start new count budget d replies before now =
+    ServesPending start new count (waiting met d) replies before now
+TurnsTo (Err how) start new count budget d replies before now = Served budget how before now
 
 -- what it leaves is fit for the next turn, with fewer bytes that wait
 abbrev pub TurnGoesOn : Result Next Ended → Held → Deframing → Deframing → Type 0

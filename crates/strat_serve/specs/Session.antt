@@ -8,7 +8,7 @@ use Rattle.strat_base.specs.declared.failures.Fault.TheVariants as fault
 use Rattle.def_crash.specs.Blocks.{AgreeOn}
 use Rattle.def_crash.specs.Faults.{Rose}
 use Rattle.def_crash.specs.Image.{Image}
-use Rattle.def_crash.specs.Moments.{DiskView, Exposes, OnlyReads, Passes}
+use Rattle.def_crash.specs.Moments.{DiskView, Exposes, Images, OnlyReads, Passes}
 use Rattle.def_crash.specs.Trail.{Trail}
 use Rattle.def_bytes.specs.Chained.{Chained, manifest_at}
 use Rattle.def_bytes.specs.SuperBlock.{Super, newest_in}
@@ -36,7 +36,7 @@ use Rattle.strat_publish.specs.Outcomes.{IsDamagedIn}
 use Rattle.strat_store.specs.Applying.{IsUntouched, TellsTroubleOf, is_fault, may_write}
 use Rattle.strat_store.specs.Cursoring.{LeavesCursors}
 use Rattle.strat_open.specs.Following.{ChangesGateAlone, FollowsFrom, IsOpenedAs, IsUnchanged, LeavesOpening}
-use Rattle.strat_memory.specs.Held.{Held, IsConsistent, IsOnDisk, StandsAt, arrays_held, position_at}
+use Rattle.strat_memory.specs.Held.{Held, IsConsistent, IsOnDisk, StandsAt, arrays_held, head_held, position_at}
 use Rattle.strat_store.specs.Ranging.{HasPairsFor, TellsFrom}
 use Rattle.strat_publish.specs.Settling.{LeavesPublished, carries_out}
 use Rattle.strat_serve.specs.World.{World}
@@ -180,6 +180,10 @@ pub record WasPublished (before now : DiskView) (a : ArrayDesc) : Type 0 where
   pub chained : Chained
   pub chain : manifest_at sb.format image sb.manifest sb.length ≡ Ok chained
   pub named : Contains (descriptors chained.manifest) a
+
+-- recovery of each image finds what a store holds: superblock, manifest and journal
+abbrev pub IsFoundAs : DiskView → Held → Type 0
+IsFoundAs now store = (c : Image) → Images now c → recover c ≡ Ok (Some (head_held store))
 
 -- a block is one of the arrays of a store whose superblock and manifest are those on the disk now, or
 -- of those that it keeps for cursors, each of which was on the disk in this run; it is bad in the
@@ -352,9 +356,11 @@ pub record Served (budget : ℕ) (how : Ended) (before now : World) : Type 0 whe
   pub damaged : (block : ℕ) → EndsWithFault session.broken (fault.Damaged block)
       → IsFoundDamaged before.disk now.disk block
   -- where the disk exposes its content, each crash at the end leaves the superblock and the manifest
-  -- of a store as an opening may find it, unless the device failed at a command
+  -- of a store as an opening may find it, unless the device failed at a command; where that content shows
+  -- a table, its journal too
   pub left : (EndsWithFault session.broken fault.Device → ⊥) → (f : Image)
       → Exposes before.disk f → (store : Held) × IsConsistent store × IsOnDisk now.disk store
+      × ((t : Table) → ShowsTable f t → IsFoundAs now.disk store)
   -- and where no change has a response after which a store may have written, a crash leaves what it
   -- might have left before, or the content but for one gate
   pub still : AreCalm session.bodies (all_responses session) → (f : Image) → Exposes before.disk f

@@ -1,49 +1,57 @@
-//! The answer to one frame, alone, and to one that is too long.
+//! The answer to one frame alone, and to one that is too long.
 
-ghost use Rattle.std.specs.Prelude.{◌≡◌, ◌≤◌, ℕ, OnOk, OnErr, IfOk, [], Some, None, is_some, false};
+ghost use Rattle.std.specs.Prelude.{◌≡◌, ◌≤◌, ◌++◌, ℕ, IfOk, [], length, Some, None, is_some, false};
 ghost use Rattle.strat_base.specs.Numbers.{AreBytes};
 ghost use Rattle.def_crash.specs.Blocks.{AgreeOn};
 ghost use Rattle.strat_base.specs.declared.failures.Fault.TheVariants as fault;
-ghost use Rattle.def_crash.specs.Faults.{CountsFaults};
 ghost use Rattle.def_crash.specs.Image.{Image};
 ghost use Rattle.def_crash.specs.Moments.{Exposes, Passes};
 ghost use Rattle.strat_frame.specs.Faults.{refusal_for};
-ghost use Rattle.strat_io.specs.Streams.{Appends};
 ghost use Rattle.strat_promote.specs.Job.{blocks_listed};
-ghost use Rattle.strat_serve.specs.Progress.{TurnGoesOn, ServesSoFar, TurnHasCause, TurnsTo, waiting};
-ghost use Rattle.strat_serve.specs.Session.{IsAnswered, FailsAsMet, SendsPrefix, too_long_bytes};
+ghost use Rattle.strat_serve.specs.Pending.{SendsAtEnd, none_pending};
+ghost use Rattle.strat_serve.specs.Progress.{TurnGoesOn, ServesPending, TurnHasCause, TurnsTo, waiting};
+ghost use Rattle.strat_serve.specs.Session.{IsAnswered, FailsAsMet, too_long_bytes};
 ghost use Rattle.strat_serve.specs.World.{Streams, beside, world};
 ghost use Rattle.strat_publish.specs.Outcomes.{IsDamagedIn};
 ghost use Rattle.strat_frame.specs.declared.deframer.Next.TheVariants as next;
+ghost use Rattle.strat_model.specs.declared.ended.Ended.TheVariants as ended;
 ghost use Rattle.strat_memory.specs.Held.{Held, IsConsistent, arrays_held};
 ghost use Rattle.strat_model.specs.Stream.{IsBody};
 
+use crate::pending::{PendingReplies, end_run, make_room};
 use std::alloc::Global;
-use strat_base::{Failed, Fault, NoMemory, PairBuf};
+use strat_base::{Fault, NoMemory, PairBuf};
 use strat_disk::Disk;
 use strat_frame::{BodyFault, Deframer, Next, OutBuf, parse_command, write_reply};
-use strat_io::{Sink, put_all};
+use strat_io::Sink;
 use strat_model::{Ended, Refusal, Reply};
 use strat_store::Store;
 
-/// What a serving run keeps beside its store: the bytes that came in, and room for an answer.
+/// What a serving run keeps beside its store: the bytes that came in, room for an answer, and the replies that are pending.
 #[derive(Drop)]
 pub struct Buffers {
     pub frames: Deframer,
     pub pairs: PairBuf,
     pub out: OutBuf,
+    pub pending: PendingReplies,
 }
 
 impl Buffers {
-    /// Empty buffers, with all the memory that frames, pairs and replies of a run need: about 0.7
+    /// Empty buffers, with all the memory that frames, pairs and replies of a run need: about 1.1
     /// MB.
     pub fn new(alloc: Global) -> Result<Buffers, NoMemory>
-        ensures ok { IfOk result (λ b. b.frames.held ≡ []) }
+        ensures ok { IfOk result (λ b. (b.frames.held ≡ []) × (b.pending ≡ none_pending)) }
     {
         let frames = Deframer::new(alloc)?;
         let pairs = PairBuf::new(alloc)?;
         let out = OutBuf::new(alloc)?;
-        Ok(Buffers { frames, pairs, out })
+        let pending = PendingReplies::new(alloc)?;
+        Ok(Buffers {
+            frames,
+            pairs,
+            out,
+            pending,
+        })
     }
 }
 
@@ -72,6 +80,7 @@ pub fn answer_frame<D: Disk>(
     requires kept { IsConsistent store.old }
     ensures ok { IsAnswered (D.view disk.old) (D.view disk.new) store.old body.now result
         store.new out.new }
+    ensures len { length out.new ≤ 328460 }
     ensures state { store.new.spent ≡ is_some result }
     ensures kept { result ≡ None → IsConsistent store.new }
     ensures same { store.new.sb.mem ≡ store.old.sb.mem }
@@ -98,18 +107,7 @@ pub fn answer_frame<D: Disk>(
     }
 }
 
-/// Sends a reply.
-#[tactic(auto, using(crate::proofs::SendLemmas::sends_prefix))]
-pub(crate) fn send<K: Sink>(sink: &mut K, out: &OutBuf) -> Result<(), Failed>
-    ensures ok { OnOk result (Appends (K.held sink.old) (K.held sink.new) out.now) }
-    ensures err { OnErr result (SendsPrefix (K.held sink.old) (K.held sink.new) out.now) }
-    ensures cause { CountsFaults (K.faults sink.old) (K.faults sink.new) result }
-{
-    put_all(sink, out.bytes())?;
-    Ok(())
-}
-
-/// Serves the frame in the buffer alone: a change is durable before its reply is sent. Answers what comes next, or how the
+/// Serves the frame in the buffer alone: a change is durable before its reply is pending. Answers what comes next, or how the
 /// run ends.
 pub(crate) fn serve_alone<K: Sink, D: Disk>(
     store: &mut Store,
@@ -122,10 +120,11 @@ pub(crate) fn serve_alone<K: Sink, D: Disk>(
     requires len { IsBody buffers.old.frames.body }
     requires room { AreBytes buffers.old.frames.held }
     ensures ok { (start : Held) (count budget : ℕ) (x y : Streams) (d : D)
-        → count ≤ budget → ServesSoFar start store.old count (waiting next.Frame buffers.old.frames)
+        → count ≤ budget → ServesPending start store.old count
+        (waiting next.Frame buffers.old.frames) buffers.old.pending
         (beside x (D.view d)) (world y.left y.source_faults (K.held sink.old) (K.faults sink.old)
         (D.view disk.old) (D.faults disk.old))
-        → TurnsTo result start store.new count budget buffers.new.frames
+        → TurnsTo result start store.new count budget buffers.new.frames buffers.new.pending
         (beside x (D.view d)) (world y.left y.source_faults (K.held sink.new) (K.faults sink.new)
         (D.view disk.new) (D.faults disk.new)) }
     ensures kept { TurnGoesOn result store.new buffers.old.frames buffers.new.frames }
@@ -136,6 +135,9 @@ pub(crate) fn serve_alone<K: Sink, D: Disk>(
         (world y.left y.source_faults (K.held sink.new) (K.faults sink.new)
         (D.view disk.new) (D.faults disk.new)) }
 {
+    let Ok(()) = make_room(sink, &mut buffers.pending, 1) else {
+        return Err(Ended::Sink);
+    };
     let met = answer_frame(
         store,
         disk,
@@ -143,29 +145,26 @@ pub(crate) fn serve_alone<K: Sink, D: Disk>(
         &mut buffers.pairs,
         &mut buffers.out,
     );
-    let Ok(()) = send(sink, &buffers.out) else {
-        return Err(Ended::Sink);
-    };
+    buffers.pending.keep(buffers.out.bytes(), 1);
     if let Some(fault) = met {
-        return Err(Ended::from(fault));
+        return Err(end_run(sink, &mut buffers.pending, Ended::from(fault)));
     }
     Ok(buffers.frames.next())
 }
 
-/// Answers that a frame is too long, under tag 0: its body was not read.
-pub fn refuse_long<K: Sink>(
-    sink: &mut K,
-    pairs: &mut PairBuf,
-    out: &mut OutBuf,
-) -> Result<(), Failed>
-    ensures ok { OnOk result (Appends (K.held sink.old) (K.held sink.new) too_long_bytes) }
-    ensures err { OnErr result (SendsPrefix (K.held sink.old) (K.held sink.new) too_long_bytes) }
-    ensures cause { CountsFaults (K.faults sink.old) (K.faults sink.new) result }
+/// Ends a run at a frame that is too long, whose body was not read: answers so under tag 0, behind the replies that are
+/// pending. Says how the run ends.
+pub(crate) fn refuse_long<K: Sink>(sink: &mut K, buffers: &mut Buffers) -> Ended
+    ensures { SendsAtEnd ended.FrameTooLong result (K.held sink.old) (K.held sink.new)
+        (K.faults sink.old) (K.faults sink.new) (buffers.old.pending.bytes ++ too_long_bytes) }
 {
-    out.clear();
-    pairs.clear();
+    let Ok(()) = make_room(sink, &mut buffers.pending, 0) else {
+        return Ended::Sink;
+    };
+    buffers.out.clear();
+    buffers.pairs.clear();
     let reply = Reply::Refused(Refusal::FrameTooLong);
-    write_reply(0, &reply, pairs, out);
-    put_all(sink, out.bytes())?;
-    Ok(())
+    write_reply(0, &reply, &buffers.pairs, &mut buffers.out);
+    buffers.pending.keep(buffers.out.bytes(), 0);
+    end_run(sink, &mut buffers.pending, Ended::FrameTooLong)
 }

@@ -1,28 +1,28 @@
 //! Batches of a serving run: changes whose frames came together become durable together, sixteen at most.
 
-ghost use Rattle.std.specs.Prelude.{◌≡◌, ◌≤◌, ◌<◌, ◌+◌, ◌-◌, ◌*◌, ◌++◌, ℕ, length, slice_get, false, IfSome, IfNone, OnOk, OnErr, Some};
+ghost use Rattle.std.specs.Prelude.{◌≡◌, ◌≤◌, ◌<◌, ◌+◌, ◌-◌, ◌*◌, ◌++◌, ℕ, length, slice_get, false, IfSome, IfNone, Some};
 ghost use Rattle.strat_base.specs.Numbers.{AreBytes};
-ghost use Rattle.def_crash.specs.Faults.{CountsFaults};
 ghost use Rattle.def_crash.specs.Moments.{Passes};
-ghost use Rattle.strat_io.specs.Streams.{Appends};
 ghost use Rattle.strat_memory.specs.Held.{Held, IsConsistent};
 ghost use Rattle.strat_model.specs.Answer.{plain, refusal};
 ghost use Rattle.strat_model.specs.Run.{Response, response_bytes};
 ghost use Rattle.strat_model.specs.Stream.{IsBody};
+ghost use Rattle.strat_model.specs.declared.ended.Ended.TheVariants as ended;
 ghost use Rattle.strat_model.specs.declared.replies.Refusal.TheVariants as why;
 ghost use Rattle.strat_frame.specs.declared.deframer.Next.TheVariants as next;
 ghost use Rattle.strat_serve.specs.Grouping.{GathersBatch, StagesBody};
-ghost use Rattle.strat_serve.specs.Progress.{TurnGoesOn, ServesSoFar, TurnHasCause, TurnsTo, waiting};
-ghost use Rattle.strat_serve.specs.Session.{SendsPrefix};
+ghost use Rattle.strat_serve.specs.Pending.{SendsAtEnd};
+ghost use Rattle.strat_serve.specs.Progress.{TurnGoesOn, ServesPending, TurnHasCause, TurnsTo, waiting};
 ghost use Rattle.strat_serve.specs.World.{Streams, beside, world};
 ghost use Rattle.strat_store.specs.Staging.{replies_staged};
 
-use crate::answering::{Buffers, send, serve_alone};
+use crate::answering::{Buffers, serve_alone};
+use crate::pending::{end_run, make_room};
 use arrayvec::ArrayVec;
-use strat_base::{Failed, PairBuf};
+use strat_base::PairBuf;
 use strat_disk::Disk;
 use strat_frame::{Next, OutBuf, parse_command, write_reply};
-use strat_io::{Sink, put_all};
+use strat_io::Sink;
 use strat_model::{Ended, Refusal, Reply};
 use strat_store::Store;
 use strat_store::staging_laws::staging_follows_the_table;
@@ -105,6 +105,8 @@ fn stage_frames(
     ensures ok { GathersBatch store.old store.new buffers.old.frames buffers.new.frames result
         kept.old.items kept.new.items }
     ensures fits { AreBytes buffers.new.frames.held }
+    ensures room { length kept.new.items ≤ 13 * length store.new.log.batch }
+    ensures same { buffers.new.pending ≡ buffers.old.pending }
     ensures state { store.new.spent ≡ false }
 {
     loop {
@@ -126,42 +128,27 @@ fn stage_frames(
     }
 }
 
-/// Sends the replies to a batch that is durable, in one write.
-#[tactic(auto, using(crate::proofs::SendLemmas::sends_prefix))]
-fn send_kept<K: Sink>(sink: &mut K, kept: &ArrayVec<u8, REPLIES_MAX>) -> Result<(), Failed>
-    ensures ok { OnOk result (Appends (K.held sink.old) (K.held sink.new) kept.now.items) }
-    ensures err { OnErr result (SendsPrefix (K.held sink.old) (K.held sink.new) kept.now.items) }
-    ensures cause { CountsFaults (K.faults sink.old) (K.faults sink.new) result }
+/// Ends a run at a batch that the device failed: answers so under the tag of its first change, behind the replies that are
+/// pending. Says how the run ends.
+fn refuse_batch<K: Sink>(sink: &mut K, tag: u32, buffers: &mut Buffers) -> Ended
+    requires len { buffers.old.pending.count + 1 ≤ 16 }
+    requires room { length buffers.old.pending.bytes ≤ 65536 }
+    ensures { SendsAtEnd ended.Device result (K.held sink.old) (K.held sink.new)
+        (K.faults sink.old) (K.faults sink.new) (buffers.old.pending.bytes
+        ++ response_bytes (record { tag = tag; answer = refusal why.DeviceFault })) }
 {
-    put_all(sink, kept.as_slice())?;
-    Ok(())
-}
-
-/// Sends DeviceFault under the tag of a batch's first change.
-fn refuse_batch<K: Sink>(
-    sink: &mut K,
-    tag: u32,
-    pairs: &mut PairBuf,
-    out: &mut OutBuf,
-) -> Result<(), Failed>
-    ensures ok { OnOk result (Appends (K.held sink.old) (K.held sink.new)
-        (response_bytes (record { tag = tag; answer = refusal why.DeviceFault }))) }
-    ensures err { OnErr result (SendsPrefix (K.held sink.old) (K.held sink.new)
-        (response_bytes (record { tag = tag; answer = refusal why.DeviceFault }))) }
-    ensures cause { CountsFaults (K.faults sink.old) (K.faults sink.new) result }
-{
-    out.clear();
-    pairs.clear();
+    buffers.out.clear();
+    buffers.pairs.clear();
     let reply = Reply::Refused(Refusal::DeviceFault);
-    write_reply(tag, &reply, pairs, out);
-    put_all(sink, out.bytes())?;
-    Ok(())
+    write_reply(tag, &reply, &buffers.pairs, &mut buffers.out);
+    buffers.pending.keep(buffers.out.bytes(), 1);
+    end_run(sink, &mut buffers.pending, Ended::Device)
 }
 
 /// Makes changes durable together: that of the frame in the buffer, and those of the frames held after it, sixteen at
-/// most. Two writes and two syncs, whatever their number. Their replies are sent once they are durable. Answers what comes
-/// after them, or how the run ends. If the device fails, DeviceFault is sent to the first change alone. `None`: the body
-/// in the buffer is not staged, and nothing has changed.
+/// most. Two writes and two syncs, whatever their number. Their replies are pending once they are durable. Answers what
+/// comes after them, or how the run ends. If the device fails, DeviceFault is sent to the first change alone. `None`: the
+/// body in the buffer is not staged, and nothing has changed.
 fn serve_group<K: Sink, D: Disk>(
     store: &mut Store,
     buffers: &mut Buffers,
@@ -171,17 +158,19 @@ fn serve_group<K: Sink, D: Disk>(
     requires fits { store.old.spent ≡ false }
     requires kept { IsConsistent store.old }
     requires len { IsBody buffers.old.frames.body }
+    requires room { AreBytes buffers.old.frames.held }
     ensures ok { IfSome result (λ turn. (start : Held) (count budget : ℕ) (x y : Streams) (d : D)
-        → count ≤ budget → ServesSoFar start store.old count (waiting next.Frame buffers.old.frames)
+        → count ≤ budget → ServesPending start store.old count
+        (waiting next.Frame buffers.old.frames) buffers.old.pending
         (beside x (D.view d)) (world y.left y.source_faults (K.held sink.old) (K.faults sink.old)
         (D.view disk.old) (D.faults disk.old))
-        → TurnsTo turn start store.new count budget buffers.new.frames
+        → TurnsTo turn start store.new count budget buffers.new.frames buffers.new.pending
         (beside x (D.view d)) (world y.left y.source_faults (K.held sink.new) (K.faults sink.new)
         (D.view disk.new) (D.faults disk.new))) }
     ensures kept { IfSome result (λ turn.
         TurnGoesOn turn store.new buffers.old.frames buffers.new.frames) }
     ensures none { IfNone result ((store.new ≡ store.old)
-        × (buffers.new.frames ≡ buffers.old.frames)
+        × (buffers.new.frames ≡ buffers.old.frames) × (buffers.new.pending ≡ buffers.old.pending)
         × (sink.new ≡ sink.old) × (disk.new ≡ disk.old)) }
     ensures time { Passes (D.view disk.old) (D.view disk.new) }
     ensures cause { IfSome result (λ turn. (y : Streams) → TurnHasCause turn
@@ -199,21 +188,20 @@ fn serve_group<K: Sink, D: Disk>(
         &mut kept,
     )?;
     let met = stage_frames(store, buffers, &mut kept);
+    let many = store.staged();
+    let Ok(()) = make_room(sink, &mut buffers.pending, many) else {
+        return Some(Err(Ended::Sink));
+    };
     staging_follows_the_table::<D>();
     if store.commit(disk).is_err() {
-        return match refuse_batch(sink, first, &mut buffers.pairs, &mut buffers.out) {
-            Ok(()) => Some(Err(Ended::Device)),
-            Err(Failed) => Some(Err(Ended::Sink)),
-        };
+        return Some(Err(refuse_batch(sink, first, buffers)));
     }
-    match send_kept(sink, &kept) {
-        Ok(()) => Some(Ok(met)),
-        Err(Failed) => Some(Err(Ended::Sink)),
-    }
+    buffers.pending.keep(kept.as_slice(), many);
+    Some(Ok(met))
 }
 
-/// Serves the frame in the buffer: together with the changes of frames held after it, or alone. Answers what comes next,
-/// or how the run ends.
+/// Serves the frame in the buffer: together with the changes of frames held after it, or alone. Its reply is pending then,
+/// as those are to the frames before it, sixteen at most. Answers what comes next, or how the run ends.
 pub(crate) fn serve_turn<K: Sink, D: Disk>(
     store: &mut Store,
     buffers: &mut Buffers,
@@ -225,10 +213,11 @@ pub(crate) fn serve_turn<K: Sink, D: Disk>(
     requires len { IsBody buffers.old.frames.body }
     requires room { AreBytes buffers.old.frames.held }
     ensures ok { (start : Held) (count budget : ℕ) (x y : Streams) (d : D)
-        → count ≤ budget → ServesSoFar start store.old count (waiting next.Frame buffers.old.frames)
+        → count ≤ budget → ServesPending start store.old count
+        (waiting next.Frame buffers.old.frames) buffers.old.pending
         (beside x (D.view d)) (world y.left y.source_faults (K.held sink.old) (K.faults sink.old)
         (D.view disk.old) (D.faults disk.old))
-        → TurnsTo result start store.new count budget buffers.new.frames
+        → TurnsTo result start store.new count budget buffers.new.frames buffers.new.pending
         (beside x (D.view d)) (world y.left y.source_faults (K.held sink.new) (K.faults sink.new)
         (D.view disk.new) (D.faults disk.new)) }
     ensures kept { TurnGoesOn result store.new buffers.old.frames buffers.new.frames }

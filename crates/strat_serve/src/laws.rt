@@ -122,7 +122,8 @@ pub fn a_response_fits_its_body()
 
 /// Whatever a disk shows that exposes its content: a run was served only where recovery finds a store; the disk's count of
 /// faults rose where it ended the run, and nowhere else but where the sink did; unless the device failed the superblock
-/// and the manifest of a store are left; and commands that change nothing leave the disk but for one gate.
+/// and the manifest of a store are left, and where the disk showed a table a journal of no more changes than one region
+/// takes; and commands that change nothing leave the disk but for one gate.
 pub fn a_served_run_finds_and_leaves_a_store<D: Viewed>()
     ensures found { (x y : Streams) (d e : D) (budget : ℕ) (how : Ended) (f : Image)
         → Served budget how (beside x (D.view d)) (beside y (D.view e)) → Exposes (D.view d) f
@@ -137,6 +138,11 @@ pub fn a_served_run_finds_and_leaves_a_store<D: Viewed>()
         → Served budget how (beside x (D.view d)) (beside y (D.view e)) → Exposes (D.view d) f
         → how ≢ ended.Device → how ≢ ended.Sink
         → (store : Held) × IsConsistent store × IsOnDisk (D.view e) store }
+    ensures journal { (x y : Streams) (d e : D) (budget : ℕ) (how : Ended) (f : Image) (t : Table)
+        → Served budget how (beside x (D.view d)) (beside y (D.view e)) → Exposes (D.view d) f
+        → ShowsTable f t → how ≢ ended.Device → how ≢ ended.Sink → (c : Image)
+        → Images (D.view e) c → (head : Head) × (recover c ≡ Ok (Some head))
+        × (length head.journal ≤ head.sb.mem) }
     ensures still { (x y : Streams) (d e : D) (budget : ℕ) (how : Ended) (f : Image)
         (s : Served budget how (beside x (D.view d)) (beside y (D.view e)))
         → AreCalm s.session.bodies (all_responses s.session) → Exposes (D.view d) f

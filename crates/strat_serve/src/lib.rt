@@ -8,6 +8,7 @@ mod framing;
 mod generating;
 mod grouping;
 pub mod laws;
+mod pending;
 mod serving;
 pub mod workloads;
 

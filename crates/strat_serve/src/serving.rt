@@ -4,11 +4,13 @@ ghost use Rattle.std.specs.Prelude.{◌≡◌, ◌≢◌, ◌<◌, ◌≤◌, �
 ghost use Rattle.def_crash.specs.Faults.{CountsFaults};
 ghost use Rattle.def_crash.specs.Moments.{Passes};
 ghost use Rattle.strat_memory.specs.Held.{IsConsistent};
+ghost use Rattle.strat_serve.specs.Pending.{none_pending};
 ghost use Rattle.strat_serve.specs.Session.{Took, IsAtEnd, RunOutcome, RefusesFor, IsEarlyEnd, EndHasCause, HasOpened, Served};
 ghost use Rattle.strat_serve.specs.World.{world};
 
 use crate::answering::{Buffers, refuse_long};
 use crate::grouping::serve_turn;
+use crate::pending::send_pending;
 use std::alloc::Global;
 use strat_base::Failed;
 use strat_disk::Disk;
@@ -68,7 +70,7 @@ fn serve_frames<S: Source, K: Sink, D: Disk>(
     disk: &mut D,
     budget: u64,
 ) -> Ended
-    requires none { buffers.old.frames.held ≡ [] }
+    requires none { (buffers.old.frames.held ≡ []) × (buffers.old.pending ≡ none_pending) }
     requires fits { store.old.spent ≡ false }
     requires kept { IsConsistent store.old }
     ensures ok { (d : D) → HasOpened (D.view d) (D.faults d)
@@ -95,6 +97,9 @@ fn serve_frames<S: Source, K: Sink, D: Disk>(
                 Err(how) => return how,
             },
             Next::NotYet => {
+                let Ok(()) = send_pending(sink, &mut buffers.pending) else {
+                    return Ended::Sink;
+                };
                 let Some(most) = most_next(budget, taken) else {
                     return Ended::Budget;
                 };
@@ -108,20 +113,16 @@ fn serve_frames<S: Source, K: Sink, D: Disk>(
                 buffers.frames.feed(&piece[..n]);
                 met = buffers.frames.next();
             }
-            Next::TooLong { .. } => {
-                return match refuse_long(sink, &mut buffers.pairs, &mut buffers.out) {
-                    Ok(()) => Ended::FrameTooLong,
-                    Err(Failed) => Ended::Sink,
-                };
-            }
+            Next::TooLong { .. } => return refuse_long(sink, buffers),
         }
     }
 }
 
 /// Opens the store on a disk and serves frames from a source to a sink, until the source ends or as many bytes were read
 /// as the budget has. It takes the memory for frames, pairs and replies before it touches the disk. It reads at most 4,096
-/// bytes at a time, and reads on only when every whole frame before has its reply. A reply goes out only when the change
-/// that it answers is durable.
+/// bytes at a time, and reads on only when every whole frame before has its reply, and these went out. A reply goes out
+/// only when the change that it answers is durable, in one write with those around it: before more than sixteen wait, or
+/// more than 65,536 bytes.
 #[tactic(auto, using(def_crash::proofs::MomentLemmas::passes_trans))]
 pub fn serve<S: Source, K: Sink, D: Disk>(
     alloc: Global,

@@ -69,7 +69,7 @@ fn fails_writing(alloc: Global, store: &MemDisk, input: &[u8], call: u64, sent: 
     serve(alloc, &mut source, &mut sink, &mut disk, 100) == Ended::Sink && sink.bytes() == sent
 }
 
-// Such a sink takes each of these replies in three calls.
+// The replies leave together, and such a sink takes them in eight calls.
 #[test]
 fn a_failing_sink_ends_the_run_within_a_reply(rt: HostRuntime) {
     let Some(store) = small_store(rt.alloc()) else {
@@ -80,12 +80,11 @@ fn a_failing_sink_ends_the_run_within_a_reply(rt: HostRuntime) {
         (1, 0),
         (2, 4),
         (3, 8),
-        (4, 9),
-        (5, 13),
-        (6, 17),
-        (7, 21),
-        (8, 25),
-        (9, 29),
+        (4, 12),
+        (5, 16),
+        (6, 20),
+        (7, 24),
+        (8, 28),
     ] {
         assert!(rt; fails_writing(rt.alloc(), &store, STREAM, call, &REPLIES[..sent]));
     }

@@ -1,7 +1,7 @@
 use Rattle.std.proofs.Common.{refl, sym, subst, arith}
 use Rattle.strat_model.specs.declared.ended.Ended.TheVariants as ended
 use Rattle.castle.specs.Outcomes.{EndsAsInput}
-use Rattle.castle.proofs.HeadlineLemmas.{as_table, answered_by, left_by, trail_by, ended_by, other_by}
+use Rattle.castle.proofs.HeadlineLemmas.{as_table, answered_by, finds_few, left_by, trail_by, ended_by, other_by}
 use Rattle.castle.proofs.headline.a_serving_run_is_a_run_of_its_table.Goals as goal
 
 pub returns-clause-answers : goal.returns-clause-answers
@@ -19,6 +19,11 @@ returns-clause-trail g c = λ path status x y d e f t shows exposed ran.
 pub returns-clause-space : goal.returns-clause-space
 returns-clause-space g c = λ path status x y d e f t shows exposed ran.
     (as_table x y (g.D.Viewed.view d) (g.D.Viewed.view e) f t shows exposed ran.0 ran.2.outcome ran.2.refuses).space
+
+pub returns-clause-journal : goal.returns-clause-journal
+returns-clause-journal g c = λ path status x y d e f t shows exposed ran device sink memory.
+    finds_few x y (g.D.Viewed.view d) (g.D.Viewed.view e) f t shows exposed ran.0 ran.2.outcome ran.2.refuses
+    (other_by status 5 ran.0 ended.Device ran.1 refl device) (other_by status 7 ran.0 ended.Sink ran.1 refl sink) (other_by status 8 ran.0 ended.NoMemory ran.1 refl memory)
 
 pub returns-clause-cause : goal.returns-clause-cause
 returns-clause-cause g c = λ path status x y d e ran.

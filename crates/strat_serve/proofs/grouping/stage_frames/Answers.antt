@@ -19,6 +19,7 @@ loop-store-init c = record {
   parts = refl;
   text = sym (append-nil c.args.kept.now.items);
   room = c.requires.room;
+  same = refl;
   going = c.requires.fits;
 }
 
@@ -41,5 +42,6 @@ loop-store-preserved c =
           ∙ ap (λ (x : List ℕ). c.args.kept.now.items ++ x)
           (sym (flat_map-append response_bytes so_far.responses (response ∷ []) ∙ ap (λ (x : List ℕ). sent_bytes so_far.responses ++ x) (append-nil (response_bytes response))));
       room = c.stage_body-staged.ensures.room;
+      same = so_far.same;
       going = c.stage_body-staged.ensures.state;
     }

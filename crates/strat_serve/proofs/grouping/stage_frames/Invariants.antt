@@ -15,6 +15,7 @@ invariant-loop-store l = record {
   parts : l.fn.buffers.frames.held ≡ flat_map frame bodies ++ l.buffers.frames.held;
   text : l.kept.items ≡ l.fn.kept.items ++ sent_bytes responses;
   room : length l.kept.items ≤ 13 * length l.store.log.batch;
+  same : l.buffers.pending ≡ l.fn.buffers.pending;
   going : l.store.spent ≡ false;
 }
 
