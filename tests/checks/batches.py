@@ -64,6 +64,14 @@ def a_stream_is_answered_alike_wherever_it_is_cut(folder):
     expect_alike("the file at last", formats.opened(bytes_of(path))[1], after)
 
 
+def expect_whole_batches(name, path, ends, acknowledged):
+    """What a file has, whose changes end where a batch does: with those acknowledged, or at the end of the batch after them."""
+    left = formats.opened(bytes_of(path))[1]
+    changes = left.counts()[2]
+    expect(f"{name}, {changes} changes", changes in [end for end in ends if end >= acknowledged.counts()[2]][:2], True)
+    return left
+
+
 @in_memory
 def kills_amid_batches_leave_all_or_none(folder):
     chance, seen = random.Random(40), set()
@@ -83,12 +91,9 @@ def kills_amid_batches_leave_all_or_none(folder):
         after = copy.deepcopy(store.model)
         want = b"".join(after.serve(piece)[0] for piece in frames[:answered])
         expect(f"turn {turn}, replies", got[:len(want)] == want, True)
-        left = formats.opened(bytes_of(store.path))[1]
-        changes = left.counts()[2]
-        expect(f"turn {turn}, {changes} changes", changes in [end for end in ends if end >= after.counts()[2]][:2], True)
+        store.model = expect_whole_batches(f"turn {turn}", store.path, ends, after)
         expect_told(f"turn {turn}", store.path)
-        seen.add(changes > ends[0])
-        store.model = left
+        seen.add(store.model.counts()[2] > ends[0])
     expect("what was seen", seen, {False, True})
 
 
@@ -116,10 +121,7 @@ def expect_whole_after_a_fault(name, folder, frames, call, number):
         expect(f"{name}, all are answered", answered, len(frames))
     for piece in frames[:answered]:
         store.model.serve(piece)
-    left = formats.opened(bytes_of(store.path))[1]
-    changes = left.counts()[2]
-    expect(f"{name}, {changes} changes", changes in [end for end in ends if end >= store.model.counts()[2]][:2], True)
-    store.model = left
+    store.model = expect_whole_batches(name, store.path, ends, store.model)
     store.expect_answers(f"{name}, again", [get(1, b"a"), get(2, b"03"), *frames])
     return status
 

@@ -8,7 +8,6 @@ import signal
 import socket
 import struct
 import time
-import warnings
 from pathlib import Path
 from typing import List, Tuple
 from unittest import mock
@@ -19,7 +18,7 @@ import test_scan
 import test_store
 import test_threads
 from hubs import PATIENCE, HubCase, OverHub, Raw, Reply, child_of, has_come, puts
-from support import in_child, stop
+from support import in_child, quiet, stop
 from test_interrupts import interrupted
 
 from castle import Stat, Store, errors, frames
@@ -339,10 +338,7 @@ class StepsOverHubTest(HubCase):
 
     def setUp(self) -> None:
         super().setUp()
-        quiet = warnings.catch_warnings()
-        quiet.__enter__()
-        self.addCleanup(quiet.__exit__, None, None, None)
-        warnings.simplefilter("ignore", ResourceWarning)
+        quiet(self)
         self.served()
         self.other = self.client()
 
