@@ -2,9 +2,12 @@
 
 from __future__ import annotations
 
-from typing import Tuple, Union
+import struct
+from itertools import chain
+from typing import List, Sequence, Tuple, Union, cast
 
 from . import errors, frames
+from .frames import Pair
 from .names import Names
 from .program import Program, Whole
 
@@ -58,13 +61,32 @@ class Commands:
         return data
 
     def put(self, version: Version, key: Data, value: Data) -> bytes:
-        """The frame of a put."""
+        """The frame of a put. This one is quick where the version is a number, and key and value are bytes."""
+        if type(version) is int and type(key) is bytes and type(value) is bytes and not self._read_only \
+                and 0 <= version <= frames.NUMBER_MAX and len(key) + len(value) <= frames.BODY_MAX - 13:
+            self.changes += 1
+            return frames.put(self._program.tag, version, key, value)
         self._change("put")
         number, name, data = self.number(version), self._key("put", key), data_of(value)
         if len(name) + len(data) > frames.BODY_MAX - 13:
             kind = errors.KeySize if len(name) > frames.KEY_MAX else errors.ValueSize
             raise kind(file=self._program.file, command=f"put of {len(name)} and {len(data)} bytes")
         return frames.put(self._program.tag, number, name, data)
+
+    def puts(self, version: Version, pairs: Sequence[Tuple[Data, Data]]) -> List[bytes]:
+        """The frames of puts. There are none where the version is no number, or a pair is not of bytes or fits no frame."""
+        if type(version) is not int or not 0 <= version <= frames.NUMBER_MAX or self._read_only:
+            return []
+        if set(map(type, pairs)) - {tuple, list} or set(map(type, chain.from_iterable(pairs))) - {bytes}:
+            return []
+        try:
+            made = frames.puts(self._program.tag, version, cast(Sequence[Pair], pairs))
+        except (ValueError, IndexError, struct.error):  # two that are three, or too long
+            return []
+        if max(map(len, made), default=0) > 4 + frames.BODY_MAX:
+            return []
+        self.changes += len(made)
+        return made
 
     def delete(self, version: Version, key: Data) -> bytes:
         """The frame of a delete."""
