@@ -288,8 +288,8 @@ class Store:
     def diff(self, before: Version, after: Version, *, prefix: Data = b"") -> Differences:
         """The keys that begin with `prefix` and whose values differ between two versions as they are at this call, in order.
 
-        It scans both side by side, in memory of one piece each. Pieces that are the same bytes are not looked into, so few
-        differences cost little more than the reading. It raises what `scan` does, and ends as a scan does.
+        It scans both side by side, in memory of a few pieces each. They are compared as bytes, and pairs are made of what
+        differs alone, so few differences cost little more than the reading. It raises what `scan` does, and ends as a scan does.
         """
         first = self.scan(before, prefix=prefix)
         try:

@@ -49,21 +49,23 @@ class DifferenceTest(StoreCase):
         after = {**before, b"00300": b"w", b"02000x": b"new"}
         del after[b"05000"]
         store = self.two(before, after)
-        page, looked = frames.page, []
+        looked: List[str] = []
 
-        def counted(fields: bytes) -> frames.Page:
-            looked.append(fields)
-            return page(fields)
+        def counted(name: str) -> object:
+            method = getattr(scan.Side, name)
+            return mock.patch.object(scan.Side, name, lambda *given: looked.append(name) or method(*given))  # type: ignore[func-returns-value]
 
-        with mock.patch.object(frames, "page", counted):
+        with counted("pair"), counted("pass_over"):  # type: ignore[attr-defined]
             self.assertEqual([tuple(found) for found in store.diff(1, 2)], expected(before, after))
-        # of each place both pieces, and the few pairs that one side lacked
-        self.assertEqual(len(looked), 3 * 2 + 2)
-        looked.clear()
-        store.stat()  # takes the closings along
-        with mock.patch.object(frames, "page", counted), frames_sent(store) as counts:
-            self.assertEqual(list(store.diff(1, 1)), [])
-        self.assertEqual((looked, counts), ([], {"scan of version": 2, "next pairs of cursor": 2 * 40, "close cursor": 2}))
+            # of each place the pairs of a piece before it, and the next pair of both sides
+            self.assertEqual((looked.count("pass_over"), looked.count("pair")), (3, 6))
+            looked.clear()
+            store.stat()  # takes the closings along
+            with frames_sent(store) as counts:
+                self.assertEqual(list(store.diff(1, 1)), [])
+        asked = counts.pop("next pairs of cursor")
+        self.assertEqual((looked, counts), ([], {"scan of version": 2, "close cursor": 2}))
+        self.assertIn(asked, range(2 * 40, 2 * (40 + scan.Pieces.AHEAD)))
 
     def test_a_row_of_keys_that_one_side_alone_has_is_read_in_whole_pieces(self) -> None:
         before = {f"{number:05}".encode(): b"v" for number in range(3000)}
@@ -95,10 +97,16 @@ class DifferenceTest(StoreCase):
         self.assertEqual(list(found), [])
 
     def test_a_reply_that_can_not_be_read_ends_the_store(self) -> None:
-        store = self.two({b"a": b"1"}, {b"b": b"1"})
-        found = store.diff(1, 2)
-        with mock.patch.object(scan.Scan, "replies", lambda scans, limit=256: [b"\0\0\5", b"\0\0\6"]):
-            with self.assertRaisesRegex(errors.WrongProtocol, "a reply of status 3 can't be read"):
-                next(found)
-        with self.assertRaises(errors.WrongProtocol):
-            store.stat()
+        for wrong in (b"\0\0\5", b"\0\0\1\0\1a\0\2b", b"\0\0\1\0\5a\0\0", b"\0\0\1\0\1a\0"):
+            self.told_of(wrong)
+
+    def told_of(self, wrong: bytes) -> None:
+        """Has a first piece with these bytes end the store."""
+        kept = scan.Pieces._keep
+        with self.two({b"a": b"1"}, {b"b": b"1"}) as store:
+            found = store.diff(1, 2)
+            with mock.patch.object(scan.Pieces, "_keep", lambda pieces, place, reply: kept(pieces, place, reply if place else wrong)):
+                with self.assertRaisesRegex(errors.WrongProtocol, "a reply of status 3 can't be read"):
+                    next(found)
+            with self.assertRaises(errors.WrongProtocol):
+                store.stat()
