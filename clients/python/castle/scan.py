@@ -195,11 +195,12 @@ class Difference(NamedTuple):
 
 
 class Differences(Reading[Difference]):
-    """What differs between two scans, which are read side by side. See `Store.diff`."""
+    """What differs between two versions, in the order of keys. See `Store.diff`."""
 
-    def __init__(self, before: Scan, after: Scan) -> None:
-        self._scans = before, after
-        self._found = differences(before, after)  # which has the scans and not this, so that it goes where nobody has this
+    def __init__(self, scans: Sequence[Scan], found: Iterator[Difference]) -> None:
+        """Gives what is found by these scans, which end with it. The iterator may have the scans."""
+        self._scans = scans
+        self._found = found  # which has not this, so that it goes where nobody has this
 
     def __next__(self) -> Difference:
         try:

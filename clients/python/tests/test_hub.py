@@ -323,6 +323,15 @@ class InterfaceTest(HubCase):
             del store, scan
         self.assertEqual(other.stat().cursors, 0)
 
+    def test_differences_have_what_other_clients_changed(self) -> None:
+        self.served()
+        one, other = self.client(), self.client()
+        made = one.clone(0)
+        one.put(made, "a", "1")
+        other.put(made, "b", "2")
+        for store in (one, other):
+            self.assertEqual([tuple(found) for found in store.diff(0, made)], [(b"a", None, b"1"), (b"b", None, b"2")])
+
     def test_the_shell_speaks_over_a_hub(self) -> None:
         self.served()
         out, said, status = self.shell("put a 1\nclone\nput a 2 @1\ndiff 0 1\nclone staging\n", path=self.address)
