@@ -170,7 +170,8 @@ def the_wear_is_within_its_bounds(folder):
 # bench/clones
 
 SMALL = ["--pairs", "300", "--clones", "3", "--edits", "40", "--looks", "2"]
-STEPS = [*(f"{step}, seconds" for step in ("load", "clones", "edits", "scans", "differences", "dumps")), "bytes on the disk"]
+TIMED = "load", "clones", "edits", "scans", "differences", "differences of two clones", "dumps"
+STEPS = [*(f"{step}, seconds" for step in TIMED), "bytes on the disk"]
 
 
 def cloned(folder, *words):
@@ -218,8 +219,10 @@ def the_answers_over_clones_are_those_of_dictionaries(folder):
     words = argparse.Namespace(seed=1, pairs=2, clones=1, edits=0, looks=0)
     work = clones.Work(words)
     one, two = work.pairs
-    work.edits = [[(one[0], None), two, (b"x", b"3"), (b"x", b"4"), (b"none", None)]]
-    expect("pairs and differences", work.wanted(1), ([two, (b"x", b"4")], [(one[0], one[1], None), (b"x", None, b"4")]))
+    work.edits = [[(one[0], None), two, (b"x", b"3"), (b"x", b"4"), (b"none", None)], [(b"x", b"4"), (two[0], b"5")]]
+    expect("pairs", work.wanted(1), [two, (b"x", b"4")])
+    expect("differences", work.between(0, 1), [(one[0], one[1], None), (b"x", None, b"4")])
+    expect("differences of two clones", work.between(1, 2), [(one[0], None, one[1]), (*two, b"5")])
     words.edits = 99
     kinds = {(value is None, key.endswith(b"/new")) for key, value in clones.Work(words).edits[0]}
     expect("kinds of edits", kinds, {(True, False), (False, True), (False, False)})

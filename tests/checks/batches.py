@@ -111,6 +111,14 @@ def unanswered(store, frames):
     return after.counts()[2]
 
 
+def expect_whole_batches(name, path, allowed):
+    """What a file has, whose changes number as many as the batches do that may have been made."""
+    left = formats.opened(bytes_of(path))[1]
+    changes = left.counts()[2]
+    expect(f"{name}, {changes} changes", changes in allowed, True)
+    return left
+
+
 @in_memory
 def kills_amid_batches_leave_all_or_none(folder):
     chance, seen = random.Random(40), set()
@@ -130,13 +138,10 @@ def kills_amid_batches_leave_all_or_none(folder):
         after = copy.deepcopy(store.model)
         want = b"".join(after.serve(piece)[0] for piece in frames[:answered])
         expect(f"turn {turn}, replies", got[:len(want)] == want, True)
-        left = formats.opened(bytes_of(store.path))[1]
-        changes = left.counts()[2]
-        most = unanswered(after, frames[answered:])
-        expect(f"turn {turn}, {changes} changes", changes in [end for end in ends if after.counts()[2] <= end <= most], True)
+        allowed = [end for end in ends if after.counts()[2] <= end <= unanswered(after, frames[answered:])]
+        store.model = expect_whole_batches(f"turn {turn}", store.path, allowed)
         expect_told(f"turn {turn}", store.path)
-        seen.add(changes > ends[0])
-        store.model = left
+        seen.add(store.model.counts()[2] > ends[0])
     expect("what was seen", seen, {False, True})
 
 
@@ -164,12 +169,9 @@ def expect_whole_after_a_fault(name, folder, frames, call, number):
         expect(f"{name}, all are answered", answered, len(frames))
     for piece in frames[:answered]:
         store.model.serve(piece)
-    left = formats.opened(bytes_of(store.path))[1]
-    changes, least = left.counts()[2], store.model.counts()[2]
-    known = [end for end in ends if end >= least]
+    known = [end for end in ends if end >= store.model.counts()[2]]
     allowed = [end for end in known if end <= unanswered(store.model, frames[answered:])] if status == model.SINK else known[:2]
-    expect(f"{name}, {changes} changes", changes in allowed, True)
-    store.model = left
+    store.model = expect_whole_batches(name, store.path, allowed)
     store.expect_answers(f"{name}, again", [get(1, b"a"), get(2, b"03"), *frames])
     return status
 

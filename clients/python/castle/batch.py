@@ -2,12 +2,17 @@
 
 from __future__ import annotations
 
+from itertools import islice
 from types import TracebackType
-from typing import List, Optional, Type
+from typing import Iterable, List, Optional, Tuple, Type
 
 from . import errors, frames
 from .commands import Commands, Data, Version
 from .program import Program, Result
+
+
+WINDOW = 512  # pairs that are encoded at once
+WHOLE = list, tuple, type({}.items())  # kinds that run nobody's code as they give what they have
 
 
 class Batch:
@@ -35,6 +40,25 @@ class Batch:
     def put(self, version: Version, key: Data, value: Data) -> None:
         """Gives a key this value at a version."""
         self._program.send(self.results, self._commands.put, version, key, value)
+
+    def update(self, version: Version, pairs: Iterable[Tuple[Data, Data]]) -> None:
+        """Gives the keys of pairs their values at a version, as a `put` of each would.
+
+        This is quicker for pairs of bytes in a list or a tuple, or those of a dictionary. Whatever else has the pairs may use
+        the store as it gives one: the pair before is added by then.
+        """
+        if type(pairs) not in WHOLE:
+            for key, value in pairs:
+                self.put(version, key, value)
+            return
+        left = iter(pairs)
+        while True:
+            window = list(islice(left, WINDOW))
+            if not window:
+                return
+            if not self._program.send_all(self.results, self._commands.puts, version, window):
+                for key, value in window:
+                    self.put(version, key, value)
 
     def delete(self, version: Version, key: Data) -> None:
         """Takes a key's value away at a version."""

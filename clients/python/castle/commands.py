@@ -2,9 +2,13 @@
 
 from __future__ import annotations
 
-from typing import Tuple, Union
+import struct
+from itertools import chain
+from typing import List, Sequence, Tuple, Union, cast
 
 from . import errors, frames
+from .edits import Edits
+from .frames import Pair
 from .names import Names
 from .program import Program, Whole
 
@@ -29,8 +33,9 @@ class Commands:
     changes where the store is open for reading alone, by `ReadOnly`.
     """
 
-    def __init__(self, program: Program, names: Names, read_only: bool) -> None:
+    def __init__(self, program: Program, names: Names, read_only: bool, edits: Edits) -> None:
         self._program = program
+        self.edits = edits
         self._names = names
         self._read_only = read_only
         self.changes = 0
@@ -58,18 +63,43 @@ class Commands:
         return data
 
     def put(self, version: Version, key: Data, value: Data) -> bytes:
-        """The frame of a put."""
+        """The frame of a put. This one is quick where the version is a number, and key and value are bytes."""
+        if type(version) is int and type(key) is bytes and type(value) is bytes and not self._read_only \
+                and 0 <= version <= frames.NUMBER_MAX and len(key) + len(value) <= frames.BODY_MAX - 13:
+            self.changes += 1
+            if version >= self.edits.first:
+                self.edits.note(version, (key,))
+            return frames.put(self._program.tag, version, key, value)
         self._change("put")
         number, name, data = self.number(version), self._key("put", key), data_of(value)
         if len(name) + len(data) > frames.BODY_MAX - 13:
             kind = errors.KeySize if len(name) > frames.KEY_MAX else errors.ValueSize
             raise kind(file=self._program.file, command=f"put of {len(name)} and {len(data)} bytes")
+        self.edits.note(number, (name,))
         return frames.put(self._program.tag, number, name, data)
+
+    def puts(self, version: Version, pairs: Sequence[Tuple[Data, Data]]) -> List[bytes]:
+        """The frames of puts. There are none where the version is no number, or a pair is not of bytes or fits no frame."""
+        if type(version) is not int or not 0 <= version <= frames.NUMBER_MAX or self._read_only:
+            return []
+        if set(map(type, pairs)) - {tuple, list} or set(map(type, chain.from_iterable(pairs))) - {bytes}:
+            return []
+        try:
+            made = frames.puts(self._program.tag, version, cast(Sequence[Pair], pairs))
+        except (ValueError, IndexError, struct.error):  # two that are three, or too long
+            return []
+        if max(map(len, made), default=0) > 4 + frames.BODY_MAX:
+            return []
+        self.changes += len(made)
+        self.edits.note(version, (pair[0] for pair in cast(Sequence[Pair], pairs)))
+        return made
 
     def delete(self, version: Version, key: Data) -> bytes:
         """The frame of a delete."""
         self._change("delete")
-        return frames.delete(self._program.tag, self.number(version), self._key("delete", key))
+        number, name = self.number(version), self._key("delete", key)
+        self.edits.note(number, (name,))
+        return frames.delete(self._program.tag, number, name)
 
     def get(self, version: Version, key: Data) -> bytes:
         """The frame of a get. This one is quick where the version is a number and the key bytes."""

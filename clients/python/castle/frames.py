@@ -3,7 +3,7 @@
 from __future__ import annotations
 
 import struct
-from typing import List, NamedTuple, Optional, Tuple, Union
+from typing import List, NamedTuple, Optional, Sequence, Tuple, Union
 
 from . import text
 
@@ -33,6 +33,8 @@ CURSOR_HEAD = struct.Struct(">IIBQ")
 PLACE_FIELDS = struct.Struct(">IIB")
 COUNT_FIELDS = struct.Struct(">IIII")
 PAGE_FIELDS = struct.Struct(">BH")
+SIZES = [SIZE.pack(size) for size in range(BODY_MAX)]
+DONE_SIZE = 9  # bytes of a reply that has nothing but its status
 
 
 class Info(NamedTuple):
@@ -74,6 +76,13 @@ def put(tag: int, version: int, key: bytes, value: bytes) -> bytes:
     """The value of a key becomes this one."""
     sizes = len(key) + len(value)
     return KEY_HEAD.pack(13 + sizes, tag, PUT, version, len(key)) + key + SIZE.pack(len(value)) + value
+
+
+def puts(tag: int, version: int, pairs: Sequence[Pair]) -> List[bytes]:
+    """The same for many pairs, with tags that follow one another. Values have less than `BODY_MAX` bytes."""
+    head, join = KEY_HEAD.pack, b"".join
+    return [join((head(13 + len(key) + len(value), number & NUMBER_MAX, PUT, version, len(key)), key, SIZES[len(value)], value))
+            for number, (key, value) in enumerate(pairs, tag)]
 
 
 def delete(tag: int, version: int, key: bytes) -> bytes:
@@ -163,6 +172,15 @@ def answer(status: int, fields: bytes) -> Answer:
     if status == PAIRS:
         return page(fields)
     raise ValueError(f"a reply of status {status}")
+
+
+def dones(tag: int, count: int) -> bytes:
+    """The replies that so many commands are done, with tags that follow one another and none above `NUMBER_MAX`."""
+    replies = bytearray(HEAD.pack(5, 0, DONE)) * count
+    tags = struct.pack(f">{count}I", *range(tag, tag + count))
+    for place in range(NUMBER.size):
+        replies[NUMBER.size + place::DONE_SIZE] = tags[place::NUMBER.size]
+    return bytes(replies)
 
 
 def page_counts(fields: bytes) -> Tuple[bool, int]:

@@ -15,6 +15,7 @@ from typing import Callable, List, NoReturn, Optional, cast
 
 from . import errors, forks, frames, hubsocket
 from .commands import Commands
+from .edits import Edits
 from .frames import Stat
 from .levels import Levels
 from .names import Names
@@ -167,7 +168,7 @@ class HubStore(Store):
             error.command = "open"
             raise
         self.names = NoNames(self.path, count, program.lock)
-        self._commands = Commands(program, self.names, False)
+        self._commands = Commands(program, self.names, False, Edits(frames.NUMBER_MAX + 1))  # others change it too
 
     def _free(self) -> int:
         """Waits until the hub has closed the connection, and its cursors before."""

@@ -165,8 +165,7 @@ class Load:
             raise Stopped(f"stopped, with {self.told} loaded") from None
         batch = self._shell.store.batch(return_exceptions=True)
         try:
-            for key, value in window:
-                batch.put(self._version, key, value)
+            batch.update(self._version, window)
             batch.finish()
         except KeyboardInterrupt:
             raise Stopped(f"stopped, with {self.told} loaded and some of the next {WINDOW} or none") from None

@@ -13,7 +13,6 @@ import struct
 import sys
 import threading
 from collections import deque
-from itertools import islice
 from typing import TYPE_CHECKING, Callable, Deque, Iterator, List, NamedTuple, NoReturn, Optional, Sequence, Tuple, Union
 
 from . import errors, forks, frames
@@ -208,15 +207,36 @@ class Program:
             finally:
                 self._is_busy = False
 
-    def settle(self, sink: Optional[List[Result]] = None) -> None:
-        """Sends all that was added, and waits until all is answered. Commands that are sent next are for this list."""
+    def send_all(self, sink: List[Result], make: Callable[..., List[bytes]], *words: object) -> bool:
+        """Adds the commands that are made of these words, all or none, and tells whether there are any. See `send`."""
+        with self.lock:
+            if self._is_busy:
+                self._refuse_amid()
+            self._is_busy = True
+            try:
+                if self._end is not None:
+                    raise errors.again(self._end)
+                self._turn_to(sink)
+                heard = self._heard
+                self.tag = heard.first + len(heard.commands) & NUMBER_MAX
+                made = make(*words)
+                heard.commands.extend(made)  # this alone adds them
+                self._size += sum(map(len, made))
+                if self._size >= CHUNK:
+                    self._exchange(CHUNK // 2, None)
+                return bool(made)
+            finally:
+                self._is_busy = False
+
+    def settle(self, sink: Optional[List[Result]] = None, left: int = 0) -> None:
+        """Sends all that was added, and waits until all but so many are answered. Commands that are sent next are for this list."""
         with self.lock:
             if self._is_busy:
                 self._refuse_amid()
             self._is_busy = True
             try:
                 self._turn_to(self._heard.sink if sink is None else sink)
-                self._exchange(0, 0)
+                self._exchange(0, left)
             finally:
                 self._is_busy = False
 
@@ -265,7 +285,7 @@ class Program:
 
     def _refuse_amid(self) -> None:
         """Refuses a command amid another one of this thread. That there is one may be left over from an exception."""
-        codes = {method.__code__ for method in (Program._ask, Program.send, Program.settle, Program.finish)}
+        codes = {method.__code__ for method in (Program._ask, Program.send, Program.send_all, Program.settle, Program.finish)}
         frame = sys._getframe(1).f_back
         while frame is not None:
             if frame.f_code in codes and frame.f_locals.get("self") is self:
@@ -364,11 +384,14 @@ class Program:
     def _parsed(self, heard: Heard) -> Tuple[List[Result], bytes, int, str]:
         """What whole replies say, the beginning of one behind them, how many commands are answered, and a wrong reply."""
         data = b"".join([heard.rest, *heard.got])
-        answers: List[Result] = []
-        at, end, expected, found, head = 0, len(data), heard.first + heard.done & NUMBER_MAX, frames.FOUND, frames.HEAD.unpack_from
+        end, expected, found, head = len(data), heard.first + heard.done & NUMBER_MAX, frames.FOUND, frames.HEAD.unpack_from
+        asked = heard.commands[heard.done:heard.done + end // frames.DONE_SIZE]  # no reply is shorter
+        plain = self._count_done(data, expected, asked)
+        answers: List[Result] = [None] * plain
+        at, expected = plain * frames.DONE_SIZE, expected + plain & NUMBER_MAX
         fault = ""
-        for frame in islice(heard.commands, heard.done, None):
-            if end - at < 9:
+        for frame in asked[plain:]:
+            if end - at < frames.DONE_SIZE:
                 break
             length, tag, status = head(data, at)
             stop = at + 4 + length
@@ -397,6 +420,14 @@ class Program:
         if done == len(heard.commands) and at < end:
             fault = "a reply came that is to no command"
         return answers, data[at:], done, fault
+
+    @staticmethod
+    def _count_done(data: bytes, tag: int, asked: List[bytes]) -> int:
+        """How many replies at the beginning say that a command is done: as many as may be there, compared at once, or none."""
+        count = min(len(asked), NUMBER_MAX - tag)
+        if data[8:9] != b"\0" or Unheard in set(map(type, asked)):
+            return 0
+        return count if data.startswith(frames.dones(tag, count)) else 0
 
     def _fail(self) -> NoReturn:
         """The program ended before it was asked to."""

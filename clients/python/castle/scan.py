@@ -2,11 +2,11 @@
 
 from __future__ import annotations
 
-import bisect
 import struct
 import threading
+from collections import deque
 from types import TracebackType
-from typing import Any, Generic, Iterator, List, NamedTuple, Optional, Sequence, Tuple, Type, TypeVar, cast
+from typing import Any, Deque, Generic, Iterator, List, NamedTuple, Optional, Sequence, Tuple, Type, TypeVar, cast
 
 from . import errors, frames
 from .commands import Commands, Data, Version
@@ -102,39 +102,14 @@ class Scan(Reading[Pair]):
         if not page.more:
             self.give_back()
 
-    @staticmethod
-    def replies(scans: Sequence["Scan"], limit: int = frames.PAGE_MAX) -> List[bytes]:
-        """The next pieces of scans, asked for at once, as the bytes of their replies. Threads may not share these scans."""
-        sink: List[Result] = []
-        for scan in scans:
-            scan._program.send(sink, scan._commands.next_whole, scan._number(), limit)
-        end: Optional[errors.CastleError] = None
-        try:
-            scans[0]._program.settle(sink)
-        except errors.CastleError as error:
-            end = error
-        refused = next((reply for reply in sink if isinstance(reply, errors.CastleError)), end)  # before the end that came of it
-        if refused is not None:
-            raise refused
-        for scan, reply in zip(scans, sink):
-            scan._more = frames.page_counts(cast(bytes, reply))[0]
-            if not scan._more:
-                scan.give_back()
-        return cast(List[bytes], sink)
-
-    def pairs_of(self, reply: bytes) -> List[Pair]:
-        """The pairs of one of these replies."""
-        try:
-            return frames.page(reply).pairs
-        except (IndexError, struct.error):
-            raise self._program.refuse(f"a reply of status {frames.PAIRS} can't be read") from None
-
     def count(self) -> int:
         """How many pairs follow. They are read, and not looked at."""
-        count = 0
-        while self._more:
-            count += frames.page_counts(self.replies([self])[0])[1]
-        return count
+        pieces, count = Pieces([self]), 0
+        while True:
+            piece = pieces.next(0)
+            if not piece:
+                return count
+            count += frames.page_counts(piece)[1]
 
     def give_back(self) -> None:
         """Has its cursor closed. What was read is given still; more is missed as `StoreClosed`."""
@@ -143,6 +118,70 @@ class Scan(Reading[Pair]):
     def close(self) -> None:
         self._piece, self._more = iter(()), False
         self.give_back()
+
+
+class Pieces:
+    """Scans that are read side by side, piece by piece, as the bytes of replies. Threads may not share these scans.
+
+    Pieces are asked for before they are needed, more of them the further it comes, so that the program goes on meanwhile.
+    """
+
+    AHEAD = 4  # pieces of each scan that are asked for, and not taken, at most
+
+    def __init__(self, scans: Sequence[Scan]) -> None:
+        self._scans = scans
+        self._program = scans[0]._program
+        self._ahead = 1
+        self._asked: Deque[int] = deque()  # whose piece each reply to come is
+        self._sink: List[Result] = []  # replies that came
+        self._pieces: List[Deque[bytes]] = [deque() for _ in scans]
+
+    def next(self, place: int) -> bytes:
+        """The next piece of the scan at this place; empty behind its last pair."""
+        pieces = self._pieces[place]
+        self._ask()
+        while not pieces and place in self._asked:
+            self._take(len(self._asked) - 1 - self._asked.index(place))
+        return pieces.popleft() if pieces else b""
+
+    def _ask(self) -> None:
+        """Asks for pieces of each scan that has others, up to as many as may be ahead."""
+        for _ in range(self._ahead):
+            for place, scan in enumerate(self._scans):
+                if scan._more and self._asked.count(place) + len(self._pieces[place]) < self._ahead:
+                    self._program.send(self._sink, scan._commands.next_whole, scan._number(), frames.PAGE_MAX)
+                    self._asked.append(place)
+        self._ahead = min(self.AHEAD, self._ahead + 1)
+
+    def _take(self, left: int) -> None:
+        """Waits until no more than so many replies are to come, and takes those that came."""
+        end: Optional[errors.CastleError] = None
+        try:
+            self._program.settle(self._sink, left)
+        except errors.CastleError as error:
+            end = error
+        refused = next((reply for reply in self._sink if isinstance(reply, errors.CastleError)), end)  # before the end that came of it
+        if refused is not None:
+            raise refused
+        replies, self._sink[:] = cast(List[bytes], self._sink[:]), []
+        for reply in replies:
+            self._keep(self._asked.popleft(), reply)
+
+    def _keep(self, place: int, reply: bytes) -> None:
+        """Keeps a piece. Behind the last one the scan's cursor is closed, and replies have no pairs."""
+        scan = self._scans[place]
+        more, count = frames.page_counts(reply)
+        if len(reply) < frames.PAGE_FIELDS.size + 2 * frames.SIZE.size * count:
+            raise self.unreadable()
+        if count:
+            self._pieces[place].append(reply)
+        if scan._more and not more:
+            scan._more = False
+            scan.give_back()
+
+    def unreadable(self) -> errors.CastleError:
+        """Ends the store for a piece that is none."""
+        return self._program.refuse(f"a reply of status {frames.PAIRS} can't be read")
 
 
 class Difference(NamedTuple):
@@ -156,11 +195,12 @@ class Difference(NamedTuple):
 
 
 class Differences(Reading[Difference]):
-    """What differs between two scans, which are read side by side. See `Store.diff`."""
+    """What differs between two versions, in the order of keys. See `Store.diff`."""
 
-    def __init__(self, before: Scan, after: Scan) -> None:
-        self._scans = before, after
-        self._found = differences(before, after)  # which has the scans and not this, so that it goes where nobody has this
+    def __init__(self, scans: Sequence[Scan], found: Iterator[Difference]) -> None:
+        """Gives what is found by these scans, which end with it. The iterator may have the scans."""
+        self._scans = scans
+        self._found = found  # which has not this, so that it goes where nobody has this
 
     def __next__(self) -> Difference:
         try:
@@ -175,48 +215,114 @@ class Differences(Reading[Difference]):
         self._found = iter(())
 
 
+class Side:
+    """The pairs of a scan as bytes, of which the next one is at a place."""
+
+    def __init__(self, pieces: Pieces, number: int) -> None:
+        self._pieces = pieces
+        self._number = number
+        self.data = b""
+        self.at = 0
+
+    def has_pair(self) -> bool:
+        """Whether there is a next pair. Behind the last one of a piece it reads the next piece."""
+        if self.at == len(self.data):
+            self.data = self._pieces.next(self._number)
+            self.at = frames.PAGE_FIELDS.size if self.data else 0
+        return self.at < len(self.data)
+
+    def pair(self) -> Tuple[bytes, bytes, int]:
+        """Key and value of the next pair, and where it ends."""
+        data, at = self.data, self.at
+        key_end = at + 2 + (data[at] << 8 | data[at + 1])
+        end = key_end + 2 + (data[key_end] << 8 | data[key_end + 1])
+        if end > len(data):
+            raise IndexError
+        return data[at + 2:key_end], data[key_end + 2:end], end
+
+    def pass_over(self, size: int) -> int:
+        """Passes over the pairs that lie within so many bytes, and tells how many bytes these have."""
+        data, at, last = self.data, self.at, self.at + size
+        while True:
+            key_end = at + 2 + (data[at] << 8 | data[at + 1])
+            end = key_end + 2 + (data[key_end] << 8 | data[key_end + 1])
+            if end > last:
+                break
+            at = end
+        passed, self.at = at - self.at, at
+        return passed
+
+
+WHOLE = frames.BODY_MAX * frames.PAGE_MAX  # bytes that are compared first in a new piece: above what one has
+NEAR = 64  # bytes that are compared first behind a difference, since another one may be close
+
+
 def differences(before: Scan, after: Scan) -> Iterator[Difference]:
-    """What differs between two scans.
-
-    They are compared piece by piece. Behind a key that one side alone has, the other one reads as many pairs as it lacks, so
-    that the pieces that follow are equal as bytes again. Where that was not enough it reads a whole piece.
-    """
-    old: List[Pair] = []  # pairs that were read, and are not compared yet
-    new: List[Pair] = []
-    last: Optional[Scan] = None  # the side that read what it lacked, if that came last
-    while old or new or before.more or after.more:
-        if not old and not new and before.more and after.more:
-            old, new = _unequal(before, after)
-            last = None
-        elif not old and before.more:
-            old = _next_pairs(before, frames.PAGE_MAX if before is last else len(new))
-            last = before
-        elif not new and after.more:
-            new = _next_pairs(after, frames.PAGE_MAX if after is last else len(old))
-            last = after
-        ends = [pairs[-1][0] for pairs, scan in ((old, before), (new, after)) if pairs and scan.more]
-        known, also = _up_to(old, ends), _up_to(new, ends)
-        yield from merged(iter(old[:known]), iter(new[:also]))
-        old, new = old[known:], new[also:]
+    """What differs between two scans, which are compared as bytes: pairs are made of what differs alone."""
+    pieces = Pieces([before, after])
+    old, new = Side(pieces, 0), Side(pieces, 1)
+    step = WHOLE
+    while True:
+        try:
+            has_old, has_new = old.has_pair(), new.has_pair()
+            if has_old and has_new and _pass_over_equal(old, new, step):
+                step = WHOLE
+                continue
+            found = _next_difference(old if has_old else None, new if has_new else None)
+            step = NEAR
+        except (IndexError, struct.error):
+            raise pieces.unreadable() from None
+        if found is None:
+            return
+        yield found
 
 
-def _unequal(before: Scan, after: Scan) -> Tuple[List[Pair], List[Pair]]:
-    """The next pieces that differ. Those that are the same bytes are passed over."""
-    while before.more and after.more:
-        old, new = Scan.replies([before, after])
-        if old != new:
-            return before.pairs_of(old), after.pairs_of(new)
-    return [], []
+def _pass_over_equal(old: Side, new: Side, step: int) -> bool:
+    """Passes over pairs that are the same on both sides, and tells whether one has come to the end of its piece."""
+    size = min(len(old.data) - old.at, len(new.data) - new.at)
+    same = _equal_bytes(old, new, size, step)
+    passed = same if same == size else old.pass_over(same)
+    if same == size:
+        old.at += size
+    new.at += passed
+    return same == size
 
 
-def _next_pairs(scan: Scan, limit: int) -> List[Pair]:
-    """The next pairs of a scan: as many as the limit, or a whole piece where that is 0."""
-    return scan.pairs_of(Scan.replies([scan], limit or frames.PAGE_MAX)[0])
+def _equal_bytes(old: Side, new: Side, size: int, step: int) -> int:
+    """How many bytes are the same, up to this size. It compares as many as the step first, and then twice as many each time."""
+    done = 0
+    while done < size:
+        more = min(step, size - done)
+        if old.data[old.at + done:old.at + done + more] != new.data[new.at + done:new.at + done + more]:
+            break
+        done, step = done + more, 2 * step
+    else:
+        return size
+    low, high = done, done + more  # the same up to the first, and not up to the second
+    while high - low > 1:
+        middle = (low + high) // 2
+        if old.data[old.at + low:old.at + middle] == new.data[new.at + low:new.at + middle]:
+            low = middle
+        else:
+            high = middle
+    return low
 
 
-def _up_to(pairs: List[Pair], ends: List[bytes]) -> int:
-    """How many pairs are up to the least of these keys; all where there is none."""
-    return bisect.bisect_left(pairs, (min(ends) + b"\0",)) if ends else len(pairs)
+def _next_difference(old: Optional[Side], new: Optional[Side]) -> Optional[Difference]:
+    """The difference of the next pairs, which are not the same, and passes over it. None for a side means that it has no other."""
+    if old is None and new is None:
+        return None
+    key, value, end = old.pair() if old else (b"", b"", 0)
+    other, also, stop = new.pair() if new else (b"", b"", 0)
+    if new is None or (old is not None and key < other):
+        assert old is not None
+        old.at = end
+        return Difference(key, value, None)
+    new.at = stop
+    if old is None or other < key:
+        return Difference(other, None, also)
+    old.at = end
+    return Difference(key, value, also)
 
 
 def merged(before: Iterator[Pair], after: Iterator[Pair]) -> Iterator[Difference]:

@@ -19,8 +19,9 @@ from . import backup, branches, errors, files, frames, hubsocket, outfile
 from .backup import Counts, Loading
 from .batch import Batch
 from .branches import Snapshot
-from .commands import Commands, Data, Version
+from .commands import Commands, Data, Version, data_of
 from .copies import PrivateCopy
+from .edits import Edits
 from .frames import Info, Page, Stat
 from .levels import Levels, read
 from .lock import Lock
@@ -28,7 +29,7 @@ from .merge import Merge, merge
 from .names import Names, remove_names
 from .process import Process, find_program, printed
 from .program import LIMIT, Program
-from .scan import Differences, Scan
+from .scan import Difference, Differences, Scan, differences
 from .view import VersionView
 
 if TYPE_CHECKING:
@@ -101,7 +102,7 @@ class Store:
         """Waits until the program has opened the file, which its first answer tells, and reads the names."""
         program, lock, path, is_copy = self._program, self._lock, self._real, self.read_only
         try:
-            program.call(lambda: frames.stat(program.tag))
+            versions = cast(Stat, program.call(lambda: frames.stat(program.tag))).versions
         except errors.Ended as error:
             raise _explained(error, "open", self._served)
 
@@ -117,7 +118,7 @@ class Store:
 
         # these hold the program and not the store, which is closed where nobody has it any more
         self.names = Names(path + ".names", self.path, count, guard, program.lock)
-        self._commands = Commands(program, self.names, is_copy)
+        self._commands = Commands(program, self.names, is_copy, Edits(versions))
 
     @staticmethod
     def format(path: Path, mem: int, changes: int, versions: int, *, program: Optional[str] = None,
@@ -288,15 +289,43 @@ class Store:
     def diff(self, before: Version, after: Version, *, prefix: Data = b"") -> Differences:
         """The keys that begin with `prefix` and whose values differ between two versions as they are at this call, in order.
 
-        It scans both side by side, in memory of one piece each. Pieces that are the same bytes are not looked into, so few
-        differences cost little more than the reading. It raises what `scan` does, and ends as a scan does.
+        It scans both side by side, in memory of a few pieces each. They are compared as bytes, and pairs are made of what
+        differs alone, so few differences cost little more than the reading. It raises what `scan` does, and ends as a scan does.
+
+        If this store made each version from both up to their common ancestor, it knows the keys that it changed there. Up to
+        1,000 of these are looked up in place of the scans, by this call.
         """
+        known = self._known_differences(self.number(before), self.number(after), prefix)
+        if known is not None:
+            return Differences((), iter(known))
         first = self.scan(before, prefix=prefix)
         try:
-            return Differences(first, self.scan(after, prefix=prefix))
+            second = self.scan(after, prefix=prefix)
+            return Differences((first, second), differences(first, second))
         except BaseException:
             first.close()
             raise
+
+    def _known_differences(self, before: int, after: int, prefix: Data) -> Optional[List[Difference]]:
+        """What differs between two versions, where the keys that may differ are known and few."""
+
+        def parent_of(version: int) -> Optional[int]:
+            try:
+                return self.info(version).parent
+            except errors.UnknownVersion:
+                return None
+
+        with self._program.lock:
+            keys = self._commands.edits.between(before, after, parent_of, data_of(prefix)) if before != after else None
+            if keys is None:
+                return None
+            batch = self.batch()
+            for key in keys:
+                batch.get(before, key)
+                batch.get(after, key)
+            values = cast(List[Optional[bytes]], batch.finish())
+        found = map(Difference, keys, values[::2], values[1::2])
+        return [difference for difference in found if difference.before != difference.after]
 
     def at(self, version: Version) -> VersionView:
         """A version as a mapping: `store.at(3)["k"] = b"v"`."""

@@ -197,10 +197,14 @@ class VersionView(MutableMapping[Data, bytes]):
         """
         with self.store.batch() as batch:
             for pairs in (_pairs_of(other), named.items()):
-                for key, value in pairs:
-                    if not self._has(key):
-                        raise KeyError(key)
-                    batch.put(self.version, key, value)
+                batch.update(self.version, self._checked(pairs) if self.prefix else pairs)
+
+    def _checked(self, pairs: Iterable[Tuple[Any, Any]]) -> Iterator[Tuple[Any, Any]]:
+        """The same pairs, whose keys have to begin with the prefix."""
+        for key, value in pairs:
+            if not self._has(key):
+                raise KeyError(key)
+            yield key, value
 
     def clear(self) -> None:
         """Deletes every key that there is at this call. The answers, one a key, are in memory until its end."""

@@ -12,10 +12,12 @@ import signal
 import sys
 import time
 from typing import Callable, Dict, List, Optional, Tuple
+from unittest import mock
 
 from support import DEADLINE, SHELL
 
-from castle import Store
+from castle import Batch, Store
+from castle.program import Result
 from castle.shell import Shell
 
 CONTROL = re.compile(r"\x1b\[[0-9;?]*[A-Za-z]|\x1b[=>]|\x07|\r")
@@ -32,6 +34,19 @@ def carried_out(store: Store, *lines: str) -> Tuple[str, str, int]:
 def carried_out_alone(store: Store, *words: str) -> Tuple[str, str, int]:
     """Output, complaints and status of one command over such a store."""
     return _told(store, lambda shell: shell.single(words))
+
+
+def carried_out_amid(store: Store, number: int, act: Callable[[], object], *lines: str) -> Tuple[str, int]:
+    """Complaints and status of a script over such a store, where something happens at the end of its batch of this number."""
+    finish, batches = Batch.finish, iter(range(1, 1000))
+
+    def finished(batch: Batch) -> List[Result]:
+        if next(batches) == number:
+            act()
+        return finish(batch)
+
+    with mock.patch.object(Batch, "finish", finished):
+        return carried_out(store, *lines)[1:]
 
 
 def _told(store: Store, act: Callable[[Shell], int]) -> Tuple[str, str, int]:

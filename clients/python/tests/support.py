@@ -9,9 +9,11 @@ import signal
 import subprocess
 import sys
 import tempfile
+import threading
 import time
 import traceback
 import unittest
+import warnings
 from typing import Any, Callable, Dict, Iterator, List, Optional, Tuple
 from unittest import mock
 
@@ -21,6 +23,7 @@ PRETENDER = str(pathlib.Path(__file__).resolve().parent / "pretender")
 PACKAGE = str(TOP / "clients" / "python")
 DEADLINE = 120  # seconds that a run of the shell may take
 CHILD = 20  # seconds that a child may take
+THREADS = 60  # seconds that the threads of a test may take
 NOBODY = 65534  # the number of a user and a group without rights
 
 sys.path.insert(0, PACKAGE)
@@ -127,6 +130,50 @@ def in_child(run: Callable[[], object], limit: int = CHILD, fork: Callable[[], i
         finally:
             os._exit(status)
     return pid
+
+
+class Threads:
+    """Functions that run side by side, each in a thread, and what goes wrong in them."""
+
+    def __init__(self, *runs: Callable[[], object]) -> None:
+        self.errors: List[BaseException] = []
+        self._threads = [threading.Thread(target=self._run, args=(run,), daemon=True) for run in runs]
+        for thread in self._threads:
+            thread.start()
+
+    def _run(self, run: Callable[[], object]) -> None:
+        try:
+            run()
+        except BaseException as error:
+            self.errors.append(error)
+
+    @property
+    def are_alive(self) -> bool:
+        """Whether one of them runs still."""
+        return any(thread.is_alive() for thread in self._threads)
+
+    def join(self) -> List[BaseException]:
+        """Waits for all, and gives what went wrong."""
+        deadline = time.monotonic() + THREADS
+        for thread in self._threads:
+            thread.join(max(0.0, deadline - time.monotonic()))
+        hung = sum(thread.is_alive() for thread in self._threads)
+        return self.errors + [TimeoutError(f"{hung} threads hang")] * bool(hung)
+
+
+def quiet(case: unittest.TestCase) -> None:
+    """Has a test pass over the warnings of stores that nobody closed, until it ends."""
+    kept = warnings.catch_warnings()
+    kept.__enter__()
+    case.addCleanup(kept.__exit__, None, None, None)
+    warnings.simplefilter("ignore", ResourceWarning)
+
+
+def on_signal(case: unittest.TestCase, handle: Callable[..., object]) -> None:
+    """Has SIGALRM call this, until the test ends."""
+    before = signal.signal(signal.SIGALRM, handle)
+    case.addCleanup(signal.signal, signal.SIGALRM, before)
+    case.addCleanup(signal.setitimer, signal.ITIMER_REAL, 0)
 
 
 class StoreCase(unittest.TestCase):

@@ -1,7 +1,5 @@
 """Whole stores as text: what is loaded is what was dumped, under the same numbers, and nothing that is cut off is loaded."""
 
-import contextlib
-import io
 import os
 import random
 import signal
@@ -12,11 +10,10 @@ from datetime import datetime, timezone
 from typing import Callable, Dict, Iterator, List, Optional, Tuple
 from unittest import mock
 
-from session import carried_out
-from support import DEADLINE, SHELL, StoreCase
+from session import carried_out, carried_out_amid
+from support import DEADLINE, SHELL, StoreCase, Threads
 
-from castle import Batch, Counts, Name, Store, backup, errors
-from castle.shell import Shell
+from castle import Counts, Name, Store, backup, errors
 from castle.text import unescaped
 
 Pairs = Dict[bytes, bytes]
@@ -306,17 +303,7 @@ class CutOffTest(BackupCase):
 
     def in_window(self, store: Store, number: int, act: Callable[[], object]) -> Tuple[str, int]:
         """Complaints and status of a shell that loads `many`, where something happens amid the window of this number."""
-        finish, windows, complaints = Batch.finish, iter(range(1, 1000)), io.StringIO()
-
-        def finished(batch: Batch) -> object:
-            if next(windows) == number:
-                act()
-            return finish(batch)
-
-        path = self.many()
-        with mock.patch.object(Batch, "finish", finished), contextlib.redirect_stderr(complaints):
-            status = Shell(store, io.StringIO()).script([f"load --all {path}\n", "put a 1\n"])
-        return complaints.getvalue(), status
+        return carried_out_amid(store, number, act, f"load --all {self.many()}", "put a 1")
 
     def test_ctrl_c_stops_a_load_behind_a_window(self) -> None:
         store = self.fresh(100000)
@@ -370,14 +357,14 @@ class CutOffTest(BackupCase):
                 if turn % 10 == 0 and turn < 500:
                     store.snapshot("work", f"s{turn}")
 
-        thread = threading.Thread(target=work)
-        thread.start()
+        thread = Threads(work)
         try:
             for _ in range(10):
                 read(carried_out(store, "dump --all")[0])  # fails where counts or names do not agree
         finally:
             stops.set()
-            thread.join()
+            failed = thread.join()
+        self.assertEqual(failed, [])
 
 
 class RandomTest(BackupCase):

@@ -3,14 +3,17 @@
 import itertools
 import os
 import random
+import struct
 import threading
-from typing import Dict, List, Optional, Set, Tuple, Type
+from array import array
+from typing import Dict, List, Optional, Sequence, Set, Tuple, Type
 
 from support import StoreCase, is_gone
 
-from castle import Info, Page, Scan, Stat, errors
+from castle import Info, Page, Scan, Stat, errors, frames
 from castle.errors import Refused
 from castle.frames import Pair
+from castle.program import Heard
 
 PIECE = 256  # pairs that a scan reads at a time
 
@@ -103,6 +106,11 @@ class Reading:
         self.is_open = False
 
 
+def kinds_told(results: Sequence[object]) -> List[object]:
+    """Results with the class and the text in the place of each error."""
+    return [(type(result), str(result)) if isinstance(result, errors.CastleError) else result for result in results]
+
+
 def kinds(results: List[object]) -> List[object]:
     """Results with the class in the place of each refusal."""
     return [type(result) if isinstance(result, Refused) else result for result in results]
@@ -179,6 +187,59 @@ class BatchTest(StoreCase):
                               errors.ScanSize, errors.KeySize, errors.ValueSize, errors.UnknownVersion, errors.KeySize, b"1"])
         with self.assertRaises(TypeError):
             store.batch(return_exceptions=True).put(0, 5, b"")  # type: ignore[arg-type]
+
+    def test_an_update_puts_as_single_puts_do(self) -> None:
+        store = self.made(256, 100000, 10)
+        store.clone(0)
+        long, pairs = b"k" * 2100, [(b"%05d" % number, b"%d" % number) for number in range(1300)]
+        given = [*pairs[:700], ("text", "é"), (bytearray(b"b"), memoryview(b"m")), (memoryview(array("H", [97, 98])), b"h"), *pairs[700:900],
+                 (long, b""), (b"a", long), (b"", b"1"), (b"k" * 256, b""), [b"list", b"1"], *pairs[900:]]
+        for kind in (list, tuple, iter):
+            for version in (1, 0, 5, -1, "none"):
+                one, all_at_once = store.batch(return_exceptions=True), store.batch(return_exceptions=True)
+                for key, value in given:
+                    one.put(version, key, value)
+                all_at_once.update(version, kind(given))
+                self.assertEqual(kinds_told(all_at_once.finish()), kinds_told(one.finish()))
+        self.assertEqual(sum(result is None for result in all_at_once.results), 0)
+        self.assertEqual(dict(store.scan(1)), {**dict(pairs), b"text": "é".encode(), b"b": b"m", b"a\0b\0": b"h", b"list": b"1"})
+        again = store.batch()
+        again.update(1, {key: b"again" for key, _ in pairs}.items())
+        self.assertEqual((again.finish(), store.get(1, "00000")), ([None] * 1300, b"again"))
+
+    def test_an_update_ends_at_what_is_no_pair(self) -> None:
+        store = self.made(256, 100000, 20)
+        pairs = [(b"%05d" % number, b"") for number in range(600)]
+        for wrong, error in ((5, TypeError), ((b"a",), ValueError), ((b"a", b"b", b"c"), ValueError), ((b"a", 5), TypeError), (b"ab", TypeError)):
+            for kind in (list, iter):
+                version, batch = store.clone(0), store.batch()
+                with self.assertRaises(error):
+                    batch.update(version, kind([*pairs, wrong, (b"behind", b"")]))
+                self.assertEqual(batch.finish(), [None] * 600)
+                self.assertEqual([key for key, _ in store.scan(version)], [key for key, _ in pairs])
+
+    def test_what_gives_the_pairs_of_an_update_may_use_the_store(self) -> None:
+        store = self.made()
+        with store.batch() as batch:
+            batch.update(0, ((key, (store.get(0, key) or b"") + b"x") for key in ("a", "b", "a", "a")))
+        self.assertEqual(dict(store.scan(0)), {b"a": b"xxx", b"b": b"x"})
+
+    def test_a_reply_amid_many_that_is_not_its_commands_is_told(self) -> None:
+        program = self.made()._program
+        commands, right = [frames.put(2 + number, 0, b"a", b"") for number in range(20)], frames.dones(2, 20)
+        for place in range(20):
+            tag = struct.pack(">I", 2 + place)
+            for length, told, status, behind in ((5, tag, 0, b""), (5, b"\0\0\1\0", 0, b""), (5, tag, 7, b""), (4, tag, 0, b""), (5, tag, 0, b"x")):
+                fault = struct.pack(">I4sB", length, told, status)
+                wrong = right[:9 * place] + fault + right[9 * place + 9:] + behind
+                answers, _, done, what = program._parsed(Heard(2, commands, 0, b"", [wrong], [], iter(())))
+                if (length, told, status, behind) == (5, tag, 0, b""):
+                    self.assertEqual((answers, done, what), ([None] * 20, 20, ""))
+                elif behind:
+                    self.assertEqual((answers, what), ([None] * 20, "a reply came that is to no command"))
+                else:
+                    self.assertTrue(what)
+                    self.assertIn(len(answers), (place, place + (length == 4)))
 
     def test_results_may_be_taken_away_while_a_batch_is_filled(self) -> None:
         store, got = self.made(), []  # type: ignore[var-annotated]

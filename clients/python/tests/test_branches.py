@@ -3,11 +3,12 @@
 import os
 import signal
 import threading
+from functools import partial
 from typing import Callable, Dict, List, Optional, Tuple
 from unittest import mock
 
 from session import Session, carried_out, untimed
-from support import StoreCase
+from support import StoreCase, Threads
 
 from castle import Snapshot, Store, errors
 from castle.names import Names
@@ -130,11 +131,7 @@ class SnapshotTest(StoreCase):
             for turn in range(5):
                 made[f"s{thread}.{turn}"] = store.snapshot("work", f"s{thread}.{turn}")
 
-        threads = [threading.Thread(target=work, args=(number,)) for number in range(4)]
-        for thread in threads:
-            thread.start()
-        for thread in threads:
-            thread.join()
+        self.assertEqual(Threads(*(partial(work, number) for number in range(4))).join(), [])
         self.assertEqual(sorted(made.values()), [Snapshot(version, version + 1) for version in range(1, 21)])
         self.assertEqual(dict(store.names), {"work": 21, **{name: it.version for name, it in made.items()}})
 

@@ -7,10 +7,11 @@ import os
 import pickle
 import signal
 import threading
+from functools import partial
 from typing import Callable, List
 from unittest import mock
 
-from support import CHILD, StoreCase, in_child, is_gone
+from support import CHILD, StoreCase, Threads, in_child, is_gone
 
 from castle import Store, errors
 
@@ -159,17 +160,13 @@ class ForkTest(StoreCase):
                 if found != b"value %d" % number:
                     wrong.append((number, found))
 
-        threads = [threading.Thread(target=look, args=(first,)) for first in range(3)]
-        for thread in threads:
-            thread.start()
+        threads = Threads(*(partial(look, first) for first in range(3)))
         try:
             for _ in range(20):
                 self.waited(in_child(lambda: self.refused(store)))
         finally:
             stop.set()
-        for thread in threads:
-            thread.join(CHILD)
-        self.assertEqual(wrong, [])
+        self.assertEqual((threads.join(), wrong), ([], []))
 
     def test_locks_that_threads_have_at_a_fork_hold_up_no_child(self) -> None:
         store = self.filled()
@@ -180,33 +177,27 @@ class ForkTest(StoreCase):
                 has.set()
                 go.wait(CHILD)
 
-        thread = threading.Thread(target=hold)
-        thread.start()
+        thread = Threads(hold)
         has.wait(CHILD)
         pid = in_child(lambda: self.refused(store))
         self.waited(pid)
         go.set()
-        thread.join(CHILD)
+        self.assertEqual(thread.join(), [])
         self.assertEqual((store.get(0, "k1"), len(list(self.scan))), (b"value 1", 344))
 
     def test_a_fork_amid_an_opening_keeps_no_store_open(self) -> None:
         self.made().close()
-        failed: List[BaseException] = []
         pids: List[int] = []
 
         def open_and_close() -> None:
-            try:
-                for _ in range(20):
-                    Store(self.path).close()
-            except BaseException as error:
-                failed.append(error)
+            for _ in range(20):
+                Store(self.path).close()
 
         holds, waits = os.pipe()
-        thread = threading.Thread(target=open_and_close)
-        thread.start()
-        while thread.is_alive() and len(pids) < 100:
+        thread = Threads(open_and_close)
+        while thread.are_alive and len(pids) < 100:
             pids.append(in_child(lambda: os.read(holds, 1) and None))
-        thread.join(CHILD)
+        failed = thread.join()
         os.close(waits)
         os.write(os.open(f"/proc/self/fd/{holds}", os.O_WRONLY), b"x" * len(pids))
         for pid in pids:

@@ -1,6 +1,7 @@
 """Frames against the examples of docs/PROTOCOL.md."""
 
 import re
+import struct
 import unittest
 
 from support import TOP
@@ -37,6 +38,16 @@ class FramesTest(unittest.TestCase):
                 "Info": Info(None, 0, True), "Opened": 1, "Stat": Stat(2, 1, 2, 0)}
         for name, answer in want.items():
             self.assertEqual(frames.answer(told[name][8], told[name][9:]), answer, name)
+
+    def test_many_puts_have_the_bytes_of_each(self) -> None:
+        pairs = [(b"a", b"1"), (b"", b""), (b"k" * 255, b"v" * 1024), (b"k" * 65535, b"v" * (frames.BODY_MAX - 1))]
+        for tag in (0, 7, frames.NUMBER_MAX - 2):
+            tags = [tag + place & frames.NUMBER_MAX for place in range(len(pairs))]
+            self.assertEqual(frames.puts(tag, 3, pairs), [frames.put(number, 3, *pair) for number, pair in zip(tags, pairs)])
+
+    def test_replies_that_many_are_done_are_those_of_each(self) -> None:
+        for tag, count in ((0, 300), (7, 1), (7, 0), (65000, 1000), (2 ** 24 - 3, 6), (frames.NUMBER_MAX - 1, 2)):
+            self.assertEqual(frames.dones(tag, count), b"".join(struct.pack(">IIB", 5, tag + place, 0) for place in range(count)))
 
     def test_commands_are_described(self) -> None:
         self.assertEqual(frames.describe(frames.put(1, 3, b"a b", b"v")), 'put "a b" at version 3')

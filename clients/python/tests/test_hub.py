@@ -8,7 +8,6 @@ import signal
 import socket
 import struct
 import time
-import warnings
 from pathlib import Path
 from typing import List, Tuple
 from unittest import mock
@@ -19,7 +18,7 @@ import test_scan
 import test_store
 import test_threads
 from hubs import PATIENCE, HubCase, OverHub, Raw, Reply, child_of, has_come, puts
-from support import in_child, stop
+from support import in_child, quiet, stop
 from test_interrupts import interrupted
 
 from castle import Stat, Store, errors, frames
@@ -324,6 +323,15 @@ class InterfaceTest(HubCase):
             del store, scan
         self.assertEqual(other.stat().cursors, 0)
 
+    def test_differences_have_what_other_clients_changed(self) -> None:
+        self.served()
+        one, other = self.client(), self.client()
+        made = one.clone(0)
+        one.put(made, "a", "1")
+        other.put(made, "b", "2")
+        for store in (one, other):
+            self.assertEqual([tuple(found) for found in store.diff(0, made)], [(b"a", None, b"1"), (b"b", None, b"2")])
+
     def test_the_shell_speaks_over_a_hub(self) -> None:
         self.served()
         out, said, status = self.shell("put a 1\nclone\nput a 2 @1\ndiff 0 1\nclone staging\n", path=self.address)
@@ -339,10 +347,7 @@ class StepsOverHubTest(HubCase):
 
     def setUp(self) -> None:
         super().setUp()
-        quiet = warnings.catch_warnings()
-        quiet.__enter__()
-        self.addCleanup(quiet.__exit__, None, None, None)
-        warnings.simplefilter("ignore", ResourceWarning)
+        quiet(self)
         self.served()
         self.other = self.client()
 

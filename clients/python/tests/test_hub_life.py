@@ -10,13 +10,12 @@ import socket
 import struct
 import subprocess
 import sys
-import threading
 import time
-from typing import Any, List
+from typing import Any
 from unittest import mock
 
 from hubs import HUB, PATIENCE, HubCase, Raw, Reply, child_of, has_come, puts
-from support import PRETENDER, is_gone, stop, unprivileged
+from support import PRETENDER, Threads, is_gone, stop, unprivileged
 
 from castle import Store, errors, frames, hub
 from castle.errors import CastleError
@@ -264,20 +263,12 @@ class EndTest(HubCase):
 
     def test_a_program_that_is_killed_is_told_to_each_client_that_waits(self) -> None:
         self.served()
-        store, idle, told = self.client(), self.client(), []  # type: Store, Store, List[CastleError]
-
-        def put() -> None:
-            try:
-                store.put(0, "waits", "1")
-            except CastleError as error:
-                told.append(error)
-
+        store, idle = self.client(), self.client()
         program, clients = self.waiting(*(frames.put(tag, 0, b"%d" % tag, b"v") for tag in range(3)))
-        thread = threading.Thread(target=put)
-        thread.start()
+        waiting = Threads(lambda: store.put(0, "waits", "1"))
         self.assertTrue(has_come(program, sum(len(frames.put(tag, 0, b"0", b"v")) for tag in range(3)) + 1))
         os.kill(program, signal.SIGKILL)
-        thread.join()
+        told = waiting.join()
         cause = 128 + signal.SIGKILL
         self.assertEqual([client.replies(2) for client in clients],
                          [[Reply(tag, UNANSWERED, struct.pack(">H", cause)), None] for tag in range(3)])

@@ -7,12 +7,10 @@ import pathlib
 import random
 import signal
 import sys
-import threading
-import warnings
 from types import FrameType
 from typing import Any, Callable, Dict, Iterator, List, Optional, Set, Tuple
 
-from support import PACKAGE, StoreCase, alarm_amid
+from support import PACKAGE, StoreCase, Threads, alarm_amid, on_signal, quiet
 
 from castle import Batch, Scan, Store, errors
 
@@ -76,10 +74,7 @@ class StepsTest(StoreCase):
 
     def setUp(self) -> None:
         super().setUp()
-        quiet = warnings.catch_warnings()
-        quiet.__enter__()
-        self.addCleanup(quiet.__exit__, None, None, None)
-        warnings.simplefilter("ignore", ResourceWarning)
+        quiet(self)
 
     def steps(self, call: Callable[[int], object], names: str, opcodes: bool = False, least: int = 10, stride: int = 1) -> Iterator[int]:
         """Runs this again and again, interrupted a stride later each time, until it comes to its end."""
@@ -192,10 +187,7 @@ class StepsTest(StoreCase):
                     self.assertIsNone(store.get(0, "a"), f"at {at}")
         gc.collect()
         self.assertEqual(len(os.listdir("/proc/self/fd")), len(before))
-        thread = threading.Thread(target=lambda: Store(self.path).close())  # no lock of all stores is left taken
-        thread.start()
-        thread.join(30)
-        self.assertFalse(thread.is_alive())
+        self.assertEqual(Threads(lambda: Store(self.path).close()).join(), [])  # no lock of all stores is left taken
 
     def test_names_that_are_interrupted_at_any_step_are_the_old_or_the_new_ones(self) -> None:
         store = self.made()
@@ -242,9 +234,7 @@ class SignalsTest(StoreCase):
         def handle(*_: object) -> None:
             raise kind
 
-        before = signal.signal(signal.SIGALRM, handle)
-        self.addCleanup(signal.signal, signal.SIGALRM, before)
-        self.addCleanup(signal.setitimer, signal.ITIMER_REAL, 0)
+        on_signal(self, handle)
         for kind in (TimeoutError, ZeroDivisionError, MemoryError, OSError, KeyboardInterrupt, SystemExit):
             scan = store.scan(0)
             for call in (lambda: store.get(0, "a"), lambda: next(scan)):
@@ -291,8 +281,7 @@ class SignalsTest(StoreCase):
                 if found not in unsure.get(key, [plain.get(key)]):
                     raise AssertionError(f"{key!r} has {found!r} in a scan")
 
-        before = signal.signal(signal.SIGALRM, interrupt)
-        self.addCleanup(signal.signal, signal.SIGALRM, before)
+        on_signal(self, interrupt)
         # one that comes amid the end of an object, whose cursor is then closed with the store, is not raised by Python
         self.addCleanup(setattr, sys, "unraisablehook", sys.unraisablehook)
         sys.unraisablehook = lambda _: None

@@ -56,6 +56,13 @@ class FormTest(StoreCase):
         self.assertIn("line 1: standard input is where the commands come from. Name a file, or run castle-shell STORE load -.",
                       self.shell("load --csv -\na,1\n")[1])
 
+    def told_of(self, store: Store, line: str, *parts: str) -> None:
+        """Has a load carried out that fails, with these parts of a complaint."""
+        out, complaint, status = carried_out(store, line)
+        self.assertEqual((out, status), ("", 1))
+        for part in parts:
+            self.assertIn(part, complaint)
+
     def test_a_bad_line_is_told_with_what_was_put_before_it(self) -> None:
         store = self.made(64, 100000, 1000)
         many = "".join(f"{number:03},v\n" for number in range(300))
@@ -65,10 +72,7 @@ class FormTest(StoreCase):
                            ('"a" b,1', "line 301 is no CSV: "), ('"a', "line 301 is no CSV: ")):
             version = store.clone(0)
             file = self.written("bad.csv", f"{many}{line}\n")
-            out, complaint, status = carried_out(store, f"load --csv {file} @{version}")
-            self.assertEqual((out, status), ("", 1))
-            self.assertIn(f"castle-shell: line 1: {file}: {what}", complaint)
-            self.assertIn("; 300 pairs before it were put. ", complaint)
+            self.told_of(store, f"load --csv {file} @{version}", f"castle-shell: line 1: {file}: {what}", "; 300 pairs before it were put. ")
             self.assertEqual(len(store.at(version)), 300)
 
     def test_a_line_that_is_no_pair_of_json_is_told(self) -> None:
@@ -81,10 +85,7 @@ class FormTest(StoreCase):
                            ('{"key": {"hex": "ff", "x": 1}, "value": ""}', "has a key that"), ('{"key": "\\ud800", "value": ""}', "has a key that"),
                            ('{"key": "", "value": ""}', "has a key of 0 bytes")):
             file = self.written("bad.json", f"{good}\n{line}\n{good}")
-            out, complaint, status = carried_out(store, f"load --json-lines {file}")
-            self.assertEqual((out, status), ("", 1))
-            self.assertIn(f"bad.json: line 3 {what}", complaint)
-            self.assertIn("; 1 pair before it was put. ", complaint)
+            self.told_of(store, f"load --json-lines {file}", f"bad.json: line 3 {what}", "; 1 pair before it was put. ")
 
     def test_one_form_is_given_at_most(self) -> None:
         self.made().close()

@@ -12,7 +12,7 @@ from pathlib import Path
 from typing import Any, List, Union
 from unittest import mock
 
-from support import PACKAGE, PRETENDER, StoreCase, in_child, is_gone, stop, unprivileged
+from support import PACKAGE, PRETENDER, StoreCase, in_child, is_gone, on_signal, stop, unprivileged
 
 from castle import Store, errors
 from castle.process import find_program
@@ -282,10 +282,8 @@ class GarbageTest(StoreCase):
                 signal.setitimer(signal.ITIMER_REAL, 0)
                 raise KeyboardInterrupt
 
-        before = signal.signal(signal.SIGALRM, interrupt)
-        self.addCleanup(signal.signal, signal.SIGALRM, before)
+        on_signal(self, interrupt)
         signal.setitimer(signal.ITIMER_REAL, 0.05, 0.05)
-        self.addCleanup(signal.setitimer, signal.ITIMER_REAL, 0)
         with self.assertRaises(KeyboardInterrupt):
             Store(self.path, program=stub)
         self.assertTrue(is_gone(int(self.bytes_of("a.store.child"))))

@@ -175,7 +175,8 @@ class MergeTest(PartedCase):
         self.assertEqual(store.stat().versions, 3)
 
     def test_a_merge_that_ends_amid_its_changes_leaves_the_names(self) -> None:
-        store, finish = self.parted(), Batch.finish
+        self.parted().close()
+        store, finish = self.opened(), Batch.finish  # it looks up no edits that it knows of, by a batch of their own
 
         def failing(batch: Batch) -> object:
             finish(batch)

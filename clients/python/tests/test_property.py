@@ -16,10 +16,11 @@ import tempfile
 import threading
 import traceback
 import warnings
+from functools import partial
 from typing import Any, Callable, Dict, Iterator, List, NoReturn, Optional, Tuple
 from unittest import mock
 
-from support import StoreCase, in_child, is_gone
+from support import StoreCase, Threads, in_child, is_gone
 
 from castle import CastleError, Scan, Store, errors
 
@@ -324,33 +325,26 @@ class World:
         it = self.living()
         if it is None or it.store is None:
             return
-        store, version, failed = it.store, self.chance.choice(it.file.ends()), []  # type: Any, int, List[str]
+        store, version = it.store, self.chance.choice(it.file.ends())  # type: Any, int
         forks = self.chance.random() < 0.5
 
         def work(mine: List[bytes], seed: int, plain: Pairs) -> None:
             chance = random.Random(seed)
-            try:
-                for turn in range(12):
-                    key = chance.choice(mine)
-                    if chance.random() < 0.4:
-                        plain[key] = b"%d/%d" % (seed, turn)
-                        store.put(version, key, plain[key])
-                    expect(store.get(version, key) == plain.get(key), "a get of a thread")
-                    expect({key: value for key, value in store.scan(version) if key in mine}
-                           == {key: value for key, value in plain.items() if key in mine}, "a scan of a thread")
-            except BaseException:
-                failed.append(traceback.format_exc())
+            for turn in range(12):
+                key = chance.choice(mine)
+                if chance.random() < 0.4:
+                    plain[key] = b"%d/%d" % (seed, turn)
+                    store.put(version, key, plain[key])
+                expect(store.get(version, key) == plain.get(key), "a get of a thread")
+                expect({key: value for key, value in store.scan(version) if key in mine}
+                       == {key: value for key, value in plain.items() if key in mine}, "a scan of a thread")
 
         plains = [dict(it.file.versions[version]) for _ in range(3)]
         parts = [KEYS[number::3] for number in range(3)]
-        running = [threading.Thread(target=work, args=(parts[number], self.chance.randrange(10**6), plains[number]), daemon=True)
-                   for number in range(3)]
-        for thread in running:
-            thread.start()
+        running = Threads(*(partial(work, part, self.chance.randrange(10**6), plain) for part, plain in zip(parts, plains)))
         if forks:
             self.fork()
-        for thread in running:
-            thread.join()
+        failed = [line for error in running.join() for line in traceback.format_exception(type(error), error, error.__traceback__)]
         expect(not failed, "".join(failed))
         for part, plain in zip(parts, plains):
             for key in part:

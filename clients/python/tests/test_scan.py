@@ -330,6 +330,8 @@ class CursorTest(Filled):
         store = self.three_pieces()
         store.names["next"] = store.clone(0)
         store.put("next", "0000", "other")
+        store.close()
+        store = self.opened()  # which knows of no edits, and so has to scan
         found = store.diff(0, "next")
         self.assertEqual((self.cursors(store), next(found).key, self.cursors(store)), (2, b"0000", 2))
         found.close()

@@ -10,11 +10,11 @@ import sys
 from typing import Callable, List, Tuple
 from unittest import mock
 
-from session import carried_out, untimed
+from session import carried_out, carried_out_amid, untimed
 from support import DEADLINE, SHELL, TOP, StoreCase, comes_to, unprivileged
 
 import castle
-from castle import Batch, Store
+from castle import Store
 from castle.cli import main
 from castle.loading import WINDOW
 from castle.process import find_program
@@ -282,17 +282,7 @@ class ScanningTest(StoreCase):
 
     def in_piece(self, store: Store, number: int, act: Callable[[], None]) -> Tuple[str, int]:
         """Complaints and status of a shell that loads many.dump, where something happens amid the piece of this number."""
-        finish, pieces = Batch.finish, iter(range(1, 1000))
-
-        def finished(batch: Batch) -> object:
-            if next(pieces) == number:
-                act()
-            return finish(batch)
-
-        complaints = io.StringIO()
-        with mock.patch.object(Batch, "finish", finished), contextlib.redirect_stderr(complaints):
-            status = Shell(store, io.StringIO()).script([f"load {self.folder}/many.dump\n", "put a 1\n"])
-        return complaints.getvalue(), status
+        return carried_out_amid(store, number, act, f"load {self.folder}/many.dump", "put a 1")
 
     def test_ctrl_c_stops_a_script_behind_a_line(self) -> None:
         with self.made() as store:

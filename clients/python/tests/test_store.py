@@ -8,7 +8,7 @@ from pathlib import Path
 from typing import Any
 from unittest import mock
 
-from support import StoreCase, alarm_amid
+from support import StoreCase, alarm_amid, on_signal
 
 from castle import Info, Stat, Store, errors
 
@@ -96,8 +96,7 @@ class CommandsTest(StoreCase):
         def interrupt(*_: object) -> None:
             raise KeyboardInterrupt
 
-        before = signal.signal(signal.SIGALRM, interrupt)
-        self.addCleanup(signal.signal, signal.SIGALRM, before)
+        on_signal(self, interrupt)
         # the first is sent, and those behind it wait for its reply and are not
         for call in (lambda: store.put(0, "a", "2"), lambda: store.get(0, "b"), lambda: store.clone(0)):
             with alarm_amid(store), self.assertRaises(KeyboardInterrupt):

@@ -10,35 +10,9 @@ import threading
 import time
 from typing import Any, Callable, Dict, List, Optional, Tuple, Type
 
-from support import StoreCase, alarm_amid
+from support import StoreCase, Threads, alarm_amid
 
 from castle import Store, errors
-
-DEADLINE = 60  # seconds that the threads of a test may take
-
-
-class Threads:
-    """Functions that run side by side, each in a thread, and what goes wrong in them."""
-
-    def __init__(self, *runs: Callable[[], object]) -> None:
-        self.errors: List[BaseException] = []
-        self.threads = [threading.Thread(target=self._run, args=(run,), daemon=True) for run in runs]
-        for thread in self.threads:
-            thread.start()
-
-    def _run(self, run: Callable[[], object]) -> None:
-        try:
-            run()
-        except BaseException as error:
-            self.errors.append(error)
-
-    def join(self) -> List[BaseException]:
-        """Waits for all, and gives what went wrong."""
-        deadline = time.monotonic() + DEADLINE
-        for thread in self.threads:
-            thread.join(max(0.0, deadline - time.monotonic()))
-        hung = [thread for thread in self.threads if thread.is_alive()]
-        return self.errors + [TimeoutError(f"{len(hung)} threads hang")] * bool(hung)
 
 
 class ThreadsTest(StoreCase):
