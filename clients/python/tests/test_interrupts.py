@@ -177,6 +177,21 @@ class StepsTest(StoreCase):
             at += 2
         self.assertGreater(at, 20)
 
+    def test_an_update_that_is_interrupted_at_any_step_puts_all_of_a_window_or_none(self) -> None:
+        store, batches, had = self.made(64, 100000, 10), [], (None, None)  # type: Store, List[Batch], Any
+
+        def call(at: int) -> None:
+            batches.append(store.batch())
+            batches[-1].update(0, [(b"a", b"%d" % at), (b"b", b"%d" % at)])
+            batches[-1].finish()
+
+        for at in self.steps(call, "program commands frames", opcodes=True, least=50):
+            results = batches[-1].finish()
+            self.assertIn(results, ([], [None, None]), f"at {at}")
+            want = (b"%d" % at, b"%d" % at) if results else had
+            had = store.get(0, "a"), store.get(0, "b")
+            self.assertEqual(had, want, f"at {at}")
+
     def test_an_opening_that_is_interrupted_at_any_step_frees_all(self) -> None:
         self.made().close()
         before = os.listdir("/proc/self/fd")
