@@ -37,7 +37,9 @@ def calls_of(folder, words, pieces=()):
         raise Skipped(f"strace cannot run a program: {said.decode().strip()}")
     calls = []
     for name, fields in re.findall(r"^(write|pwrite64|fdatasync)\((.*)\) += \d+$", bytes_of(log).decode(), re.M):
-        _, *fields = fields.split(", ")
+        stream, *fields = fields.split(", ")
+        if name == "write" and stream == "2":
+            continue  # what the program says of its end
         if name == "fdatasync":
             calls.append(("sync", None, None))
             continue

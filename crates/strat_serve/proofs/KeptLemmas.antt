@@ -1,5 +1,5 @@
 -- A serving run while replies are pending.
-use Rattle.std.proofs.Common.{◌≡◌, ◌≤◌, ℕ, ◌+◌, true, List, [], ◌++◌, length, Option, Some, None, refl, sym, ap, subst, ◌∙◌, inl, inr, arith}
+use Rattle.std.proofs.Common.{◌≡◌, ◌≤◌, ℕ, ◌+◌, true, List, [], ◌++◌, Option, Some, None, refl, sym, subst, inl, inr}
 use Rattle.strat_base.specs.Numbers.{AreBytes}
 use Rattle.strat_base.specs.declared.failures.Fault.{Fault}
 use Rattle.strat_io.specs.Streams.{Appends}

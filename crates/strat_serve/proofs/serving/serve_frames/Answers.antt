@@ -7,7 +7,7 @@ use Rattle.strat_io.specs.Streams.{Appends}
 use Rattle.strat_model.specs.declared.ended.Ended.TheVariants as ended
 use Rattle.strat_model.specs.Stream.{is_partial}
 use Rattle.def_crash.proofs.MomentLemmas.{passes_trans, passes_refl}
-use Rattle.strat_serve.specs.Pending.{Pending, SendsAtEnd, none_pending}
+use Rattle.strat_serve.specs.Pending.{Pending}
 use Rattle.strat_serve.specs.Progress.{Meets, ServesPending, ServesSoFar, waiting}
 use Rattle.strat_serve.specs.Session.{HasOpened, Took, too_long_bytes}
 use Rattle.strat_serve.specs.World.{Streams, World, world}
