@@ -104,7 +104,7 @@ class Scan(Reading[Pair]):
 
     def count(self) -> int:
         """How many pairs follow. They are read, and not looked at."""
-        pieces, count = Pieces([self]), 0
+        pieces, count = Pieces([self], 1), 0
         while True:
             piece = pieces.next(0)
             if not piece:
@@ -128,8 +128,9 @@ class Pieces:
 
     AHEAD = 4  # pieces of each scan that are asked for, and not taken, at most
 
-    def __init__(self, scans: Sequence[Scan]) -> None:
+    def __init__(self, scans: Sequence[Scan], most: int = AHEAD) -> None:
         self._scans = scans
+        self._most = most
         self._program = scans[0]._program
         self._ahead = 1
         self._asked: Deque[int] = deque()  # whose piece each reply to come is
@@ -151,7 +152,7 @@ class Pieces:
                 if scan._more and self._asked.count(place) + len(self._pieces[place]) < self._ahead:
                     self._program.send(self._sink, scan._commands.next_whole, scan._number(), frames.PAGE_MAX)
                     self._asked.append(place)
-        self._ahead = min(self.AHEAD, self._ahead + 1)
+        self._ahead = min(self._most, self._ahead + 1)
 
     def _take(self, left: int) -> None:
         """Waits until no more than so many replies are to come, and takes those that came."""
