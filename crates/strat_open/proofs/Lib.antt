@@ -6,4 +6,5 @@ pub mod OtherLemmas
 pub mod RedoLemmas
 pub mod RecoverLemmas
 pub mod OpenLemmas
+pub mod SeveralLemmas
 pub mod ReadingLemmas

@@ -179,7 +179,7 @@ module _ (before synced read now : DiskView) (r : OpenStore) (syncs : OnlyReads 
   gate_alone : (f : Image) → Exposes before f → ChangesGateAlone before now f r.slot (super_of r.sb)
   gate_alone f exposed = record { newest = (found f exposed).newest; images = at_gate f exposed }
 
-  from_opening : (f : Image) (t : Table) → Exposes before f → ShowsTable f t → FollowsFrom before now f (t ∷ []) 0
+  pub from_opening : (f : Image) (t : Table) → Exposes before f → ShowsTable f t → FollowsFrom before now f (t ∷ []) 0
   from_opening f t exposed shows =
       let there : synced.content ≡ Some f = syncs.same ∙ exposed in
       let is = found f exposed in

@@ -7,19 +7,21 @@ ghost use Rattle.strat_base.specs.Change.{is_lawful};
 ghost use Rattle.strat_base.specs.declared.failures.Trouble.TheVariants.{Damaged, Device};
 ghost use Rattle.def_crash.specs.Faults.{CountsFaults, HasCause, ReadsAtMost};
 ghost use Rattle.def_crash.specs.Image.{Image};
-ghost use Rattle.def_crash.specs.Moments.{Exposes, Since, Passes, TearsOnly, KeepsImages, IsDurable, OnlyReads};
+ghost use Rattle.def_crash.specs.Moments.{Exposes, Images, Since, Passes, TearsOnly, KeepsImages, IsDurable, OnlyReads};
 ghost use Rattle.strat_cursor.specs.Held.{no_cursors};
 ghost use Rattle.def_bytes.specs.Chain.{chain_length};
 ghost use Rattle.def_bytes.specs.Chained.{manifest_at};
 ghost use Rattle.def_bytes.specs.Layout.{region_blocks, region_at, other_region, newest_format};
 ghost use Rattle.def_bytes.specs.SuperBlock.{IsLawful, newest_in};
+ghost use Rattle.strat_model.specs.Table.{Table};
 ghost use Rattle.strat_gate.specs.SuperView.{super_of};
 ghost use Rattle.strat_journal.specs.Log.{IsStale};
 ghost use Rattle.strat_journal.specs.Records.{logged_of};
 ghost use Rattle.def_recovery.specs.Opened.{parents_in};
 ghost use Rattle.def_recovery.specs.Opening.{accepted_in, recover_manifest, recover_journal, recover_head, recover};
 ghost use Rattle.def_publish.specs.Contents.{Contents};
-ghost use Rattle.def_publish.specs.Standing.{ReadsAs, ContentsStand};
+ghost use Rattle.def_publish.specs.Several.{EachShows, ShowsOneOf};
+ghost use Rattle.def_publish.specs.Standing.{ReadsAs, ShowsTable, ContentsStand};
 ghost use Rattle.def_state.specs.Sound.{are_accepted};
 ghost use Rattle.strat_open.specs.Following.{IsOpenedAs, IsUnchanged, LeavesOpening};
 ghost use Rattle.strat_memory.specs.Held.{IsConsistent, IsLogBehind};
@@ -301,7 +303,8 @@ fn shut_other<D: Disk>(disk: &mut D, sb: &SuperBlock, journal: &Journal) -> Resu
 /// it open): at most one read, one write and one sync more. Until the sync succeeds a crash leaves only what it might
 /// have left before. It takes all the memory that the store needs beside its cache until its journal is full. After
 /// an error other than `Device` the disk is as it was; after that one too, or its last step failed, which shuts that
-/// gate.
+/// gate. A disk may be opened each of whose crashes leaves a table, though not all of them one: what a crash leaves
+/// meanwhile shows one of these, and afterwards that of the content.
 pub fn open<D: Disk>(alloc: Global, disk: &mut D) -> Result<OpenStore, AttachFault>
     ensures ok { IfOk result (λ r. (cap : ℕ)
         → IsOpenedAs (D.view disk.old) (D.view disk.new) (held_of r (empty_cache cap))) }
@@ -314,6 +317,11 @@ pub fn open<D: Disk>(alloc: Global, disk: &mut D) -> Result<OpenStore, AttachFau
         → LeavesOpening (D.view disk.old) (D.view disk.new) f }
     ensures same { IfErr result (λ e. e ≢ fault.Device
         → IsUnchanged (D.view disk.old) (D.view disk.new)) }
+    ensures trail { (f : Image) → Exposes (D.view disk.old) f → EachShows (D.view disk.old)
+        → (c : Image) → Since (D.view disk.new) (D.view disk.old).moment c
+        → ShowsOneOf (D.view disk.old) c }
+    ensures images { OnOk result ((f : Image) (t : Table) → Exposes (D.view disk.old) f
+        → ShowsTable f t → (c : Image) → Images (D.view disk.new) c → ShowsTable c t) }
     ensures time { Passes (D.view disk.old) (D.view disk.new) }
     ensures cause { HasCause fault.Device (D.faults disk.old) (D.faults disk.new) result }
     ensures reads { ReadsAtMost 1052184 (D.reads disk.old) (D.reads disk.new)

@@ -32,10 +32,9 @@ ghost use Rattle.def_publish.specs.Several.{EachShows, ShowOneOfSince, ShowsOneO
 ghost use Rattle.def_publish.specs.Standing.{LeavesContent, ShowsTable};
 ghost use Rattle.strat_publish.specs.Outcomes.{IsDamagedIn};
 ghost use Rattle.strat_store.specs.Applying.{is_fault};
-ghost use Rattle.strat_open.specs.Following.{IsOpenedAs, LeavesOpening};
 ghost use Rattle.strat_memory.specs.Held.{Held, IsConsistent, IsOnDisk, arrays_held};
 ghost use Rattle.strat_store.specs.Ranging.{HasPairsFor};
-ghost use Rattle.strat_serve.specs.Session.{Begins, AreCalm, IsSession, IsTaggedFor, RespondsTo, Served, Session, WasPublished, all_responses};
+ghost use Rattle.strat_serve.specs.Session.{Begins, AreCalm, GaveUp, IsSession, IsTaggedFor, RespondsTo, Served, Session, WasPublished, all_responses};
 ghost use Rattle.strat_serve.specs.Tables.{AnswersAsTable, EndsAtTables, GoesThroughTables, KeepsSpace, begins_at};
 ghost use Rattle.strat_serve.specs.World.{Streams, beside};
 
@@ -165,23 +164,17 @@ pub fn a_damaged_block_is_of_an_array_that_was_published<D: Viewed>()
         × AgreeOn (blocks_listed (arrays_held store.memory store.levels)) then g) }
 {}
 
-/// A disk may be opened and served each of whose images shows a table, though not all of them one. What a crash leaves
-/// at each moment shows the table of an image that the disk had at the start, or one of the run's.
+/// A disk may be served each of whose images shows a table, though not all of them one: one that crashed, or that an earlier
+/// run or its opening failed on, as it is. What a crash leaves at each moment shows the table of an image that the disk had at
+/// the start, or one of the run's; that of an image at the start where the run gave up, also as the device failed in its opening.
 pub fn runs_may_begin_at_any_image<D: Viewed>()
-    ensures opened { (before now : D) (s : Held) (f : Image) → Exposes (D.view before) f
-        → LeavesContent (D.view before) → EachShows (D.view before)
-        → IsOpenedAs (D.view before) (D.view now) s → ShowOneOfSince (D.view before) (D.view now) }
-    ensures one { (before now : D) (s : Held) (f : Image) → Exposes (D.view before) f
-        → LeavesContent (D.view before) → EachShows (D.view before)
-        → IsOpenedAs (D.view before) (D.view now) s
-        → (t : Table) × ((c : Image) → Images (D.view now) c → ShowsTable c t) }
-    ensures err { (before now : D) (f : Image) → Exposes (D.view before) f
-        → LeavesContent (D.view before) → EachShows (D.view before)
-        → LeavesOpening (D.view before) (D.view now) f
-        → ShowOneOfSince (D.view before) (D.view now) }
+    ensures gave_up { (x y : Streams) (d e : D) (how : Ended) (f : Image) → Exposes (D.view d) f
+        → LeavesContent (D.view d) → EachShows (D.view d)
+        → GaveUp how (beside x (D.view d)) (beside y (D.view e))
+        → ShowOneOfSince (D.view d) (D.view e) }
     ensures served { (x y : Streams) (d e : D) (budget : ℕ) (how : Ended) (f : Image) (t : Table)
-        (shows : ShowsTable f t) → Exposes (D.view d) f → LeavesContent (D.view d)
-        → EachShows (D.view d) → Served budget how (beside x (D.view d)) (beside y (D.view e))
+        (shows : ShowsTable f t) → Exposes (D.view d) f → EachShows (D.view d)
+        → Served budget how (beside x (D.view d)) (beside y (D.view e))
         → (a : AnswersAsTable budget shows.state.mem (begins_at f t shows) (status_of how) x y)
         × ((c : Image) → Since (D.view e) (D.view d).moment c
         → ShowsOneOf (D.view d) c

@@ -8,18 +8,20 @@ ghost use Rattle.strat_base.specs.Finds.{Finds};
 ghost use Rattle.strat_base.specs.Tree.{is_known};
 ghost use Rattle.def_crash.specs.Faults.{CountsFaults, HasCause, ReadsAtMost};
 ghost use Rattle.def_crash.specs.Image.{Image};
-ghost use Rattle.def_crash.specs.Moments.{Exposes, Passes};
+ghost use Rattle.def_crash.specs.Moments.{Exposes, Images, Passes, Since};
 ghost use Rattle.def_bytes.specs.Chain.{chain_length};
 ghost use Rattle.def_bytes.specs.Layout.{region_blocks};
 ghost use Rattle.strat_model.specs.Answer.{as_told};
 ghost use Rattle.strat_model.specs.Command.{request_of};
 ghost use Rattle.strat_model.specs.Spelling.{has_lawful_sizes};
-ghost use Rattle.strat_model.specs.Table.{Cursor};
+ghost use Rattle.strat_model.specs.Table.{Cursor, Table};
 ghost use Rattle.strat_model.specs.declared.replies.Refusal.TheVariants as why;
 ghost use Rattle.strat_model.specs.declared.replies.Reply.TheVariants as reply;
 ghost use Rattle.def_recovery.specs.Opening.{recover};
 ghost use Rattle.def_publish.specs.Appending.{with_batch};
 ghost use Rattle.def_publish.specs.Contents.{Contents};
+ghost use Rattle.def_publish.specs.Several.{EachShows, ShowsOneOf};
+ghost use Rattle.def_publish.specs.Standing.{ShowsTable};
 ghost use Rattle.strat_store.specs.Applying.{FollowsStep, FailsAsTold, IsUntouched, TellsTroubleOf, change_wanted, is_fault};
 ghost use Rattle.strat_publish.specs.Outcomes.{IsDamagedIn};
 ghost use Rattle.strat_store.specs.Cursoring.{IsAppliedAt, LeavesCursors, cursors_after};
@@ -410,6 +412,9 @@ impl Store {
     /// only what it might have left before. After an error other than `Device` the disk is as it was; after `Device` it
     /// is so too, unless it was the last step that failed, which shuts the gate.
     ///
+    /// A disk that crashed, or that an earlier run or opening failed on, may be opened as it is. If each of its crash
+    /// states shows a table, each crash meanwhile leaves one of these tables, and afterwards that of the content.
+    ///
     /// It takes the memory of all changes that do not meet a full journal: 3.9 KB for each of `mem` and 75 bytes for
     /// each of `versions_max`; 25 blocks, one for gets and 24 for scans; 0.5 MB for hints where blocks begin; and the
     /// levels' descriptors twice, once with an index of versions. While it recovers it takes more: 2.6 KB for each of
@@ -425,6 +430,11 @@ impl Store {
             → LeavesOpening (D.view disk.old) (D.view disk.new) f }
         ensures same { IfErr result (λ e. e ≢ fault.Device
             → IsUnchanged (D.view disk.old) (D.view disk.new)) }
+        ensures trail { (f : Image) → Exposes (D.view disk.old) f → EachShows (D.view disk.old)
+            → (c : Image) → Since (D.view disk.new) (D.view disk.old).moment c
+            → ShowsOneOf (D.view disk.old) c }
+        ensures images { OnOk result ((f : Image) (t : Table) → Exposes (D.view disk.old) f
+            → ShowsTable f t → (c : Image) → Images (D.view disk.new) c → ShowsTable c t) }
         ensures time { Passes (D.view disk.old) (D.view disk.new) }
         ensures cause { HasCause fault.Device (D.faults disk.old) (D.faults disk.new) result }
         ensures reads { ReadsAtMost 1052184 (D.reads disk.old) (D.reads disk.new)

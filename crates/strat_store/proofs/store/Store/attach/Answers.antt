@@ -4,6 +4,7 @@ use Rattle.strat_open.specs.Following.{IsOpenedAs}
 use Rattle.strat_cursor.specs.Looking.{AreOfOldArrays}
 use Rattle.strat_memory.specs.Admitting.{chained_of}
 use Rattle.strat_memory.specs.RecoveredFields.{held_of}
+use Rattle.def_crash.proofs.MomentLemmas.{since_now}
 use Rattle.strat_store.proofs.StagingLemmas.{ever_joined, replies_none}
 use Rattle.strat_store.proofs.store.Store.attach.Goals as goal
 
@@ -13,6 +14,12 @@ returns-in-Ok-clause-ok g c = (
   c.in_ok-cache.ensures.ok,
   c.in-Ok.ensures.kept c.in_ok-cache.cache,
 )
+
+pub returns-in_err-cache-clause-trail : goal.returns-in_err-cache-clause-trail
+returns-in_err-cache-clause-trail g c = λ f exposed each image since.
+    let left = since_now _ image since in
+    let shown = each image left in
+    record { table = shown.0; shows = shown.1; image = image; left = left; same = shown.1 }
 
 pub invariant_of-result : goal.invariant_of-result
 invariant_of-result g c calm = (
