@@ -22,14 +22,15 @@ pub(crate) const BUDGET: u64 = 1_099_511_627_776;
 /// Runs the subcommand that the program's arguments name, these without the program's own name, and
 /// answers its exit status. Nothing is read or written where they name none.
 ///
-/// Serving takes the memory for its buffers, versions, journal and level 0 at its start. A change
-/// makes two writes and two syncs and one insertion into level 0; where the journal is full it is
-/// emptied into the levels first, which takes memory for that time. An opening of a cursor copies
-/// where level 0 stands, 12 bytes for each of its items, and reads nothing; a level 0 that was
-/// emptied stays in memory while a cursor reads it; a page of one costs what a scan of as many pairs
-/// costs. A get asks level 0 and then, until one says something, the levels, of each one array at
-/// most. A report of the levels reads what an opening reads, and no block of an array. A workload
-/// makes a store, serves its changes to it and opens it once more.
+/// Serving takes the memory for its buffers, versions, journal and level 0 at its start. Changes
+/// that come together, sixteen at most, make two writes and two syncs, and each one insertion into
+/// level 0; where the journal is full it is emptied into the levels first, which takes memory for
+/// that time. An opening of a cursor copies where level 0 stands, 12 bytes for each of its items,
+/// and reads nothing; a level 0 that was emptied stays in memory while a cursor reads it; a page of
+/// one costs what a scan of as many pairs costs. A get asks level 0 and then, until one says
+/// something, the levels, of each one array at most. A report of the levels reads what an opening
+/// reads, and no block of an array. A workload makes a store, serves its changes to it and opens it
+/// once more.
 pub fn run<S: Source, K: Sink, D: Disk>(
     alloc: Global,
     words: &[String],
