@@ -116,6 +116,7 @@ module _ (x y : Streams) (v w : DiskView) (f : Image) (t : Table) (shows : Shows
     run = nothing;
     is = record { run = refl; interrupted = tt };
     region = inl refl;
+    broken = tt;
     taken = [];
     took = took_nothing x.left y.left gave.source;
     within = omega arith;

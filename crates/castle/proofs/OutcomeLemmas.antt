@@ -1,6 +1,6 @@
 -- What runs that format, report and carry out a workload come to, by how they ended.
 use Rattle.std.proofs.Common.{◌≡◌, ◌≢◌, ◌≤◌, ◌⊎◌, ◌*◌, ℕ, List, [], ◌∷◌, length, Option, Some, None, refl, sym, ap, subst, ◌∙◌, inl, inr, arith}
-use Rattle.std.specs.Prelude.{Ok, Err}
+use Rattle.std.specs.Prelude.{Ok, Err, IfSome}
 use Rattle.std.proofs.lemmas.Bool.{cases_lt}
 use Rattle.def_crash.specs.Faults.{Rose}
 use Rattle.def_crash.specs.Image.{Image}
@@ -9,9 +9,11 @@ use Rattle.def_bytes.specs.SuperBlock.{newest_in}
 use Rattle.strat_io.specs.Streams.{Appends}
 use Rattle.strat_model.specs.declared.ended.Ended.{Ended}
 use Rattle.strat_model.specs.declared.ended.Ended.TheVariants as ended
+use Rattle.strat_model.specs.declared.replies.Refusal.TheVariants as why
+use Rattle.strat_model.specs.Answer.{refusal}
 use Rattle.strat_model.specs.Ended.{status_of}
 use Rattle.strat_model.specs.Batch.{tables_continued}
-use Rattle.strat_model.specs.Run.{Position, Transcript}
+use Rattle.strat_model.specs.Run.{Interruption, Position, Transcript}
 use Rattle.strat_model.specs.Table.{fresh}
 use Rattle.def_recovery.specs.Head.{Head}
 use Rattle.def_recovery.specs.Opening.{recover}
@@ -21,11 +23,12 @@ use Rattle.def_publish.specs.Standing.{ShowsTable}
 use Rattle.def_state.specs.State.{State, fresh_state, stored, updates_of}
 use Rattle.strat_open.specs.Format.{IsBlank, IsNewStore, IsNoneOrNew}
 use Rattle.strat_serve.specs.Session.{SendsPrefix, EndHasCause}
+use Rattle.strat_serve.specs.Tables.{BreaksForFault}
 use Rattle.strat_serve.specs.World.{Streams, beside}
 use Rattle.strat_serve.proofs.TableLemmas.{at_some, thrifty_of}
 use Rattle.castle.specs.Headline.{GoesThroughNewTables, IsNoneOrThrifty}
 use Rattle.castle.specs.Outcomes.{SendsLine, Formats}
-use Rattle.castle.specs.Working.{EndsWorkload, EndsOnExposed, EndsAfterAll, FollowsNew, MakesNoStore, SendsSummary, summary_of}
+use Rattle.castle.specs.Working.{CarriesOutWorkload, EndsWorkload, EndsOnExposed, EndsAfterAll, FollowsNew, MakesNoStore, SendsSummary, summary_of}
 use Rattle.castle.proofs.HeadlineLemmas.{damaged_by, end_of, ended_by, other_by}
 
 -- a store or none shows its table
@@ -197,12 +200,25 @@ module _ (status : ℕ) (how : Ended) (is : status ≡ status_of how) where
     λ done cut. work_same how seed count w h k sends (λ this. done (is ∙ this)) (λ this. cut (is ∙ this)),
   )
 
+  -- it found no memory
+  pub out_of_memory : status ≡ 8 → how ≡ ended.NoMemory
+  out_of_memory eight = by 8 eight (λ nine. omega (arith, nine))
+
   -- no store was made for want of memory or as the device failed
   pub made_none : (v w : DiskView) → MakesNoStore how v w → (status ≡ 5) ⊎ (status ≡ 8)
   made_none v w none = elim none.ends [
     | inl memory ↦ inr (is ∙ ap status_of memory)
     | inr device ↦ inl (is ∙ ap status_of device)
   ]
+
+-- what broke off a run of a workload, the disk counted
+pub breaks_for_fault : (seed count : ℕ) (how : Ended) (x y : Streams) (v w : DiskView) (c : CarriesOutWorkload seed count how v w) → EndHasCause how (beside x v) (beside y w) → BreaksForFault c.transcript x y
+breaks_for_fault seed count how x y v w c cause = go c.transcript.interruption c.broken
+  where
+    go : (o : Option Interruption) → IfSome o (λ (h : Interruption). (h.response.answer ≡ refusal why.DeviceFault) × (how ≡ ended.Device))
+        → IfSome o (λ (h : Interruption). (h.response.answer ≡ refusal why.DeviceFault) × Rose x.disk_faults y.disk_faults)
+    go None broken = tt
+    go (Some h) broken = (broken.0, cause.device broken.1)
 
 -- what crashes leave of a run of a workload
 module _ (v w : DiskView) (run : Transcript) (end : Position) (follows : FollowsNew v w (tables_continued run end) (length run.exchanges)) where

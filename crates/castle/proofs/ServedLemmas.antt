@@ -1,6 +1,6 @@
 -- What a serving run over a workload leaves of a new store.
 use Rattle.std.proofs.Common.{◌≡◌, ◌≢◌, ◌≤◌, ◌<◌, ◌+◌, ◌^◌, ℕ, zero, suc, min, List, [], ◌∷◌, ◌++◌, length, take, map, Option, Some, None, refl, sym, ap, subst, ◌∙◌, inl, inr, append-nil, length-append, length-take, arith}
-use Rattle.std.specs.Prelude.{Ok, Err, option_map}
+use Rattle.std.specs.Prelude.{◌⊎◌, Ok, Err, IfSome, option_map}
 use Rattle.std.proofs.lemmas.List.{take_all, length-map}
 use Rattle.def_crash.specs.Image.{Image}
 use Rattle.def_crash.specs.Moments.{DiskView, Images, Since, Passes, KeepsImages}
@@ -10,6 +10,8 @@ use Rattle.def_crash.proofs.TrailLemmas.{trail_of_one, at_either, at_below}
 use Rattle.def_bytes.specs.Damage.{Read}
 use Rattle.strat_model.specs.declared.ended.Ended.{Ended}
 use Rattle.strat_model.specs.declared.ended.Ended.TheVariants as ended
+use Rattle.strat_model.specs.declared.replies.Refusal.TheVariants as why
+use Rattle.strat_model.specs.Answer.{refusal}
 use Rattle.strat_model.specs.Batch.{Continuation, tables_behind, tables_continued}
 use Rattle.strat_model.specs.Run.{Position, Response, Exchange, Interruption, IsTranscript, Transcript, UsesOneRegion, bodies_of, of_interruption}
 use Rattle.strat_model.specs.Stream.{Splits, Whole, Rest, ending_of}
@@ -117,6 +119,12 @@ no_interruption : (broken : Option Response) (h : Option Interruption) → broke
 no_interruption broken None none is = refl
 no_interruption broken (Some i) none is = absurd (let f : ◌≡◌ {A = Option Response} None (Some i.response) = sym none ∙ is in cc)
 
+-- what broke a run off that the device ended is the device's fault
+broken_off : (how : Ended) (broken : Option Response) (h : Option Interruption) → how ≡ ended.Device → broken ≡ option_map (λ (i : Interruption). i.response) h
+    → IfSome broken (λ (r : Response). r.answer ≡ refusal why.DeviceFault) → IfSome h (λ (i : Interruption). (i.response.answer ≡ refusal why.DeviceFault) × (how ≡ ended.Device))
+broken_off how broken None ends same device = tt
+broken_off how broken (Some i) ends same device = (subst (λ (o : Option Response). IfSome o (λ (r : Response). r.answer ≡ refusal why.DeviceFault)) same device, ends)
+
 -- the one behind a list's end
 last_at : (xs : List Table) (x : Table) (i : ℕ) (P : Table → Type 0) → length xs ≤ i → At (xs ++ x ∷ []) i P → P x
 last_at xs x i P le at =
@@ -190,6 +198,7 @@ module _ (d0 d1 d2 : DiskView) (later : Passes d0 d1) (passes : Passes d1 d2)
         all = λ is. absurd (early is);
         continued = c.0;
         next = subst (λ (xs : List Exchange). AreNextIn (workload_bodies seed count) nothing xs) (sym c.1) refl;
+        broken = tt;
         follows = follows;
         shows = λ is. absurd (early is);
       }
@@ -266,8 +275,12 @@ module _ (d0 d1 d2 : DiskView) (later : Passes d0 d1) (passes : Passes d1 d2)
             last_at fronts (bare tr.after.table) found.0 (ShowsTable c) (omega (arith, found.1, length-map tr.exchanges (λ (e : Exchange). bare e.at.table)))
             (subst (λ (ts : List Table). At ts found.0 (ShowsTable c)) tables found.2)
 
-      carried : (EndsAfterAll how → EndsFor ended.Done 1099511627776 s left) → CarriesOutWorkload seed count how d0 d2
-      carried done =
+      broken_by : (how ≡ ended.Device) ⊎ EndsFor ended.Done 1099511627776 s left → IfSome run.transcript.interruption (λ (i : Interruption). (i.response.answer ≡ refusal why.DeviceFault) × (how ≡ ended.Device))
+      broken_by (inl device) = broken_off how s.broken run.transcript.interruption device run.broken_is run.device
+      broken_by (inr done) = subst (λ (o : Option Interruption). IfSome o (λ (i : Interruption). (i.response.answer ≡ refusal why.DeviceFault) × (how ≡ ended.Device))) (sym (unbroken done)) tt
+
+      carried : (EndsAfterAll how → EndsFor ended.Done 1099511627776 s left) → (how ≡ ended.Device) ⊎ EndsFor ended.Done 1099511627776 s left → CarriesOutWorkload seed count how d0 d2
+      carried done ended_by =
           let state_is : run.begins.shows.state ≡ fresh_state 64 16777216 16384 = some_is _ _ (sym run.begins.shows.reads ∙ disk.new.reads) in
           let mem_is : run.mem ≡ 64 = run.begins.mem_is ∙ ap (λ (z : State). z.mem) state_is in
           let fill_is : run.start.fill ≡ 0 = run.begins.fill ∙ ap (λ (z : State). length z.journal) state_is in
@@ -283,13 +296,14 @@ module _ (d0 d1 d2 : DiskView) (later : Passes d0 d1) (passes : Passes d1 d2)
             all = λ is. (bodies_are (done is), unbroken (done is));
             continued = continues.0;
             next = next_of_front (workload_bodies seed count) s.bodies run.transcript continues.0.more (front_of seed count s.taken gave.rest s.bodies s.rest few gave.parts served.is.splits).0 continues.1;
+            broken = broken_by ended_by;
             follows = continues.2;
             shows = λ is. shows_last (done is);
           }
 
     served_leaves : (how : Ended) → EndsWorkload how → how ≢ ended.Sink → Served 1099511627776 how before now → LeavesWorkload seed count how d0 d2
-    served_leaves ended.Done ends no_sink served = record { ends = tt; made = inr (carried ended.Done served (λ is. served.ends)) }
-    served_leaves ended.Device ends no_sink served = record { ends = tt; made = inr (carried ended.Device served (λ is. absurd is)) }
+    served_leaves ended.Done ends no_sink served = record { ends = tt; made = inr (carried ended.Done served (λ is. served.ends) (inr served.ends)) }
+    served_leaves ended.Device ends no_sink served = record { ends = tt; made = inr (carried ended.Device served (λ is. absurd is) (inl refl)) }
     served_leaves (ended.Damaged block) ends no_sink served =
         absurd (never_damaged 1099511627776 (ended.Damaged block) before now content (fresh 16777216 16384) (inr served) disk.rest.exposed disk.new.shows block refl)
     served_leaves ended.Sink ends no_sink served = absurd (no_sink refl)

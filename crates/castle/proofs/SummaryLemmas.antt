@@ -13,6 +13,8 @@ use Rattle.def_bytes.specs.SuperBlock.{Super, newest_in}
 use Rattle.strat_io.specs.Streams.{Appends}
 use Rattle.strat_model.specs.declared.ended.Ended.{Ended}
 use Rattle.strat_model.specs.declared.ended.Ended.TheVariants as ended
+use Rattle.strat_model.specs.declared.replies.Refusal.TheVariants as why
+use Rattle.strat_model.specs.Answer.{refusal}
 use Rattle.strat_model.specs.Ended.{status_of}
 use Rattle.strat_model.specs.Batch.{tables_behind, tables_continued}
 use Rattle.strat_model.specs.Run.{Exchange, Interruption, Position, Transcript}
@@ -65,6 +67,7 @@ module _ (seed count : ℕ) (d0 d2 d3 : DiskView) (reads : OnlyReads d2 d3) wher
     all = λ is. c.all tt;
     continued = c.continued;
     next = c.next;
+    broken = subst (λ (o : Option Interruption). IfSome o (λ (i : Interruption). (i.response.answer ≡ refusal why.DeviceFault) × (how ≡ ended.Device))) (sym (c.all tt).1) tt;
     follows = follows_on c.transcript c.continued.end (c.all tt).1 c.follows;
     shows = λ is f image. c.shows tt f (was f image);
   }

@@ -1,11 +1,13 @@
 -- What a run of a workload does: it makes a store, carries out the workload on it, and says what that came to.
-use Rattle.std.specs.Prelude.{◌≡◌, ◌≤◌, ◌⊎◌, ℕ, List, length, take, Option, Some, None, Ok}
+use Rattle.std.specs.Prelude.{◌≡◌, ◌≤◌, ◌⊎◌, ℕ, List, length, take, Option, Some, None, IfSome, Ok}
 use Rattle.def_crash.specs.Image.{Image}
 use Rattle.def_crash.specs.Moments.{DiskView, Images, Since}
 use Rattle.def_crash.specs.Trail.{At, Trail}
 use Rattle.strat_io.specs.Streams.{Appends}
 use Rattle.strat_model.specs.declared.ended.Ended.{Ended}
 use Rattle.strat_model.specs.declared.ended.Ended.TheVariants as ended
+use Rattle.strat_model.specs.declared.replies.Refusal.TheVariants as why
+use Rattle.strat_model.specs.Answer.{refusal}
 use Rattle.strat_model.specs.Batch.{Continuation, tables_continued}
 use Rattle.strat_model.specs.Run.{Position, Transcript, IsTranscript, UsesOneRegion, bodies_of}
 use Rattle.strat_model.specs.Table.{Table, fresh, bare}
@@ -13,7 +15,8 @@ use Rattle.def_recovery.specs.Head.{Head}
 use Rattle.def_texts.specs.Texts as texts
 use Rattle.strat_report.specs.Reporting.{RecoversAs, AppendsFront}
 use Rattle.def_publish.specs.Standing.{ShowsTable}
-use Rattle.strat_open.specs.Format.{IsBlank, IsNewStore, IsNoneOrNew}
+use Rattle.strat_open.specs.Following.{IsUnchanged}
+use Rattle.strat_open.specs.Format.{IsBlank, IsNewStore, IsNoneOrNew, KeepsOthers}
 use Rattle.strat_memory.specs.Paying.{ArePaidSince, StoreTwoSince}
 use Rattle.strat_serve.specs.Generated.{workload_bodies}
 use Rattle.strat_serve.specs.Session.{AreNextIn}
@@ -80,6 +83,9 @@ pub record CarriesOutWorkload (seed count : ℕ) (how : Ended) (before now : Dis
   -- and behind a fault the run is continued over those of the next ones that became durable with the last or not at all
   pub continued : Continuation 64 transcript
   pub next : AreNextIn (workload_bodies seed count) transcript continued.more
+  -- only a fault of the device breaks it off, and that ends it
+  pub broken : IfSome transcript.interruption
+      (λ h. (h.response.answer ≡ refusal why.DeviceFault) × (how ≡ ended.Device))
   pub follows : FollowsNew before now (tables_continued transcript continued.end)
       (length transcript.exchanges)
   -- which then all images show the table after
@@ -92,6 +98,9 @@ pub record MakesNoStore (how : Ended) (before now : DiskView) : Type 0 where
   pub ends : (how ≡ ended.NoMemory) ⊎ (how ≡ ended.Device)
   pub moments : IsBlank before → (c : Image) → Since now before.moment c
       → IsNoneOrNew 64 16777216 16384 c
+  -- whatever the disk was, only what formatting writes may differ, and nothing for want of memory
+  pub kept : KeepsOthers 64 before now
+  pub same : how ≡ ended.NoMemory → IsUnchanged before now
 
 -- what a run of a workload did to a disk that exposed its content
 pub record LeavesWorkload (seed count : ℕ) (how : Ended) (before now : DiskView) : Type 0 where

@@ -21,12 +21,13 @@ ghost use Rattle.castle.specs.Outcomes.{Runs};
 use def_crash::laws::Viewed;
 
 /// The headline. Over a disk that shows a table, a run that is asked to serve a file answers what it takes as a run of that
-/// table does. At its end a crash leaves the table after all that was acknowledged, or after one command more and the
-/// whole rest of its batch: up to fifteen changes that no reply tells of. On the way it leaves what it might have left
-/// before, and from some moment on the run's tables in order. What it leaves then is sound, each array a third live in
-/// each of its versions, and stores at most two entries for each update. After a run that the device and the sink did not
-/// fail, and that opened its store, recovery finds no more changes in the journal than one of its regions takes. The run
-/// ends for a cause, and where nothing failed, as its input does or for want of memory.
+/// table does; only a fault of the device, which the disk counted, breaks that off. At its end a crash leaves the table after
+/// all that was answered otherwise than by a fault, or after one command more and the whole rest of its batch: up to fifteen
+/// changes that no reply tells of. On the way it leaves what it might have left before, and from some moment on the run's
+/// tables in order. What it leaves then is sound, each array a third live in each of its versions, and stores at most two
+/// entries for each update. After a run that the device and the sink did not fail, and that opened its store, recovery finds
+/// no more changes in the journal than one of its regions takes. The run ends for a cause, and where nothing failed, as its
+/// input does or for want of memory.
 pub fn a_serving_run_is_a_run_of_its_table<D: Viewed>()
     ensures answers { (path : List ℕ) (status : ℕ) (x y : Streams) (d e : D) (f : Image) (t : Table)
         (shows : ShowsTable f t) → Exposes (D.view d) f

@@ -22,7 +22,7 @@ ghost use Rattle.strat_open.specs.Format.{IsBlank, IsFormatted};
 ghost use Rattle.strat_memory.specs.Paying.{IsPaidIn};
 ghost use Rattle.strat_serve.specs.Generated.{workload_bodies};
 ghost use Rattle.strat_serve.specs.Session.{AreNextIn, ExposesDamage, SendsPrefix};
-ghost use Rattle.strat_serve.specs.Tables.{EndsAtTables, IsThrifty};
+ghost use Rattle.strat_serve.specs.Tables.{BreaksForFault, EndsAtTables, IsThrifty};
 ghost use Rattle.strat_serve.specs.World.{Streams, beside};
 ghost use Rattle.castle.specs.Arguments.{Format, Levels, Serve, Workload};
 ghost use Rattle.castle.specs.Headline.{GoesThroughNewTables, HasNotBegun, IsNoneOrThrifty};
@@ -111,10 +111,11 @@ pub fn a_reporting_run_says_what_recovery_finds<D: Viewed>()
         ⊎ ((status ≡ 8) × (y.held ≡ x.held)) }
 {}
 
-/// A run of a workload on a disk that exposes its content made no store, for want of memory or as the device failed; or it
-/// answered the first of the workload's commands as a run of a new table does, and all of them where it is done or the
-/// sink failed: then a crash leaves the table after the last, and the sink got a summary, as far as it took it. On the way a
-/// crash leaves no store, the new one, or the run's tables in order.
+/// A run of a workload on a disk that exposes its content made no store, for want of memory or as the device failed, and
+/// changed no byte but those that formatting writes; or it answered the first of the workload's commands as a run of a new
+/// table does, broken off by the device alone, and all of them where it is done or the sink failed: then a crash leaves the
+/// table after the last, and the sink got a summary, as far as it took it. On the way a crash leaves no store, the new one,
+/// or the run's tables in order.
 pub fn a_run_of_a_workload_is_a_run_of_a_new_table<D: Viewed>()
     ensures done { (path : List ℕ) (seed count status : ℕ) (x y : Streams) (d e : D) (f : Image)
         → Runs (Some (Workload path seed count)) 1099511627776 status
@@ -134,9 +135,13 @@ pub fn a_run_of_a_workload_is_a_run_of_a_new_table<D: Viewed>()
     ensures left { (path : List ℕ) (seed count status : ℕ) (x y : Streams) (d e : D) (f : Image)
         → Runs (Some (Workload path seed count)) 1099511627776 status
         (beside x (D.view d)) (beside y (D.view e)) → Exposes (D.view d) f
-        → (status ≡ 5) ⊎ (status ≡ 8)
+        → (((status ≡ 5) ⊎ (status ≡ 8))
+        × (status ≡ 8 → (D.view e).content ≡ (D.view d).content)
+        × ((c : Image) → Since (D.view e) (D.view d).moment c → (status ≡ 8 → Images (D.view d) c)
+        × ((b : Image) × Images (D.view d) b × ((i : ℕ) → ¬ IsFormatted 64 i → c i ≡ b i))))
         ⊎ ((run : Transcript) × IsTranscript 64 workload_start run × UsesOneRegion 64 run
         × (take (length (bodies_of run)) (workload_bodies seed count) ≡ bodies_of run)
+        × BreaksForFault run x y
         × ((c : Continuation 64 run) × AreNextIn (workload_bodies seed count) run c.more
         × EndsAtTables run c.end (D.view e))) }
     ensures trail { (path : List ℕ) (seed count status : ℕ) (x y : Streams) (d e : D) (f : Image)

@@ -7,6 +7,7 @@ use Rattle.std.proofs.lemmas.List.{take_all, length-map}
 use Rattle.strat_base.specs.Tree.{Parents}
 use Rattle.strat_base.specs.declared.failures.Fault.{Fault}
 use Rattle.strat_base.specs.declared.failures.Fault.TheVariants as fault
+use Rattle.def_crash.specs.Faults.{Rose}
 use Rattle.def_crash.specs.Image.{Image}
 use Rattle.def_crash.specs.Moments.{DiskView, Since}
 use Rattle.def_crash.specs.Trail.{At, Trail}
@@ -69,6 +70,14 @@ listed (Some h) = refl
 no_interruption : (broken : Option Response) (h : Option Interruption) → broken ≡ None → broken ≡ option_map (λ i. i.response) h → h ≡ None
 no_interruption broken None none is = refl
 no_interruption broken (Some i) none is = absurd (let f : ◌≡◌ {A = Option Response} None (Some i.response) = sym none ∙ is in cc)
+
+-- what broke a run off is the device's fault, which is told
+broken_off : (R : Type 0) (broken : Option Response) (h : Option Interruption) → broken ≡ option_map (λ (i : Interruption). i.response) h → IfSome broken (λ (r : Response). r.answer ≡ refusal why.DeviceFault)
+    → (EndsWithFault broken fault.Device → R) → IfSome h (λ (i : Interruption). (i.response.answer ≡ refusal why.DeviceFault) × R)
+broken_off R broken None same device rose = tt
+broken_off R broken (Some i) same device rose =
+    let is : i.response.answer ≡ refusal why.DeviceFault = subst (λ (o : Option Response). IfSome o (λ (r : Response). r.answer ≡ refusal why.DeviceFault)) same device in
+    (is, subst (λ (o : Option Response). EndsWithFault o fault.Device → R) same rose (ap (λ (a : Answer). fault_told a.reply) is))
 
 -- something stands at a place of a list
 pub at_some : (xs : List Table) (i : ℕ) (P : Table → Type 0) → At xs i P → (x : Table) × P x
@@ -265,6 +274,7 @@ module _ (budget : ℕ) (before now : Streams) (v w : DiskView) (f : Image) (t :
         run = run.transcript;
         is = begins_there f t shows run.mem run.start run.begins run.table run.transcript run.is;
         region = region_there f t shows run.mem run.start run.begins run.table run.transcript run.region;
+        broken = broken_off (Rose before.disk_faults now.disk_faults) served.session.broken run.transcript.interruption run.broken_is run.device served.faulted;
         taken = served.session.taken;
         took = served.took;
         within = served.is.within;

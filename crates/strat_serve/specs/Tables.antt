@@ -1,6 +1,7 @@
 -- What a serving run does over a disk that shows a table, in words of tables and of crashes.
-use Rattle.std.specs.Prelude.{◌≡◌, ◌≢◌, ◌≤◌, ◌<◌, ◌⊎◌, ℕ, ◌+◌, ◌*◌, List, [], ◌++◌, length, take, Option, Some, None, IsTrue}
+use Rattle.std.specs.Prelude.{◌≡◌, ◌≢◌, ◌≤◌, ◌<◌, ◌⊎◌, ℕ, ◌+◌, ◌*◌, List, [], ◌++◌, length, take, Option, Some, None, IfSome, IsTrue}
 use Rattle.std.specs.List.{list_all}
+use Rattle.def_crash.specs.Faults.{Rose}
 use Rattle.def_crash.specs.Image.{Image}
 use Rattle.def_crash.specs.Moments.{DiskView, Images, Since}
 use Rattle.def_crash.specs.Trail.{At, Trail}
@@ -108,6 +109,11 @@ pub record AreTakenNext (taken : List ℕ) (run : Transcript) (more : List Excha
   pub splits : Splits taken bodies rest
   pub next : AreNextIn bodies run more
 
+-- a run is broken off only where the device failed at its last command, and the disk counted that
+abbrev pub BreaksForFault : Transcript → Streams → Streams → Type 0
+BreaksForFault run before now = IfSome run.interruption
+    (λ h. (h.response.answer ≡ refusal why.DeviceFault) × Rose before.disk_faults now.disk_faults)
+
 -- a serving run with this status answered as a run of a table from this position, which is continued over those of the
 -- bodies taken next that became durable with its last one or not at all
 pub record AnswersAsTable (budget mem : ℕ) (start : Position) (status : ℕ) (before now : Streams)
@@ -117,6 +123,7 @@ pub record AnswersAsTable (budget mem : ℕ) (start : Position) (status : ℕ) (
   pub run : Transcript
   pub is : IsTranscript mem start run
   pub region : UsesOneRegion mem run
+  pub broken : BreaksForFault run before now
   pub taken : List ℕ
   pub took : Took before.left now.left taken
   pub within : length taken ≤ budget

@@ -2,6 +2,7 @@
 //! fact of these, used once. Each is the contract of a function that does nothing.
 
 ghost use Rattle.std.specs.Prelude.{◌≡◌, ◌≢◌, ◌≤◌, ◌<◌, ◌++◌, ℕ, List, [], Option, length, Bool, true, false, Some, None};
+ghost use Rattle.def_crash.specs.Faults.{Rose};
 ghost use Rattle.def_crash.specs.Image.{Image};
 ghost use Rattle.strat_cursor.specs.Cursors.{is_opened};
 ghost use Rattle.strat_base.specs.Tree.{is_known};
@@ -9,7 +10,7 @@ ghost use Rattle.strat_io.specs.Streams.{Appends};
 ghost use Rattle.strat_model.specs.Answer.{Answer, plain, refusal};
 ghost use Rattle.strat_model.specs.Ended.{status_of};
 ghost use Rattle.strat_model.specs.Request.{Get, Scan, Info, OpenCursor, NextPairs, CloseCursor, Stat};
-ghost use Rattle.strat_model.specs.Run.{Position, Transcript, IsTranscript, bodies_of, responses_of, sent_bytes};
+ghost use Rattle.strat_model.specs.Run.{Interruption, Position, Transcript, IsTranscript, bodies_of, responses_of, sent_bytes};
 ghost use Rattle.strat_model.specs.Stream.{Splits, Rest, Long, ending_of};
 ghost use Rattle.strat_model.specs.Table.{Table};
 ghost use Rattle.strat_model.specs.declared.ended.Ended.TheVariants as ended;
@@ -28,13 +29,16 @@ ghost use Rattle.strat_store.specs.Getting.{MayTellOfKey};
 ghost use Rattle.strat_store.specs.Ranging.{MayTellOfRange, TellsFrom, TellsOfOpening};
 
 /// A run of a table has its status, and is a run from where it begins. It took these bytes, no more than its budget, sent
-/// those, and answered as its end says.
+/// those, and answered as its end says. What broke it off is a fault of the device, which the disk counted.
 pub fn a_run_of_a_table_took_and_sent()
     ensures ok { (budget mem status : ℕ) (start : Position) (x y : Streams)
         (a : AnswersAsTable budget mem start status x y) → (status ≡ status_of a.how)
         × IsTranscript mem start a.run × Took x.left y.left a.taken × (length a.taken ≤ budget)
         × Appends x.held y.held a.sent
         × AnswersUntil a.how budget a.run a.taken y.left a.sent }
+    ensures fault { (budget mem status : ℕ) (start : Position) (x y : Streams) (h : Interruption)
+        (a : AnswersAsTable budget mem start status x y) → a.run.interruption ≡ Some h
+        → (h.response.answer ≡ refusal why.DeviceFault) × Rose x.disk_faults y.disk_faults }
     ensures first { (c : Image) (t : Table) (shows : ShowsTable c t)
         → ((begins_at c t shows).table ≡ t)
         × ((begins_at c t shows).fill ≡ length shows.state.journal) }

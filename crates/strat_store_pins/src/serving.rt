@@ -1,8 +1,8 @@
 //! What is said of a serving run: facts of these records, used once, and values that meet what is only asked of a disk or of a
 //! reply. Each is the contract of a function that does nothing.
 
-ghost use Rattle.std.specs.List.{flat_map};
-ghost use Rattle.std.specs.Prelude.{◌≡◌, ◌≤◌, ◌<◌, ◌⊎◌, ◌+◌, ◌*◌, ◌++◌, ℕ, List, Option, true, false, length, take, Some, Err};
+ghost use Rattle.std.specs.List.{flat_map, list_all};
+ghost use Rattle.std.specs.Prelude.{◌≡◌, ◌≤◌, ◌<◌, ◌⊎◌, ◌+◌, ◌*◌, ◌++◌, ℕ, List, Option, true, false, length, take, Some, Err, IsTrue};
 ghost use Rattle.def_crash.specs.Image.{Image};
 ghost use Rattle.def_crash.specs.Moments.{Exposes, Images, Since};
 ghost use Rattle.def_crash.specs.Trail.{At, Trail};
@@ -16,8 +16,9 @@ ghost use Rattle.def_recovery.specs.Opening.{recover, reads_as};
 ghost use Rattle.strat_serve.specs.Session.{ExposesDamage, IsAtEnd, SendsPrefix, WaitsForNone, WritesNothing};
 ghost use Rattle.strat_serve.specs.Tables.{AnswersUntil, AnswersUntilCut, AnswersUntilFault, EndsAtTables, GoesThroughTables, KeepsSpace};
 ghost use Rattle.def_publish.specs.Standing.{ShowsTable};
+ghost use Rattle.def_state.specs.Level.{is_dense};
 ghost use Rattle.def_state.specs.Sound.{IsSound};
-ghost use Rattle.def_state.specs.State.{State, stored, updates_of};
+ghost use Rattle.def_state.specs.State.{State, stored, updates_of, versions_of};
 ghost use Rattle.strat_store.specs.Applying.{may_write};
 ghost use Rattle.strat_memory.specs.Paying.{IsPaidIn};
 
@@ -83,6 +84,7 @@ pub fn images_go_through_the_tables_of_a_run<D: Viewed>()
     ensures images { (d e : D) (f c : Image) → KeepsSpace f (D.view d) (D.view e)
         → Since (D.view e) (D.view d).moment c → Images (D.view d) c
         ⊎ ((s : State) × (reads_as c ≡ Some s) × IsSound s × (stored s ≤ 2 * updates_of s)
+        × IsTrue (list_all (λ level. list_all (is_dense (versions_of s)) level.arrays) s.levels)
         × (IsPaidIn f → IsPaidIn c)) }
 {}
 

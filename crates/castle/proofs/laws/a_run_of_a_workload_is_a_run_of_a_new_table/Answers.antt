@@ -1,5 +1,5 @@
 use Rattle.std.proofs.Common.{◌≡◌, ℕ, ◌⊎◌, inl, inr, sym, subst, arith}
-use Rattle.castle.proofs.OutcomeLemmas.{causes, exposed_ends_by, goes_new, made_none, new_space, none_or_shown, none_or_thrifty, work_ends_by, work_left, work_sent}
+use Rattle.castle.proofs.OutcomeLemmas.{breaks_for_fault, causes, exposed_ends_by, goes_new, made_none, new_space, none_or_shown, none_or_thrifty, out_of_memory, work_ends_by, work_left, work_sent}
 use Rattle.castle.proofs.laws.a_run_of_a_workload_is_a_run_of_a_new_table.Goals as goal
 
 pub returns-clause-done : goal.returns-clause-done
@@ -16,11 +16,19 @@ returns-clause-text g c = λ path seed count status x y d e h ran exposed. work_
 pub returns-clause-left : goal.returns-clause-left
 returns-clause-left g c = λ path seed count status x y d e f ran exposed.
     elim (ran.2.left f exposed).made [
-      | inl none ↦ elim (made_none status ran.0 ran.1 (g.D.Viewed.view d) (g.D.Viewed.view e) none) [
-        | inl device ↦ inl device
-        | inr memory ↦ inr (inl memory)
-      ]
-      | inr carried ↦ inr (inr (carried.transcript, carried.run, carried.region, carried.front, (carried.continued, carried.next, carried.follows.left)))
+      | inl none ↦ inl (
+        made_none status ran.0 ran.1 (g.D.Viewed.view d) (g.D.Viewed.view e) none,
+        λ eight. (none.same (out_of_memory status ran.0 ran.1 eight)).0,
+        λ i since. (λ eight. (none.same (out_of_memory status ran.0 ran.1 eight)).1.each i since, none.kept.each i since),
+      )
+      | inr carried ↦ inr (
+        carried.transcript,
+        carried.run,
+        carried.region,
+        carried.front,
+        breaks_for_fault seed count ran.0 x y (g.D.Viewed.view d) (g.D.Viewed.view e) carried ran.2.cause,
+        (carried.continued, carried.next, carried.follows.left),
+      )
     ]
 
 pub returns-clause-trail : goal.returns-clause-trail

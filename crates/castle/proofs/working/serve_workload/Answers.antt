@@ -1,13 +1,34 @@
-use Rattle.std.proofs.Common.{Some, None, ap, refl, inl, inr}
+use Rattle.std.proofs.Common.{◌≡◌, Some, None, Err, ap, refl, sym, subst, inl, inr}
+use Rattle.def_crash.proofs.MomentLemmas.{leaves_refl}
+use Rattle.strat_model.specs.declared.ended.Ended.TheVariants as ended
+use Rattle.strat_open.specs.Following.{IsUnchanged}
 use Rattle.strat_serve.specs.World.{world}
 use Rattle.castle.proofs.ServedLemmas.{workload_end, workload_leaves}
 use Rattle.castle.proofs.working.serve_workload.Goals as goal
 
 pub returns-in-Err-NoMemory-clause-ok : goal.returns-in-Err-NoMemory-clause-ok
-returns-in-Err-NoMemory-clause-ok g c = λ f exposed. record { ends = tt; made = inl (record { ends = inl refl; moments = c.format.ensures.images f exposed }) }
+returns-in-Err-NoMemory-clause-ok g c = λ f exposed.
+    let same : c.format.new.disk ≡ c.args.disk.now = c.in-Err-NoMemory.ensures.same (ap Err c.in-Err-NoMemory.field-0-is) in
+    record {
+      ends = tt;
+      made = inl (record {
+        ends = inl refl;
+        moments = c.format.ensures.images f exposed;
+        kept = c.format.ensures.kept;
+        same = λ is. subst (λ (d : g.row.D.Denot). IsUnchanged (g.D.Disk.view c.args.disk.now) (g.D.Disk.view d)) (sym same) (refl, leaves_refl (g.D.Disk.view c.args.disk.now));
+      });
+    }
 
 pub returns-in-Err-Device-clause-ok : goal.returns-in-Err-Device-clause-ok
-returns-in-Err-Device-clause-ok g c = λ f exposed. record { ends = tt; made = inl (record { ends = inr refl; moments = c.format.ensures.images f exposed }) }
+returns-in-Err-Device-clause-ok g c = λ f exposed. record {
+  ends = tt;
+  made = inl (record {
+    ends = inr refl;
+    moments = c.format.ensures.images f exposed;
+    kept = c.format.ensures.kept;
+    same = λ is. let e : ended.Device ≡ ended.NoMemory = is in cc;
+  });
+}
 
 pub returns-clause-end : goal.returns-clause-end
 returns-clause-end g c =

@@ -10,5 +10,5 @@ returns-clause-end g c = λ e image run end ends left. ends image left
 pub returns-clause-images : goal.returns-clause-images
 returns-clause-images g c = λ d e f image keeps since. elim (keeps image since) [
   | inl old ↦ inl old
-  | inr new ↦ inr (new.0.state, new.0.reads, new.0.sound, new.0.two, new.1)
+  | inr new ↦ inr (new.0.state, new.0.reads, new.0.sound, new.0.two, new.0.dense, new.1)
 ]
