@@ -20,3 +20,5 @@ mod stops;
 mod streams;
 #[cfg(test)]
 mod support;
+#[cfg(test)]
+mod worked;
