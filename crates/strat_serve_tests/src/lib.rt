@@ -13,6 +13,8 @@ mod disks;
 #[cfg(test)]
 mod formatting;
 #[cfg(test)]
+mod openings;
+#[cfg(test)]
 mod scripts;
 #[cfg(test)]
 mod stops;
