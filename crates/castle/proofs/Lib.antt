@@ -6,4 +6,5 @@ pub mod SummaryLemmas
 pub mod TextLemmas
 pub mod ArgumentLemmas
 pub mod HeadlineLemmas
+pub mod AnyImageLemmas
 pub mod OutcomeLemmas

@@ -1,6 +1,7 @@
 //! `castle`: serves a store of versioned dictionaries over standard input and output.
 #![tactic(auto)]
 
+mod any_image;
 mod arguments;
 mod formatting;
 mod headline;

@@ -13,6 +13,8 @@ mod disks;
 #[cfg(test)]
 mod formatting;
 #[cfg(test)]
+mod openings;
+#[cfg(test)]
 mod replies;
 #[cfg(test)]
 mod scripts;
@@ -22,3 +24,5 @@ mod stops;
 mod streams;
 #[cfg(test)]
 mod support;
+#[cfg(test)]
+mod worked;

@@ -26,6 +26,10 @@ pub enum Script {
     Look,
     /// Looks up the thirteen keys.
     LookThirteen,
+    /// The fourteen changes of the worked stream.
+    Worked,
+    /// Looks up the twelve keys that they name.
+    LookWorked,
 }
 
 /// How many of the changes a run makes: they end with nine versions.
@@ -40,6 +44,10 @@ const VALUES: [&[u8]; 4] = [b"", b"other", &[7; 1000], &[8; 1024]];
 const THIRTEEN: [&[u8]; 13] = [
     b"k01", b"k02", b"k03", b"k04", b"k05", b"k06", b"k07", b"k08", b"k09", b"k10", b"k11", b"k12",
     b"k13",
+];
+
+const TWELVE: [&[u8]; 12] = [
+    b"a", b"b", b"c", b"d", b"e", b"f", b"g", b"h", b"i", b"j", b"k", b"l",
 ];
 
 /// A number that is drawn by a multiplication.
@@ -185,6 +193,29 @@ fn thirteen(n: u32) -> &'static [u8] {
     THIRTEEN[(n % 13) as usize]
 }
 
+/// The key of one of twelve, around.
+fn twelve(n: u32) -> &'static [u8] {
+    TWELVE[(n % 12) as usize]
+}
+
+/// Change number n of the worked stream: `a` is put twice, `b` is put and deleted, and each other key is put once.
+fn worked(n: u32) -> Command<'static> {
+    let version = 0;
+    let (key, value): (&'static [u8], &'static [u8]) = match n {
+        0 => (b"a", b"1"),
+        1 => (b"b", b"2"),
+        2 => (b"a", b"9"),
+        3 => return Command::Delete { version, key: b"b" },
+        4 => (b"c", b"3"),
+        _ => (twelve(n.saturating_sub(2)), b"1"),
+    };
+    Command::Put {
+        version,
+        key,
+        value,
+    }
+}
+
 /// Command number n of a list, from 0.
 pub fn command(script: Script, n: u32) -> Command<'static> {
     match script {
@@ -200,6 +231,11 @@ pub fn command(script: Script, n: u32) -> Command<'static> {
         Script::LookThirteen => Command::Get {
             version: 0,
             key: thirteen(n),
+        },
+        Script::Worked => worked(n),
+        Script::LookWorked => Command::Get {
+            version: 0,
+            key: twelve(n),
         },
     }
 }

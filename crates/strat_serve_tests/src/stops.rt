@@ -15,12 +15,12 @@ use strat_store::{AttachFault, Store};
 /// A list of changes, how many they are, those that look up what they set, and how many of the changes become durable
 /// together at most.
 #[derive(Clone, Copy)]
-struct Plan {
-    script: Script,
-    most: u32,
-    look: Script,
-    looks: u32,
-    batch: u32,
+pub(crate) struct Plan {
+    pub script: Script,
+    pub most: u32,
+    pub look: Script,
+    pub looks: u32,
+    pub batch: u32,
 }
 
 /// How many commands a store on a disk acknowledges: none where the disk fails as it is opened.
@@ -83,7 +83,7 @@ fn keeps_prefix<D: Disk>(
 }
 
 /// The same of the store that a disk opens as.
-fn has_prefix<D: Disk>(
+pub(crate) fn has_prefix<D: Disk>(
     alloc: Global,
     disk: &mut D,
     plan: Plan,
