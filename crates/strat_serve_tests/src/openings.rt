@@ -64,7 +64,7 @@ fn opened(alloc: Global, disk: MemDisk, calls: u64) -> Option<(MemDisk, bool)> {
 /// Whether a disk, as it is or after a crash, has the table after a prefix of the changes with all that were acknowledged.
 fn keeps(alloc: Global, disk: MemDisk, choice: u64, done: u32) -> bool {
     match left(disk, choice) {
-        Some(mut disk) => has_prefix(alloc, &mut disk, plan(), done, false) == Some(true),
+        Some(mut disk) => has_prefix(alloc, &mut disk, plan(4), done, false) == Some(true),
         None => false,
     }
 }

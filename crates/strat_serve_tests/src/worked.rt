@@ -83,14 +83,15 @@ const CHANGES: [usize; 14] = [
 /// What a run may read here.
 const BUDGET: u64 = 100_000;
 
-/// The changes of the stream, of which the journal takes four at a time.
-pub(crate) fn plan() -> Plan {
+/// The changes of the stream, of which so many at most are made and not acknowledged: four become durable together, and the
+/// replies to sixteen wait for a sink.
+pub(crate) fn plan(batch: u32) -> Plan {
     Plan {
         script: Script::Worked,
         most: 14,
         look: Script::LookWorked,
         looks: 12,
-        batch: 4,
+        batch,
     }
 }
 
@@ -139,19 +140,19 @@ pub fn run_stopped(
     Some((how, done, fuse.into_inner()))
 }
 
-/// Whether a crash of this choice leaves the table after a prefix of the changes with all that were acknowledged, and a run
-/// goes on from it.
-fn leaves(alloc: Global, disk: &MemDisk, choice: u8, done: u32) -> bool {
+/// Whether a crash of this choice leaves the table after a prefix of the changes with all that were acknowledged, and so many
+/// more at most, and a run goes on from it.
+fn leaves(alloc: Global, disk: &MemDisk, choice: u8, done: u32, more: u32) -> bool {
     match disk.crash(choice) {
-        Ok(mut after) => has_prefix(alloc, &mut after, plan(), done, true) == Some(true),
+        Ok(mut after) => has_prefix(alloc, &mut after, plan(more), done, true) == Some(true),
         Err(_) => false,
     }
 }
 
 /// Whether each crash does, and the disk as it is.
-fn leaves_table(alloc: Global, disk: &mut MemDisk, done: u32) -> bool {
-    (0..3).all(|choice| leaves(alloc, disk, choice, done))
-        && has_prefix(alloc, disk, plan(), done, true) == Some(true)
+fn leaves_table(alloc: Global, disk: &mut MemDisk, done: u32, more: u32) -> bool {
+    (0..3).all(|choice| leaves(alloc, disk, choice, done, more))
+        && has_prefix(alloc, disk, plan(more), done, true) == Some(true)
 }
 
 /// What fails at one of its calls.
@@ -164,13 +165,13 @@ enum Part {
 
 /// How a run ends where this part fails at this call, if such a table is left then.
 fn fails_at(alloc: Global, store: &MemDisk, part: Part, call: u64, piece: usize) -> Option<Ended> {
-    let (reads, writes, calls) = match part {
-        Part::Source => (call, 0, 100_000),
-        Part::Sink => (0, call, 100_000),
-        Part::Device => (0, 0, call.saturating_sub(1)),
+    let (reads, writes, calls, more) = match part {
+        Part::Source => (call, 0, 100_000, 4),
+        Part::Sink => (0, call, 100_000, 16),
+        Part::Device => (0, 0, call.saturating_sub(1), 4),
     };
     let (how, done, mut disk) = run_stopped(alloc, store, reads, writes, calls, piece)?;
-    leaves_table(alloc, &mut disk, done).then_some(how)
+    leaves_table(alloc, &mut disk, done, more).then_some(how)
 }
 
 /// The first call at which this part does not fail, as the run has ended; at each one before that, it ends so.
