@@ -1,6 +1,6 @@
 //! Replies to frames that come together: in how many writes they leave, and what a sink has that fails amid them.
 
-ghost use Rattle.std.specs.Prelude.{◌<◌, ◌≤◌};
+ghost use Rattle.std.specs.Prelude.{◌<◌};
 
 use crate::support::{puts_on, small_store};
 use std::alloc::Global;
@@ -87,12 +87,13 @@ fn sixteen_gets_in_one_piece_leave_in_one_write(rt: HostRuntime) {
 
 /// Whether a sink that takes four bytes a call and fails at this one has the front of the replies to puts and gets in turn, and
 /// the store both puts.
-fn fails_amid(alloc: Global, store: &MemDisk, call: u64, sent: usize) -> bool
-    requires { sent ≤ 42 }
-{
+fn fails_amid(alloc: Global, store: &MemDisk, call: u64, sent: usize) -> bool {
     let Ok(mut disk) = store.crash(0) else {
         return false;
     };
+    if sent > TOLD.len() {
+        return false;
+    }
     let told = match run_into(alloc, &mut disk, IN_TURN, 4, call) {
         Some((how, sink)) => how == Ended::Sink && sink.bytes() == &TOLD[..sent],
         None => false,
