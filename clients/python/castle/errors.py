@@ -249,7 +249,7 @@ class OutOfMemory(Ended):
     status = 8
     text = "no memory"
     what = "there was too little memory to open the store, which is as it was"
-    remedy = "Make room and try again: it takes 1.3 MB, 3.9 KB for each of M and 75 bytes for each of V."
+    remedy = "Make room and try again: it takes 1.7 MB, 3.9 KB for each of M and 75 bytes for each of V."
 
 
 class StoreDamaged(Ended):
