@@ -1,0 +1,11 @@
+pub mod Sightings
+pub mod SightFields
+pub mod Scanned
+pub mod ArrayCounts
+pub mod Strays
+pub mod Places
+pub mod ArrayNumbers
+pub mod LevelNumbers
+pub mod Children
+pub mod Fit
+pub mod Walked
