@@ -1,11 +1,11 @@
 -- The rules of an array are told from what was counted.
-use Rattle.std.proofs.Common.{◌≡◌, ◌≤◌, ◌<◌, ◌*◌, ◌-◌, ◌^◌, arith, ℕ, Bool, true, false, eqb, leb, ltb, min, get_or, ◌&&◌, not, inl, inr, List, [], ◌∷◌, ◌++◌, length, map, filter, Option, None, Some, refl, sym, ap, ◌∙◌, subst}
+use Rattle.std.proofs.Common.{◌≡◌, ◌≤◌, ◌<◌, ◌*◌, ◌-◌, ◌^◌, ◌||◌, arith, ℕ, suc, Bool, true, false, cond, eqb, leb, ltb, min, get_or, ◌&&◌, not, inl, inr, List, [], ◌∷◌, ◌++◌, length, map, filter, Option, None, Some, refl, sym, ap, ◌∙◌, subst}
 use Rattle.std.specs.List.{list_all, sum_by, flat_map}
-use Rattle.std.proofs.lemmas.Bool.{and_parts, and_from, ltb-true, lt-ltb}
+use Rattle.std.proofs.lemmas.Bool.{and_parts, and_from, ltb-true, lt-ltb, eqb-true}
 use Rattle.strat_base.specs.Tree.{Parents, IsTree}
 use Rattle.strat_base.specs.Entries.{Entry, holds_entry, is_tagged, lead_entries}
 use Rattle.strat_base.specs.declared.descriptors.ArrayDesc.{ArrayDesc}
-use Rattle.strat_base.proofs.ListFacts.{Among, all_at, all_from, all_same, map_same, among_filter, filter_among, among_in_flat}
+use Rattle.strat_base.proofs.ListFacts.{Among, any_among, all_at, all_from, all_same, map_same, among_filter, filter_among, among_flat, among_in_flat}
 use Rattle.strat_base.proofs.EntryLemmas.{held_among}
 use Rattle.def_recovery.proofs.BadLemmas.{contained_at}
 use Rattle.def_split.specs.Groups.{grouped_entries, AreGroups, group_versions, own_of}
@@ -92,7 +92,7 @@ min_small n le = omega (arith, le)
 
 module _ (s : State) (on : Level) (a : TaggedArray) (groups : List (List Entry)) (desc : ArrayDesc) (scan : Scan) (strays : Strays) (mine leads : Sightings)
     (x : IsArrayCounted s on a groups desc scan strays mine leads) where
-  parents : Parents
+  abbrev parents : Parents
   parents = versions_of s
 
   here : Among a on.arrays

@@ -1,1 +1,3 @@
 pub mod ArrayLemmas
+pub mod PlaceLemmas
+pub mod LeastLemmas

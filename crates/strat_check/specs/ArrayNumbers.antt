@@ -1,5 +1,5 @@
 -- The rules of an array, as they are told from numbers.
-use Rattle.std.specs.Prelude.{◌≡◌, ◌≤◌, ◌<◌, ℕ, ◌*◌, ◌-◌, ◌^◌, not, ◌==◌, ◌&&◌, nat_lt, nat_le, min, Bool, List, [], length, map, sum_by, slice_index, Option, Some, None}
+use Rattle.std.specs.Prelude.{◌≡◌, ◌≤◌, ◌<◌, ℕ, ◌*◌, ◌-◌, ◌^◌, not, ◌==◌, ◌&&◌, nat_lt, nat_le, min, Bool, List, [], ◌∷◌, length, map, sum_by, slice_index, Option, Some, None}
 use Rattle.std.specs.List.{list_all, Contains}
 use Rattle.strat_base.specs.declared.descriptors.ArrayDesc.{ArrayDesc}
 use Rattle.strat_base.specs.Entries.{Entry, is_ascending}

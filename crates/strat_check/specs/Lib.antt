@@ -9,3 +9,4 @@ pub mod LevelNumbers
 pub mod Children
 pub mod Fit
 pub mod Walked
+pub mod StoreScans

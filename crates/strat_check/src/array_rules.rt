@@ -1,11 +1,9 @@
 //! The rules of an array, told from what was counted of it and of its level.
 
 ghost use Rattle.std.specs.List.{list_all, sum_by};
-ghost use Rattle.std.specs.Prelude.{◌≡◌, ◌-◌, ◌*◌, ◌^◌, ◌==◌, ◌&&◌, not, nat_lt, nat_le, min, length, map, slice_index, List, IsTrue};
-ghost use Rattle.def_state.specs.Level.{TaggedArray, Level, least};
-ghost use Rattle.def_state.specs.State.{State};
-ghost use Rattle.strat_base.specs.Entries.{Entry};
-ghost use Rattle.strat_check.specs.ArrayNumbers.{own_sum, sees_same, sees_enough, lesser_of, IsToldFrom, IsArrayCounted, IsArrayTold};
+ghost use Rattle.std.specs.Prelude.{◌≡◌, ◌<◌, ◌-◌, ◌*◌, ◌^◌, ◌==◌, ◌&&◌, not, nat_lt, nat_le, min, length, map, slice_index, IsTrue};
+ghost use Rattle.def_state.specs.Level.{least};
+ghost use Rattle.strat_check.specs.ArrayNumbers.{own_sum, sees_same, sees_enough, lesser_of, IsToldFrom};
 
 use crate::level_count::Strays;
 use crate::places::ArrayTold;
@@ -137,9 +135,6 @@ pub fn tell_array(
     requires fits { IsTrue (list_all (λ v. nat_lt v (length mine.now.own)) desc.now.versions) }
     requires len { length leads_of_level.now.own ≡ length mine.now.own }
     ensures ok { IsToldFrom desc.now scan strays mine.now leads_of_level.now result }
-    ensures found { (s : State) (on : Level) (a : TaggedArray) (groups : List (List Entry))
-        → IsArrayCounted s on a groups desc.now scan strays mine.now leads_of_level.now
-        → IsArrayTold s on a result }
 {
     let tag = desc.versions.as_slice();
     let leads = own_of_tag(tag, mine);

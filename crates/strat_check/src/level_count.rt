@@ -1,7 +1,7 @@
 //! STUB of H3.
 
-ghost use Rattle.std.specs.List.{Contains, sum_by};
-ghost use Rattle.std.specs.Prelude.{◌≡◌, ◌≤◌, ◌<◌, ◌^◌, ℕ, length, list_all, nat_lt, Some, IfOk, IsErrOf, IsTrue};
+ghost use Rattle.std.specs.List.{Contains, list_all, sum_by};
+ghost use Rattle.std.specs.Prelude.{◌≡◌, ◌≤◌, ◌<◌, ◌^◌, ℕ, length, nat_lt, Some, IfOk, IsErrOf, IsTrue};
 ghost use Rattle.def_check.specs.Told.{MayBeCounted};
 ghost use Rattle.def_crash.specs.Faults.{HasCause, ReadsAtMost};
 ghost use Rattle.def_crash.specs.Image.{Image};

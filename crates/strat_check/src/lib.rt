@@ -11,3 +11,4 @@ pub mod level_walk;
 pub mod places;
 pub mod scan;
 pub mod sights;
+pub mod store_walk;
