@@ -1,3 +1,5 @@
 pub mod ArrayLemmas
 pub mod PlaceLemmas
 pub mod LeastLemmas
+pub mod RangeLemmas
+pub mod ChildLemmas

@@ -68,6 +68,18 @@ pub fn lower_by_items(lowest: u32, first: &[u32], items: &[Item]) -> u32
     least
 }
 
+/// The lesser of a number and the least child of a version, if it has leads. O(1).
+fn lower_by_own(lowest: u32, first: &[u32], leads: &Sights, v: Version) -> u32
+    requires fits { v < length leads.now.own }
+    ensures ok { result ≡ lowered_by_own leads.now.own first.now lowest v }
+{
+    if leads.own(v) == 0 {
+        lowest
+    } else {
+        lower(lowest, first, v)
+    }
+}
+
 /// The least of a number and the least children of the versions that have leads. O(versions).
 pub fn lower_by_leads(lowest: u32, first: &[u32], leads: &Sights, versions: u32) -> u32
     requires fits { versions ≤ length leads.now.own }
@@ -76,9 +88,7 @@ pub fn lower_by_leads(lowest: u32, first: &[u32], leads: &Sights, versions: u32)
 {
     let mut least = lowest;
     for v in 0..versions {
-        if leads.own(v) > 0 {
-            least = lower(least, first, v);
-        }
+        least = lower_by_own(least, first, leads, v);
     }
     least
 }

@@ -1,7 +1,7 @@
 //! The rules of a level, told from what was counted of its leads and from descriptors.
 
 ghost use Rattle.std.specs.List.{flat_map, list_all, range_with_len};
-ghost use Rattle.std.specs.Prelude.{◌≡◌, ◌≤◌, ◌*◌, ◌^◌, nat_lt, nat_le, length, IfOk, IsTrue};
+ghost use Rattle.std.specs.Prelude.{◌≡◌, ◌≤◌, ◌<◌, ◌*◌, ◌^◌, nat_lt, nat_le, length, IfOk, IsTrue};
 ghost use Rattle.strat_check.specs.LevelNumbers.{marked_with, marked_of, is_quiet};
 
 use crate::sights::Sights;
@@ -20,13 +20,22 @@ fn mark_tag(marks: &mut [bool], tag: &[Version])
 
 /// Marks the versions of the tags of arrays. O(lengths of all tags).
 fn mark_tags(marks: &mut [bool], arrays: &[ArrayDesc])
-    requires fits { IsTrue (list_all (λ v. nat_lt v (length marks.old))
-        (flat_map (λ a. a.versions) arrays.now)) }
+    requires fits { IsTrue (list_all (λ a. list_all (λ v. nat_lt v (length marks.old)) a.versions)
+        arrays.now) }
     ensures ok { marks.new ≡ marked_with marks.old (flat_map (λ a. a.versions) arrays.now) }
 {
     for array in arrays {
         mark_tag(marks, array.versions.as_slice());
     }
+}
+
+/// Whether a version is marked or sees no key. O(1).
+fn is_quiet(marks: &[bool], sights: &Sights, v: Version) -> bool
+    requires len { v < length marks.now }
+    requires fits { v < length sights.now.own }
+    ensures ok { result ≡ is_quiet marks.now sights.now v }
+{
+    marks[v as usize] || sights.seen(v) == 0
 }
 
 /// Whether each version below a horizon is marked or sees no key. O(horizon).
@@ -37,7 +46,7 @@ fn are_quiet(marks: &[bool], sights: &Sights, horizon: u32) -> bool
         ≡ list_all (is_quiet marks.now sights.now) (range_with_len 0 horizon) }
 {
     for v in 0..horizon {
-        if !marks[v as usize] && sights.seen(v) != 0 {
+        if !is_quiet(marks, sights, v) {
             return false;
         }
     }
@@ -48,8 +57,8 @@ fn are_quiet(marks: &[bool], sights: &Sights, horizon: u32) -> bool
 /// runs; the only error is want of memory. O(horizon + lengths of all tags).
 pub fn is_tagged(alloc: Global, level: &LevelDesc, sights: &Sights) -> Result<bool, NoMemory>
     requires fits { level.now.horizon ≤ length sights.now.own }
-    requires room { IsTrue (list_all (λ v. nat_lt v level.now.horizon)
-        (flat_map (λ a. a.versions) level.now.arrays)) }
+    requires room { IsTrue (list_all
+        (λ a. list_all (λ v. nat_lt v level.now.horizon) a.versions) level.now.arrays) }
     ensures ok { IfOk result (λ told. told ≡ list_all
         (is_quiet (marked_of level.now.horizon level.now.arrays) sights.now)
         (range_with_len 0 level.now.horizon)) }

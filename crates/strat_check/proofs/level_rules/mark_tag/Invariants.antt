@@ -1,4 +1,4 @@
-use Rattle.std.proofs.Common.{◌≡◌, ◌×◌, length, take}
+use Rattle.std.proofs.Common.{◌≡◌, take}
 use Rattle.strat_check.specs.LevelNumbers.{marked_with}
 use Rattle.strat_check.proofs.level_rules.mark_tag.Given as goal
 
