@@ -52,11 +52,11 @@ distinct_tail v vs h = (and_parts (not (is_tagged vs v)) (is_distinct vs) h).1
 
 tagged_front : (xs ys : List ℕ) (v : ℕ) → not (is_tagged (xs ++ ys) v) ≡ true → not (is_tagged xs v) ≡ true
 tagged_front [] ys v h = refl
-tagged_front (x ∷ xs) ys v h = go (eqb x v) h
+tagged_front (x ∷ xs) ys v h = go (eqb x v) h (tagged_front xs ys v)
   where
-    go : (b : Bool) → not (b || is_tagged (xs ++ ys) v) ≡ true → not (b || is_tagged xs v) ≡ true
-    go true h = h
-    go false h = tagged_front xs ys v h
+    go : (b : Bool) → not (b || is_tagged (xs ++ ys) v) ≡ true → (not (is_tagged (xs ++ ys) v) ≡ true → not (is_tagged xs v) ≡ true) → not (b || is_tagged xs v) ≡ true
+    go true h rest = h
+    go false h rest = rest h
 
 distinct_front : (xs ys : List ℕ) → is_distinct (xs ++ ys) ≡ true → is_distinct xs ≡ true
 distinct_front [] ys h = refl

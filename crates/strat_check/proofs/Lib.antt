@@ -3,3 +3,4 @@ pub mod PlaceLemmas
 pub mod LeastLemmas
 pub mod RangeLemmas
 pub mod ChildLemmas
+pub mod WalkLemmas

@@ -1,6 +1,6 @@
 -- What the passes over arrays rest on.
-use Rattle.std.specs.Prelude.{ℕ, ◌+◌, nat_lt, nat_le, ◌&&◌, Bool, List, length, flat_map, sum_by}
-use Rattle.std.specs.List.{list_all}
+use Rattle.std.specs.Prelude.{◌≤◌, ℕ, ◌+◌, nat_lt, nat_le, ◌&&◌, Bool, List, length, sum_by, IsTrue}
+use Rattle.std.specs.List.{list_all, Contains}
 use Rattle.strat_base.specs.declared.descriptors.ArrayDesc.{ArrayDesc}
 use Rattle.strat_base.specs.declared.descriptors.Extent.{Extent}
 use Rattle.strat_base.specs.declared.descriptors.LevelDesc.{LevelDesc}
@@ -28,3 +28,13 @@ blocks_in levels = sum_by (λ level. sum_by (λ a. sum_by (λ x. x.len) a.extent
 abbrev pub are_fit : ℕ → List LevelDesc → Bool
 are_fit versions levels =
     list_all (is_fit_level versions) levels && nat_le (blocks_in levels) 33554432
+
+-- a level has a number, a horizon within so many versions, few arrays, and these have versions below the horizon
+pub record IsFitLevel (versions : ℕ) (level : LevelDesc) : Type 0 where
+  pub number : level.number ≤ 22
+  pub old : level.horizon ≤ versions
+  pub few : length level.arrays ≤ 16384
+  pub low : IsTrue (list_all
+      (λ a. list_all (λ v. nat_lt v level.horizon) a.versions) level.arrays)
+  pub each : (a : ArrayDesc) → Contains level.arrays a
+      → IsTrue (list_all (λ v. nat_lt v versions) a.versions)

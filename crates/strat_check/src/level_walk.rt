@@ -1,7 +1,7 @@
 //! One level of a store that is checked: its leads and its strays, then its arrays, then its own rules.
 
 ghost use Rattle.std.specs.List.{list_all, Contains};
-ghost use Rattle.std.specs.Prelude.{◌≡◌, ◌++◌, ◌∷◌, [], ◌+◌, ◌-◌, ◌*◌, ◌^◌, ℕ, List, length, min, nat_lt, Some, IfOk, IsErrOf, IsTrue};
+ghost use Rattle.std.specs.Prelude.{◌≡◌, ◌++◌, ◌∷◌, [], ◌+◌, ◌-◌, ◌*◌, ◌^◌, ℕ, List, length, min, nat_lt, ◌≤◌, Some, IfOk, IsErrOf, IsTrue};
 ghost use Rattle.def_bytes.specs.Arrays.{blocks_of};
 ghost use Rattle.def_crash.specs.Faults.{HasCause, ReadsAtMost};
 ghost use Rattle.def_crash.specs.Image.{Image};
@@ -16,7 +16,8 @@ ghost use Rattle.strat_base.specs.declared.failures.Trouble.TheVariants as troub
 ghost use Rattle.strat_promote.specs.Job.{blocks_listed};
 ghost use Rattle.strat_promote.specs.Leads.{misfit_in};
 ghost use Rattle.strat_check.specs.ArrayNumbers.{IsArrayTold};
-ghost use Rattle.strat_check.specs.Fit.{is_fit_level};
+ghost use Rattle.strat_check.specs.Fit.{IsFitLevel};
+ghost use Rattle.strat_check.specs.LevelNumbers.{IsLevelToldFrom};
 ghost use Rattle.strat_check.specs.Places.{NoArrayPlaces, KeepsArray, KeepsLevel};
 ghost use Rattle.strat_check.specs.Walked.{IsArrayLooked, AreArraysLooked, AreArraysTold, HaveRoomFor, AreFirstChildren, IsNextLevel, IsFound};
 
@@ -29,7 +30,7 @@ use crate::places::{ArrayPlaces, ArrayTold, LevelTold, Places};
 use crate::scan::Scan;
 use crate::sights::Sights;
 use std::alloc::Global;
-use strat_base::{ArrayDesc, LevelDesc, Trouble};
+use strat_base::{ArrayDesc, LevelDesc, NoMemory, Trouble};
 use strat_disk::Disk;
 use strat_tree::Tree;
 
@@ -171,6 +172,29 @@ fn tell_arrays<D: Disk>(
     Ok(told)
 }
 
+/// Tells the rules of a level itself, of so many leads. The only error is want of memory.
+fn tell_itself(
+    alloc: Global,
+    level: &LevelDesc,
+    mem: u32,
+    leads: &Sights,
+    count: u64,
+    before: Findings,
+) -> Result<LevelTold, NoMemory>
+    requires fits { level.now.number ≤ 22 }
+    requires len { level.now.horizon ≤ length leads.now.own }
+    requires room { IsTrue (list_all
+        (λ a. list_all (λ v. nat_lt v level.now.horizon) a.versions) level.now.arrays) }
+    ensures ok { IfOk result (λ told. IsLevelToldFrom level.now mem leads.now count before told) }
+{
+    Ok(LevelTold {
+        is_tagged: is_tagged(alloc, level, leads)?,
+        has_room: has_room(count, mem, level.number),
+        is_old: level.horizon <= before.horizon,
+        is_settled: level.horizon <= before.lowest,
+    })
+}
+
 /// Tells the rules of a level and of its arrays: two reads of each of their blocks. Device: the disk counted a fault. Damaged: a
 /// block of one of its arrays holds no entries, or none that come after those before it.
 pub fn tell_level<D: Disk>(
@@ -184,7 +208,7 @@ pub fn tell_level<D: Disk>(
     disk: &mut D,
 ) -> Result<Findings, Trouble>
     requires fits { (a : ArrayDesc) → Contains level.now.arrays a → AreWithin a.extents }
-    requires kept { IsTrue (is_fit_level (length tree.now.parents) level.now) }
+    requires kept { IsFitLevel (length tree.now.parents) level.now }
     requires len { HaveRoomFor tree.now.parents tables.old }
     requires room { length scans.now ≡ length level.now.arrays }
     ensures ok { IfOk result (λ after. (f : Image) (s : State) (on : Level) (done rest : List Level)
@@ -213,12 +237,7 @@ pub fn tell_level<D: Disk>(
         &mut tables.array,
         disk,
     )?;
-    let told = LevelTold {
-        is_tagged: is_tagged(alloc, level, &tables.leads)?,
-        has_room: has_room(arrays.leads, mem, level.number),
-        is_old: level.horizon <= before.horizon,
-        is_settled: level.horizon <= before.lowest,
-    };
+    let told = tell_itself(alloc, level, mem, &tables.leads, arrays.leads, before)?;
     let lowest = lower_by_leads(before.lowest, &tables.first, &tables.leads, tree.count());
     Ok(before.with(level, told, arrays, lowest))
 }
