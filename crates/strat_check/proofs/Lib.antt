@@ -4,3 +4,5 @@ pub mod LeastLemmas
 pub mod RangeLemmas
 pub mod ChildLemmas
 pub mod WalkLemmas
+pub mod LevelLemmas
+pub mod FoundLemmas

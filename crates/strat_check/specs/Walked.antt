@@ -101,6 +101,7 @@ pub record IsFound (s : State) (levels : List Level) (x : Findings) : Type 0 whe
 pub record MayBeTold (s : State) : Type 0 where
   pub formed : IsWellFormed s
   pub living : (v : ℕ) → is_living s v ≡ true
+  pub known : length s.parents ≤ length (versions_of s)
   pub counted : (level : Level) → Contains s.levels level → MayBeCounted level
   pub old : (level : Level) → Contains s.levels level → level.horizon ≤ length s.parents
   pub few : (level : Level) → Contains s.levels level

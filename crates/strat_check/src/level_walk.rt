@@ -13,7 +13,7 @@ ghost use Rattle.strat_array.specs.Within.{AreWithin};
 ghost use Rattle.strat_base.specs.Entries.{Entry};
 ghost use Rattle.strat_base.specs.declared.descriptors.ArrayDesc.{ArrayDesc};
 ghost use Rattle.strat_base.specs.declared.failures.Trouble.TheVariants as trouble;
-ghost use Rattle.strat_promote.specs.Job.{blocks_listed};
+ghost use Rattle.strat_promote.specs.Job.{blocks_listed, IsBadInput};
 ghost use Rattle.strat_promote.specs.Leads.{misfit_in};
 ghost use Rattle.strat_check.specs.ArrayNumbers.{IsArrayTold};
 ghost use Rattle.strat_check.specs.Fit.{IsFitLevel};
@@ -155,8 +155,7 @@ fn tell_arrays<D: Disk>(
         → AreArraysTold s on on.arrays told) }
     ensures len { length array.new.own ≡ length array.old.own }
     ensures damaged { (b : ℕ) → IsErrOf result (trouble.Damaged b) → (f : Image)
-        → Exposes (D.view disk.old) f
-        → (a : ArrayDesc) × Contains level.now.arrays a × (misfit_in f a ≡ Some b) }
+        → Exposes (D.view disk.old) f → IsBadInput f level.now.arrays b }
     ensures same { OnlyReads (D.view disk.old) (D.view disk.new) }
     ensures cause { HasCause trouble.Device (D.faults disk.old) (D.faults disk.new) result }
     ensures reads { ReadsAtMost (length (blocks_listed level.now.arrays))
@@ -219,8 +218,7 @@ pub fn tell_level<D: Disk>(
     ensures len { HaveRoomFor tree.now.parents tables.new }
     ensures kept { tables.new.first ≡ tables.old.first }
     ensures damaged { (b : ℕ) → IsErrOf result (trouble.Damaged b) → (f : Image)
-        → Exposes (D.view disk.old) f
-        → (a : ArrayDesc) × Contains level.now.arrays a × (misfit_in f a ≡ Some b) }
+        → Exposes (D.view disk.old) f → IsBadInput f level.now.arrays b }
     ensures same { OnlyReads (D.view disk.old) (D.view disk.new) }
     ensures cause { HasCause trouble.Device (D.faults disk.old) (D.faults disk.new) result }
     ensures reads { ReadsAtMost (2 * length (blocks_listed level.now.arrays))
