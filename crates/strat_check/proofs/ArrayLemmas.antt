@@ -21,7 +21,7 @@ use Rattle.def_check.proofs.ToldLemmas.{told_agreement, told_density, told_drawn
 use Rattle.def_check.proofs.WeightLemmas.{versions_weigh, versions_count}
 use Rattle.strat_check.specs.ArrayNumbers.{own_sum, sees_same, sees_enough, leads_in, IsToldFrom, IsArrayCounted, IsArrayTold}
 use Rattle.strat_check.specs.Sightings.{Sightings, IsSighted}
-use Rattle.strat_check.specs.declared.level_count.Strays.{Strays}
+use Rattle.strat_check.specs.declared.strays.Strays.{Strays}
 use Rattle.strat_check.specs.declared.places.ArrayTold.{ArrayTold}
 use Rattle.strat_check.specs.declared.scan.Scan.{Scan}
 

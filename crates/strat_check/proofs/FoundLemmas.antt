@@ -25,7 +25,7 @@ use Rattle.strat_check.specs.Places.{place_of, first_unless, array_list, first_a
 use Rattle.strat_check.specs.Sightings.{Sightings}
 use Rattle.strat_check.specs.Strays.{IsCountedLevel}
 use Rattle.strat_check.specs.Walked.{scan_of, AreArraysLooked, leads_of_arrays, AreArraysTold, AreFirstChildren, MayBeTold, IsNextLevel, IsFound}
-use Rattle.strat_check.specs.declared.level_count.Strays.{Strays}
+use Rattle.strat_check.specs.declared.strays.Strays.{Strays}
 use Rattle.strat_check.specs.declared.level_walk.ArraysTold.{ArraysTold}
 use Rattle.strat_check.specs.declared.level_walk.Findings.{Findings}
 use Rattle.strat_check.specs.declared.places.Broken.{Broken}

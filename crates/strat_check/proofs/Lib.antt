@@ -6,3 +6,5 @@ pub mod ChildLemmas
 pub mod WalkLemmas
 pub mod LevelLemmas
 pub mod FoundLemmas
+pub mod ScanLemmas
+pub mod StoreLemmas

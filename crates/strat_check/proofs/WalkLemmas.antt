@@ -28,7 +28,7 @@ use Rattle.strat_check.specs.ArrayNumbers.{IsToldFrom, IsArrayCounted, IsArrayTo
 use Rattle.strat_check.specs.Places.{place_of, first_unless, array_list, first_array, after_array, NoArrayPlaces, KeepsArray}
 use Rattle.strat_check.specs.Sightings.{Sightings}
 use Rattle.strat_check.specs.Walked.{scan_of, IsArrayLooked, AreArraysLooked, ArePlacesOf, leads_of_arrays, AreArraysTold}
-use Rattle.strat_check.specs.declared.level_count.Strays.{Strays}
+use Rattle.strat_check.specs.declared.strays.Strays.{Strays}
 use Rattle.strat_check.specs.declared.level_walk.ArraysTold.{ArraysTold}
 use Rattle.strat_check.specs.declared.places.ArrayPlaces.{ArrayPlaces}
 use Rattle.strat_check.specs.declared.places.ArrayTold.{ArrayTold}

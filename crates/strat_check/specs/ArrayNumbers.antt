@@ -13,7 +13,7 @@ use Rattle.strat_check.specs.Sightings.{Sightings, IsSighted}
 use Rattle.strat_check.specs.ArrayCounts.{IsSightOf}
 use Rattle.strat_check.specs.Strays.{AreStraysOf}
 use Rattle.strat_check.specs.Scanned.{have_low_versions}
-use Rattle.strat_check.specs.declared.level_count.Strays.{Strays}
+use Rattle.strat_check.specs.declared.strays.Strays.{Strays}
 use Rattle.strat_check.specs.declared.places.ArrayTold.{ArrayTold}
 use Rattle.strat_check.specs.declared.scan.Scan.{Scan}
 

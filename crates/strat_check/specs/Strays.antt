@@ -9,7 +9,7 @@ use Rattle.def_split.specs.Groups.{grouped_entries, group_versions}
 use Rattle.def_state.specs.Level.{TaggedArray, Level}
 use Rattle.def_state.specs.Live.{live}
 use Rattle.strat_check.specs.Sightings.{Sightings, IsSighted}
-use Rattle.strat_check.specs.declared.level_count.Strays.{Strays}
+use Rattle.strat_check.specs.declared.strays.Strays.{Strays}
 
 -- what was found of a level's array: whether each entry of a version below n is a lead of the level; whether each that is
 -- live at a version of its tag is one

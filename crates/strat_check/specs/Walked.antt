@@ -12,7 +12,7 @@ use Rattle.strat_check.specs.Places.{place_of, first_array, first_in_arrays, fir
 use Rattle.strat_check.specs.Scanned.{have_low_versions}
 use Rattle.strat_check.specs.Sightings.{Sightings}
 use Rattle.strat_check.specs.Strays.{AreStraysOf}
-use Rattle.strat_check.specs.declared.level_count.Strays.{Strays}
+use Rattle.strat_check.specs.declared.strays.Strays.{Strays}
 use Rattle.strat_check.specs.declared.level_walk.ArraysTold.{ArraysTold}
 use Rattle.strat_check.specs.declared.level_walk.Findings.{Findings}
 use Rattle.strat_check.specs.declared.level_walk.Tables.{Tables}

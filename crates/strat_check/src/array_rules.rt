@@ -5,7 +5,7 @@ ghost use Rattle.std.specs.Prelude.{◌≡◌, ◌<◌, ◌-◌, ◌*◌, ◌^�
 ghost use Rattle.def_state.specs.Level.{least};
 ghost use Rattle.strat_check.specs.ArrayNumbers.{own_sum, sees_same, sees_enough, lesser_of, IsToldFrom};
 
-use crate::level_count::Strays;
+use crate::strays::Strays;
 use crate::places::ArrayTold;
 use crate::scan::Scan;
 use crate::sights::Sights;

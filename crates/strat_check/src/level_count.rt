@@ -16,17 +16,11 @@ ghost use Rattle.strat_promote.specs.Opening.{IsBlamed};
 ghost use Rattle.strat_check.specs.Strays.{IsCountedLevel};
 
 use crate::sights::Sights;
+use crate::strays::Strays;
 use std::alloc::Global;
 use strat_base::{LevelDesc, Trouble};
 use strat_disk::Disk;
 use strat_tree::Tree;
-
-/// Stub.
-#[derive(Clone, Copy)]
-pub struct Strays {
-    pub has_any: bool,
-    pub is_live: bool,
-}
 
 /// Stub.
 pub fn count_level<D: Disk>(
@@ -45,7 +39,7 @@ pub fn count_level<D: Disk>(
         → level_on f level.now ≡ Some on → MayBeCounted on → on.horizon ≤ length tree.now.parents
         → sum_by (λ a. length a.content) on.arrays ≤ 2 ^ 48
         → IsCountedLevel tree.now.parents on found.items sights.new) }
-    ensures size { IfOk result (λ found. length found.items ≡ length level.now.arrays) }
+    ensures found { IfOk result (λ found. length found.items ≡ length level.now.arrays) }
     ensures len { length sights.new.own ≡ length sights.old.own }
     ensures damaged { (b : ℕ) → IsErrOf result (trouble.Damaged b)
         → IsBlamed (D.view disk.old) level.now.arrays b }

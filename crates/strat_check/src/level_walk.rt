@@ -24,11 +24,12 @@ ghost use Rattle.strat_check.specs.Walked.{IsArrayLooked, AreArraysLooked, AreAr
 use crate::array_count::count_array;
 use crate::array_rules::tell_array;
 use crate::children::lower_by_leads;
-use crate::level_count::{Strays, count_level};
+use crate::level_count::count_level;
 use crate::level_rules::{has_room, is_tagged};
 use crate::places::{ArrayPlaces, ArrayTold, LevelTold, Places};
 use crate::scan::Scan;
 use crate::sights::Sights;
+use crate::strays::Strays;
 use std::alloc::Global;
 use strat_base::{ArrayDesc, LevelDesc, NoMemory, Trouble};
 use strat_disk::Disk;

@@ -12,3 +12,4 @@ pub mod places;
 pub mod scan;
 pub mod sights;
 pub mod store_walk;
+pub mod strays;

@@ -2,7 +2,7 @@
 //! merged.
 
 ghost use Rattle.std.specs.List.{Contains};
-ghost use Rattle.std.specs.Prelude.{◌≡◌, ◌≤◌, ◌<◌, ◌+◌, ◌-◌, ◌^◌, ◌&&◌, ℕ, length, None, Some, IfOk, IsErrOf};
+ghost use Rattle.std.specs.Prelude.{◌≡◌, ◌≤◌, ◌<◌, ◌+◌, ◌-◌, ◌*◌, ◌^◌, ◌&&◌, ℕ, length, None, Some, IfOk, IsErrOf};
 ghost use Rattle.strat_array.specs.Within.{AreWithin};
 ghost use Rattle.strat_base.specs.declared.failures.Fault.TheVariants as fault;
 ghost use Rattle.strat_base.specs.declared.failures.Trouble.TheVariants as trouble;
@@ -11,7 +11,7 @@ ghost use Rattle.def_crash.specs.Image.{Image};
 ghost use Rattle.def_crash.specs.Moments.{Exposes, OnlyReads};
 ghost use Rattle.def_bytes.specs.Arrays.{block_on, blocks_of};
 ghost use Rattle.strat_promote.specs.LeadRuns.{entries_at_hand};
-ghost use Rattle.strat_check.specs.Scanned.{IsScanned, IsBehind, first_empty, have_low_versions};
+ghost use Rattle.strat_check.specs.Scanned.{IsScanned, ComesBehind, first_empty, have_low_versions};
 
 use std::alloc::Global;
 use strat_array::{BlockNumbers, Scratch};
@@ -70,7 +70,7 @@ fn read_behind<D: Disk>(
 ) -> Result<Scan, Fault>
     requires fits { block < 2 ^ 32 - 1 }
     ensures ok { IfOk result (λ s. (f : Image) → Exposes (D.view disk.old) f
-        → IsBehind f block versions last.old last.new s) }
+        → ComesBehind f block versions last.old last.new s) }
     ensures len { IfOk result (λ s. s.entries ≤ 454) }
     ensures damaged { (b : ℕ) → IsErrOf result (fault.Damaged b) → (b ≡ block)
         × ((f : Image) → Exposes (D.view disk.old) f → block_on f block ≡ None) }
@@ -86,7 +86,7 @@ fn read_behind<D: Disk>(
     last.set(&scratch.entry(len - 1));
     Ok(Scan {
         ascends,
-        entries: u64::from(len),
+        entries: len as u64,
         is_within,
     })
 }
@@ -103,6 +103,7 @@ pub fn scan_array<D: Disk>(
     requires fits { AreWithin desc.now.extents }
     ensures ok { IfOk result (λ s. (f : Image) → Exposes (D.view disk.old) f
         → IsScanned f (blocks_of desc.now.extents) versions s) }
+    ensures len { IfOk result (λ s. s.entries ≤ 454 * length (blocks_of desc.now.extents)) }
     ensures damaged { (b : ℕ) → IsErrOf result (trouble.Damaged b)
         → Contains (blocks_of desc.now.extents) b × ((f : Image) → Exposes (D.view disk.old) f
         → first_empty f (blocks_of desc.now.extents) ≡ Some b) }

@@ -2,7 +2,7 @@
 
 ghost use Rattle.std.specs.List.{Contains, find, list_all, slice_get};
 ghost use Rattle.std.specs.Option.{option_or};
-ghost use Rattle.std.specs.Prelude.{◌≡◌, ◌*◌, [], ℕ, length, map, nat_le, Some, Ok, Err, IfOk, IsErrOf, IsTrue};
+ghost use Rattle.std.specs.Prelude.{◌≡◌, ◌*◌, ◌++◌, ◌∷◌, [], ℕ, None, OnOk, length, map, nat_le, Some, Ok, Err, IfOk, IsErrOf, IsTrue};
 ghost use Rattle.def_bytes.specs.Arrays.{all_some};
 ghost use Rattle.def_check.specs.Checked.{is_unread, check_head};
 ghost use Rattle.def_crash.specs.Faults.{HasCause, ReadsAtMost};
@@ -51,6 +51,58 @@ pub struct StoreScans {
     pub levels: Vec<Listing<Scan>>,
 }
 
+impl LevelScans {
+    /// No array yet, behind those of earlier levels. O(1).
+    fn new(alloc: Global, unordered: Option<Broken>) -> LevelScans
+        ensures ok { (result.scans ≡ []) × (result.unordered ≡ unordered) }
+    {
+        LevelScans {
+            unordered,
+            scans: Listing::new(alloc),
+        }
+    }
+
+    /// One more array. The only error is want of memory. O(1) on average.
+    fn add(&mut self, scan: Scan, level: u8, array: u64) -> Result<(), NoMemory>
+        ensures ok { OnOk result (self.new.scans ≡ self.old.scans ++ scan ∷ []) }
+        ensures found { OnOk result (place_of self.new.unordered ≡ option_or
+            (place_of self.old.unordered) (first_unless scan.ascends (breach 109 level array))) }
+    {
+        let broken = Broken {
+            rule: b'm',
+            level,
+            array,
+        };
+        self.unordered = kept(self.unordered, scan.ascends, broken);
+        match self.scans.push(scan) {
+            Ok(()) => Ok(()),
+            Err(_) => Err(NoMemory),
+        }
+    }
+}
+
+impl StoreScans {
+    /// No level yet. O(1).
+    fn new(alloc: Global) -> StoreScans
+        ensures ok { (result.levels.items ≡ []) × (result.unordered ≡ None) }
+    {
+        StoreScans {
+            unordered: None,
+            levels: Vec::new(alloc),
+        }
+    }
+
+    /// One more level, scanned behind these. The only error is want of memory. O(1) on average.
+    fn add(&mut self, next: LevelScans) -> Result<(), NoMemory>
+        ensures ok { OnOk result (self.new.levels.items ≡ self.old.levels.items ++ next.scans ∷ []) }
+        ensures found { OnOk result (self.new.unordered ≡ next.unordered) }
+    {
+        self.unordered = next.unordered;
+        self.levels.push(next.scans)?;
+        Ok(())
+    }
+}
+
 /// Scans the arrays of a level: one read of each of their blocks. Device: the disk counted a fault. Damaged: this block is the
 /// first of all that is no block of entries.
 fn scan_level<D: Disk>(
@@ -72,21 +124,12 @@ fn scan_level<D: Disk>(
     ensures reads { ReadsAtMost (length (blocks_listed level.now.arrays))
         (D.reads disk.old) (D.reads disk.new) }
 {
-    let mut found = LevelScans {
-        unordered,
-        scans: Listing::new(alloc),
-    };
-    for array in level.arrays.as_slice() {
-        let scan = scan_array(alloc, array, versions, disk)?;
-        let broken = Broken {
-            rule: b'm',
-            level: level.number,
-            array: array.id,
-        };
-        found.unordered = kept(found.unordered, scan.ascends, broken);
-        let Ok(()) = found.scans.push(scan) else {
-            return Err(Trouble::NoMemory);
-        };
+    let mut found = LevelScans::new(alloc, unordered);
+    let descs = level.arrays.as_slice();
+    for i in 0..descs.len() {
+        let desc = &descs[i];
+        let scan = scan_array(alloc, desc, versions, disk)?;
+        found.add(scan, level.number, desc.id)?;
     }
     Ok(found)
 }
@@ -110,14 +153,10 @@ fn scan_levels<D: Disk>(
     ensures reads { ReadsAtMost (length (blocks_listed (arrays_in levels.now)))
         (D.reads disk.old) (D.reads disk.new) }
 {
-    let mut found = StoreScans {
-        unordered: None,
-        levels: Vec::new(alloc),
-    };
-    for level in levels {
-        let next = scan_level(alloc, level, versions, found.unordered, disk)?;
-        found.unordered = next.unordered;
-        found.levels.push(next.scans)?;
+    let mut found = StoreScans::new(alloc);
+    for i in 0..levels.len() {
+        let next = scan_level(alloc, &levels[i], versions, found.unordered, disk)?;
+        found.add(next)?;
     }
     Ok(found)
 }

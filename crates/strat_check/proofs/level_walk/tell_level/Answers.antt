@@ -7,7 +7,7 @@ use Rattle.strat_check.specs.Children.{lowered_by_own}
 use Rattle.def_state.specs.State.{versions_of}
 use Rattle.strat_check.specs.ArrayNumbers.{IsLevelSeen}
 use Rattle.strat_check.specs.Strays.{IsCountedLevel}
-use Rattle.strat_check.specs.declared.level_count.Strays.{Strays}
+use Rattle.strat_check.specs.declared.strays.Strays.{Strays}
 use Rattle.strat_check.proofs.WalkLemmas.{level_of}
 use Rattle.strat_check.proofs.FoundLemmas.{next_here, level_seen, arrays_looked, found_more}
 use Rattle.strat_check.proofs.level_walk.tell_level.Goals as goal

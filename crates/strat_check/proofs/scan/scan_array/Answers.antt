@@ -11,13 +11,12 @@ use Rattle.strat_check.proofs.scan.scan_array.Goals as goal
 pub loop-block-init : goal.loop-block-init
 loop-block-init g c =
     let same = c.in_ok-numbers.ensures.ok in
-    let few = c.requires.few in
     record {
       told = λ f exposed. scan_begins f (blocks_of c.args.desc.now.extents) _ c.args.versions c.in_ok-last.last same c.in_ok-last.ensures.ok;
       same = reads_refl (g.D.Disk.view c.args.disk.now);
       faults = refl;
       reads = subst (λ (left : List ℕ). ReadsFront (blocks_of c.args.desc.now.extents) left (g.D.Disk.reads c.args.disk.now) (g.D.Disk.reads c.args.disk.now)) (sym same) (front_refl (blocks_of c.args.desc.now.extents) (g.D.Disk.reads c.args.disk.now));
-      few = omega (arith, few, ap (λ (bs : List ℕ). length bs) same);
+      few = omega (arith, ap (λ (bs : List ℕ). length bs) same);
     }
 
 pub returns-in_err-found-clause-damaged : goal.returns-in_err-found-clause-damaged

@@ -13,7 +13,7 @@ invariant-loop-block g l =
       same : OnlyReads (g.D.Disk.view l.initial.disk) (g.D.Disk.view l.disk);
       faults : g.D.Disk.faults l.disk ≡ g.D.Disk.faults l.initial.disk;
       reads : ReadsFront (blocks_of l.desc.extents) l.numbers (g.D.Disk.reads l.initial.disk) (g.D.Disk.reads l.disk);
-      few : l.all.entries + 454 * length l.numbers ≤ 454 * 4294967295;
+      few : l.all.entries + 454 * length l.numbers ≤ 454 * length (blocks_of l.desc.extents);
     }
 
 abbrev pub decreases-loop-block : goal.decreases-loop-block
