@@ -137,7 +137,7 @@ module _ (s : State) (f : Image) (desc : LevelDesc) (on : Level) (done rest : Li
   old_told : told.is_old ≡ has_old_horizon s on
   old_told =
       level_told.old ∙ ap (λ (h : ℕ). leb h before.horizon) (sym its.horizon) ∙ was.horizon on.horizon
-      ∙ ap (λ (ls : List Level). leb on.horizon (length s.parents) && list_all (λ (other : Level). leb on.horizon other.horizon) ls) (sym done_is)
+      ∙ (λ i. (le-leb on.horizon (length (versions_of s)) known ∙ sym (le-leb on.horizon (length s.parents) (next.may.old on (next_here s done rest on scans next)))) i && list_all (λ (other : Level). leb on.horizon other.horizon) (sym done_is i))
 
   settled_told : told.is_settled ≡ is_above_frozen s on
   settled_told =
@@ -154,12 +154,12 @@ module _ (s : State) (f : Image) (desc : LevelDesc) (on : Level) (done rest : Li
       barren : Entry → Bool
       barren e = not (has_child_below s h e.version)
 
-  horizon_more : (h : ℕ) → leb h after.horizon ≡ (leb h (length s.parents) && list_all (λ (other : Level). leb h other.horizon) (done ++ on ∷ []))
+  horizon_more : (h : ℕ) → leb h after.horizon ≡ (leb h (length (versions_of s)) && list_all (λ (other : Level). leb h other.horizon) (done ++ on ∷ []))
   horizon_more h =
       ap (leb h) (horizon_is ∙ ap (λ (n : ℕ). min before.horizon n) (sym its.horizon)) ∙ leb_least h before.horizon on.horizon
       ∙ ap (λ (b : Bool). b && leb h on.horizon) (was.horizon h)
-      ∙ and_assoc (leb h (length s.parents)) (list_all low done) (leb h on.horizon)
-      ∙ ap (λ (b : Bool). leb h (length s.parents) && b) (ap (λ (b : Bool). list_all low done && b) (and_true (leb h on.horizon)) ∙ sym (list_all-append low done (on ∷ [])))
+      ∙ and_assoc (leb h (length (versions_of s))) (list_all low done) (leb h on.horizon)
+      ∙ ap (λ (b : Bool). leb h (length (versions_of s)) && b) (ap (λ (b : Bool). list_all low done && b) (and_true (leb h on.horizon)) ∙ sym (list_all-append low done (on ∷ [])))
     where
       low : Level → Bool
       low other = leb h other.horizon

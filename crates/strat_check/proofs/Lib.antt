@@ -8,3 +8,5 @@ pub mod LevelLemmas
 pub mod FoundLemmas
 pub mod ScanLemmas
 pub mod StoreLemmas
+pub mod FitLemmas
+pub mod HeadLemmas

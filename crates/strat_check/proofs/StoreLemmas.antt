@@ -24,7 +24,7 @@ use Rattle.def_recovery.specs.Opened.{array_on, level_on}
 use Rattle.def_state.specs.Breach.{Breach, breach, breach_unless}
 use Rattle.def_state.specs.Level.{TaggedArray, Level}
 use Rattle.def_state.specs.Sound.{has_ascending_entries}
-use Rattle.strat_promote.specs.Job.{blocks_listed}
+use Rattle.strat_promote.specs.Job.{blocks_listed, IsBadInput}
 use Rattle.strat_check.specs.Places.{breach_of, place_of, first_unless, array_list, first_array, first_in_arrays}
 use Rattle.strat_check.specs.Scanned.{IsScanned, have_low_versions, first_empty}
 use Rattle.strat_check.specs.StoreScans.{scans_of, content_of, IsScannedLevel, AreScannedLevels, HaveScans}
@@ -275,3 +275,12 @@ reads_once n p q r = let b = r.bound in record { later = r.later; bound = omega 
 
 pub reads_one : (n p q : ℕ) → ReadsAtMost (1 * n) p q → ReadsAtMost n p q
 reads_one n p q r = let b = r.bound in record { later = r.later; bound = omega (arith, b) }
+
+pub bad_wider : (f : Image) (levels : List LevelDesc) (i : ℕ) (level : LevelDesc) (b : ℕ) → slice_get levels i ≡ Some level → IsBadInput f level.arrays b → IsBadInput f (arrays_in levels) b
+bad_wider f levels i level b at bad = record { array = bad.array; one = arrays_of_level levels i level bad.array at bad.one; misfit = bad.misfit }
+
+pub scans_next : (n : ℕ) (levels : List Level) (scans : List (List Scan)) (i : ℕ) (on : Level) (xs : List Scan) → scans ≡ map (scans_of n) levels → slice_get levels i ≡ Some on → slice_get scans i ≡ Some xs → xs ≡ map (scan_of n) on.arrays
+scans_next n levels scans i on xs same on_at scan_at =
+    let there : slice_get scans i ≡ Some (scans_of n on) = ap (λ (ss : List (List Scan)). slice_get ss i) same ∙ slice_get-map (scans_of n) levels i ∙ ap (option_map (scans_of n)) on_at in
+    let both : Some xs ≡ Some (scans_of n on) = sym scan_at ∙ there in
+    cc

@@ -92,9 +92,9 @@ pub record IsFound (s : State) (levels : List Level) (x : Findings) : Type 0 whe
   pub lowest : (h : ℕ) → h ≤ length (versions_of s) → nat_le h x.lowest
       ≡ list_all (λ e. not (has_child_below s h e.version))
       (journal_updates s ++ flat_map level_leads levels)
-  -- a horizon of at most so many is none greater than those of these levels and the manifest's versions
+  -- a horizon of at most so many is no greater than the number of versions and those of these levels
   pub horizon : (h : ℕ) → nat_le h x.horizon
-      ≡ (nat_le h (length s.parents) && list_all (λ other. nat_le h other.horizon) levels)
+      ≡ (nat_le h (length (versions_of s)) && list_all (λ other. nat_le h other.horizon) levels)
   pub leads : x.leads ≡ min (sum_by (λ level. length (level_leads level)) levels) (2 ^ 64 - 1)
 
 -- what recovery gives of a state, whatever its blocks hold, where its arrays ascend

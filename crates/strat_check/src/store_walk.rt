@@ -18,8 +18,7 @@ ghost use Rattle.def_state.specs.State.{State, versions_of};
 ghost use Rattle.strat_array.specs.Within.{AreWithin};
 ghost use Rattle.strat_base.specs.declared.descriptors.ArrayDesc.{ArrayDesc};
 ghost use Rattle.strat_base.specs.declared.failures.Trouble.TheVariants as trouble;
-ghost use Rattle.strat_promote.specs.Job.{blocks_listed};
-ghost use Rattle.strat_promote.specs.Leads.{misfit_in};
+ghost use Rattle.strat_promote.specs.Job.{blocks_listed, IsBadInput};
 ghost use Rattle.strat_check.specs.Fit.{is_fit_level};
 ghost use Rattle.strat_check.specs.Places.{place_of, first_place, first_unless};
 ghost use Rattle.strat_check.specs.StoreScans.{scans_of, HaveScans, IsScannedLevel, AreScannedLevels};
@@ -178,7 +177,7 @@ fn begin(alloc: Global, store: &Reading) -> Result<(Tables, Findings), NoMemory>
     let found = Findings {
         places: Places::new(),
         lowest,
-        horizon: store.manifest().parents.len() as u32 + 1,
+        horizon: tree.count(),
         leads: 0,
     };
     Ok((Tables { leads, array, first }, found))
@@ -206,8 +205,7 @@ fn tell_levels<D: Disk>(
         → scans.now ≡ map (scans_of (length (versions_of s))) s.levels → IsFound s [] begin
         → IsFound s s.levels found) }
     ensures damaged { (b : ℕ) → IsErrOf result (trouble.Damaged b) → (f : Image)
-        → Exposes (D.view disk.old) f
-        → (a : ArrayDesc) × Contains (arrays_in levels.now) a × (misfit_in f a ≡ Some b) }
+        → Exposes (D.view disk.old) f → IsBadInput f (arrays_in levels.now) b }
     ensures same { OnlyReads (D.view disk.old) (D.view disk.new) }
     ensures cause { HasCause trouble.Device (D.faults disk.old) (D.faults disk.new) result }
     ensures reads { ReadsAtMost (2 * length (blocks_listed (arrays_in levels.now)))
@@ -261,8 +259,7 @@ fn tell_store<D: Disk>(
         → scans.now ≡ map (scans_of (length (versions_of s))) s.levels
         → place_of broken ≡ slice_get (breaches s) 0) }
     ensures damaged { (b : ℕ) → IsErrOf result (trouble.Damaged b) → (f : Image)
-        → Exposes (D.view disk.old) f
-        → (a : ArrayDesc) × Contains (descriptors store.now.manifest) a × (misfit_in f a ≡ Some b) }
+        → Exposes (D.view disk.old) f → IsBadInput f (descriptors store.now.manifest) b }
     ensures same { OnlyReads (D.view disk.old) (D.view disk.new) }
     ensures cause { HasCause trouble.Device (D.faults disk.old) (D.faults disk.new) result }
     ensures reads { ReadsAtMost (2 * length (blocks_listed (descriptors store.now.manifest)))
