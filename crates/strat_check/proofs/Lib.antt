@@ -10,3 +10,4 @@ pub mod ScanLemmas
 pub mod StoreLemmas
 pub mod FitLemmas
 pub mod HeadLemmas
+pub mod BeginLemmas
