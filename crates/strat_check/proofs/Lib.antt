@@ -11,3 +11,4 @@ pub mod StoreLemmas
 pub mod FitLemmas
 pub mod HeadLemmas
 pub mod BeginLemmas
+pub mod VerdictLemmas

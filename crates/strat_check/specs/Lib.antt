@@ -10,3 +10,4 @@ pub mod Children
 pub mod Fit
 pub mod Walked
 pub mod StoreScans
+pub mod Verdicts

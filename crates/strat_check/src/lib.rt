@@ -13,3 +13,4 @@ pub mod scan;
 pub mod sights;
 pub mod store_walk;
 pub mod strays;
+pub mod verdict;
