@@ -4,7 +4,7 @@ use Rattle.std.specs.List.{fold, list_all, Contains}
 use Rattle.std.proofs.lemmas.List.{length-set, length-replicate, get_or-set_same}
 use Rattle.std.proofs.lemmas.Nat.{mod_below}
 use Rattle.strat_base.proofs.ListFacts.{Among, all_at, all_from}
-use Rattle.strat_filter.specs.Bits.{fnv, place, places, with_hash, has_hash, bits_after, may_hold, low_half, step_of}
+use Rattle.strat_filter.specs.Bits.{fnv, place, bit_places, with_hash, has_hash, bits_after, may_hold, low_half, step_of}
 
 set_keeps : (bits : List Bool) (at i : ℕ) → get_or bits i false ≡ true → get_or (set bits at true) i false ≡ true
 set_keeps [] at i is = is
@@ -29,7 +29,7 @@ are_set bits [] i among lt = absurd among
 are_set bits (at ∷ ats) i (inl here) lt = stays_set (set bits at true) ats i (ap (λ (k : ℕ). get_or (set bits k true) i false) (sym here) ∙ get_or-set_same bits i true false lt)
 are_set bits (at ∷ ats) i (inr there) lt = let size = length-set bits at true in are_set (set bits at true) ats i there (omega (arith, lt, size))
 
-places_low : (n hash i : ℕ) → 0 < n → Among i (places n hash) → i < n
+places_low : (n hash i : ℕ) → 0 < n → Among i (bit_places n hash) → i < n
 places_low n hash i some (inl here) = let lt = mod_below (low_half hash + 0 * step_of hash) n some in omega (arith, here, lt)
 places_low n hash i some (inr (inl here)) = let lt = mod_below (low_half hash + 1 * step_of hash) n some in omega (arith, here, lt)
 places_low n hash i some (inr (inr (inl here))) = let lt = mod_below (low_half hash + 2 * step_of hash) n some in omega (arith, here, lt)
@@ -37,21 +37,21 @@ places_low n hash i some (inr (inr (inr (inl here)))) = let lt = mod_below (low_
 places_low n hash i some (inr (inr (inr (inr none)))) = absurd none
 
 length_with : (bits : List Bool) (hash : ℕ) → length (with_hash bits hash) ≡ length bits
-length_with bits hash = length_set bits (places (length bits) hash)
+length_with bits hash = length_set bits (bit_places (length bits) hash)
 
 -- a hash that was added is there
 added : (bits : List Bool) (hash : ℕ) → 0 < length bits → has_hash (with_hash bits hash) hash ≡ true
 added bits hash some =
-    ap (λ (n : ℕ). list_all (λ at. get_or (with_hash bits hash) at false) (places n hash)) (length_with bits hash)
-    ∙ all_from (λ at. get_or (with_hash bits hash) at false) (places (length bits) hash) (λ at among.
-    are_set bits (places (length bits) hash) at among (places_low (length bits) hash at some among))
+    ap (λ (n : ℕ). list_all (λ at. get_or (with_hash bits hash) at false) (bit_places n hash)) (length_with bits hash)
+    ∙ all_from (λ at. get_or (with_hash bits hash) at false) (bit_places (length bits) hash) (λ at among.
+    are_set bits (bit_places (length bits) hash) at among (places_low (length bits) hash at some among))
 
 -- and stays there
 stays : (bits : List Bool) (hash other : ℕ) → has_hash bits hash ≡ true → has_hash (with_hash bits other) hash ≡ true
 stays bits hash other is =
-    ap (λ (n : ℕ). list_all (λ at. get_or (with_hash bits other) at false) (places n hash)) (length_with bits other)
-    ∙ all_from (λ at. get_or (with_hash bits other) at false) (places (length bits) hash) (λ at among.
-    stays_set bits (places (length bits) other) at (all_at (λ k. get_or bits k false) at (places (length bits) hash) is among))
+    ap (λ (n : ℕ). list_all (λ at. get_or (with_hash bits other) at false) (bit_places n hash)) (length_with bits other)
+    ∙ all_from (λ at. get_or (with_hash bits other) at false) (bit_places (length bits) hash) (λ at among.
+    stays_set bits (bit_places (length bits) other) at (all_at (λ k. get_or bits k false) at (bit_places (length bits) hash) is among))
 
 after_stays : (bits : List Bool) (keys : List (List ℕ)) (key : List ℕ) → may_hold bits key ≡ true → may_hold (fold (λ bs k. with_hash bs (fnv k)) bits keys) key ≡ true
 after_stays bits [] key is = is

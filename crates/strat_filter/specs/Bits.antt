@@ -19,16 +19,16 @@ abbrev pub place : ℕ → ℕ → ℕ → ℕ
 place n hash i = (low_half hash + i * step_of hash) % n
 
 -- the places of a hash's bits among n
-abbrev pub places : ℕ → ℕ → List ℕ
-places n hash = place n hash 0 ∷ place n hash 1 ∷ place n hash 2 ∷ place n hash 3 ∷ []
+abbrev pub bit_places : ℕ → ℕ → List ℕ
+bit_places n hash = place n hash 0 ∷ place n hash 1 ∷ place n hash 2 ∷ place n hash 3 ∷ []
 
 -- bits with those of a hash set
 abbrev pub with_hash : List Bool → ℕ → List Bool
-with_hash bits hash = fold (λ bs at. slice_set bs at true) bits (places (length bits) hash)
+with_hash bits hash = fold (λ bs at. slice_set bs at true) bits (bit_places (length bits) hash)
 
 -- all bits of a hash are set
 abbrev pub has_hash : List Bool → ℕ → Bool
-has_hash bits hash = list_all (λ at. slice_index_or bits at false) (places (length bits) hash)
+has_hash bits hash = list_all (λ at. slice_index_or bits at false) (bit_places (length bits) hash)
 
 -- a bit of words of 64 bits, the lowest of the first word first
 abbrev pub bit_of : List ℕ → ℕ → Bool
