@@ -1,10 +1,10 @@
 -- Bits that are set stay set.
-use Rattle.std.proofs.Common.{◌≡◌, ◌<◌, ◌+◌, ◌*◌, ◌%◌, ℕ, zero, suc, true, false, Bool, ◌⊎◌, inl, inr, List, [], ◌∷◌, ◌++◌, length, replicate, set, get_or, refl, sym, ap, ◌∙◌, subst, arith}
+use Rattle.std.proofs.Common.{◌≡◌, ◌<◌, ◌+◌, ◌*◌, ℕ, zero, suc, true, false, Bool, inl, inr, List, [], ◌∷◌, length, replicate, set, get_or, refl, sym, ap, ◌∙◌, arith}
 use Rattle.std.specs.List.{fold, list_all, Contains}
 use Rattle.std.proofs.lemmas.List.{length-set, length-replicate, get_or-set_same}
 use Rattle.std.proofs.lemmas.Nat.{mod_below}
 use Rattle.strat_base.proofs.ListFacts.{Among, all_at, all_from}
-use Rattle.strat_filter.specs.Bits.{fnv, place, bit_places, with_hash, has_hash, bits_after, may_hold, low_half, step_of}
+use Rattle.strat_filter.specs.Bits.{fnv, bit_places, with_hash, has_hash, bits_after, may_hold, low_half, step_of}
 
 set_keeps : (bits : List Bool) (at i : ℕ) → get_or bits i false ≡ true → get_or (set bits at true) i false ≡ true
 set_keeps [] at i is = is
