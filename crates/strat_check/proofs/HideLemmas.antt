@@ -12,10 +12,10 @@ use Rattle.strat_base.proofs.ResultFacts.{option_cases}
 use Rattle.strat_base.proofs.TreeLemmas.{parent_older, path_le, on_root, on_path, from_path, self_on_path, ancestor_among, among_ancestor}
 use Rattle.strat_tree.specs.Preorder.{Numbering, IsPreorder, spans}
 use Rattle.strat_check.specs.declared.bare.Bare.{Bare}
-use Rattle.strat_check.specs.Bares.{are_in_order, is_bare, replaced}
+use Rattle.strat_check.specs.Bares.{are_in_order, is_bare, is_place_of, replaced}
 use Rattle.strat_check.specs.Sightings.{weight_above, weight_lost}
 use Rattle.strat_check.specs.Sums.{HaveGrown}
-use Rattle.strat_check.proofs.BareLemmas.{among_take, among_drop, among_at, AreSpanned, order_part, order_rest, order_replaced, bare_replaced, bare_parts, sum_once}
+use Rattle.strat_check.proofs.BareLemmas.{among_take, among_drop, among_at, AreSpanned, spanned, order_part, order_rest, order_replaced, bare_replaced, bare_parts, sum_once}
 use Rattle.strat_check.proofs.GrowthLemmas.{grown_none, grown_more, grown_same}
 
 -- nothing is found where nothing passes
@@ -87,7 +87,7 @@ module _ (parents : Parents) (tree : IsTree parents) (order : Numbering) (versio
       true≢false (sym (among_ancestor parents tree u b.version (from_path parents tree u b.version p some (inr on))) ∙ off))
 
   -- what is bare at the end hides nothing
-  pub passed_all : length versions ≤ i → (weight : ℕ → ℕ) (v : ℕ) → lost_so_far parents weight versions i bare v ≡ weight_lost parents weight v versions
+  passed_all : length versions ≤ i → (weight : ℕ → ℕ) (v : ℕ) → lost_so_far parents weight versions i bare v ≡ weight_lost parents weight v versions
   passed_all whole weight v =
       let all : take i versions ≡ versions = take_all i versions whole in
       let done : list_any (λ u. eqb u v) (take i versions) ≡ list_any (λ u. eqb u v) versions = ap (λ (us : List ℕ). list_any (λ u. eqb u v) us) all in
@@ -109,8 +109,11 @@ module _ (parents : Parents) (tree : IsTree parents) (order : Numbering) (versio
             unhidden (list_any (λ u. eqb u v) versions) (is_bare bare v) (weight_above parents weight v versions) (λ yes'. none)
       ]
 
+  pub lost_all : length versions ≤ i → (weight : ℕ → ℕ) (a b : List ℕ) → HaveGrown (lost_so_far parents weight versions i bare) a b → HaveGrown (λ v. weight_lost parents weight v versions) a b
+  lost_all whole weight a b grown = grown_same (lost_so_far parents weight versions i bare) (λ v. weight_lost parents weight v versions) a b (λ v lt. passed_all whole weight v) grown
+
   module _ (n : ℕ) (placed : IsPreorder n parents order) (down : descends versions ≡ true) (below : list_all (λ u. ltb u n) versions ≡ true) (lt : i < length versions) (from to : ℕ)
-      (spanned : AreSpanned (get_or order.starts (get_or versions i 0) 0) (get_or order.ends (get_or versions i 0) 0) bare from to) where
+      (within : AreSpanned (get_or order.starts (get_or versions i 0) 0) (get_or order.ends (get_or versions i 0) 0) bare from to) where
     abbrev next : ℕ
     next = get_or versions i 0
 
@@ -150,7 +153,7 @@ module _ (parents : Parents) (tree : IsTree parents) (order : Numbering) (versio
     low_apart b among =
         let here = among_take from bare b among in
         let start = (passed.each b here).1 in
-        let less = spanned.low b among in
+        let less = within.low b among in
         placed.law next b.version next_known (bare_known b here)
         ∙ and_left (leb (get_or order.starts next 0) (get_or order.starts b.version 0)) (ltb (get_or order.starts b.version 0) (get_or order.ends next 0)) (lt-leb (get_or order.starts next 0) (get_or order.starts b.version 0) (omega (arith, start, less)))
 
@@ -158,7 +161,7 @@ module _ (parents : Parents) (tree : IsTree parents) (order : Numbering) (versio
     high_apart b among =
         let here = among_drop to bare b among in
         let start = (passed.each b here).1 in
-        let le = spanned.high b among in
+        let le = within.high b among in
         placed.law next b.version next_known (bare_known b here)
         ∙ and_right (leb (get_or order.starts next 0) (get_or order.starts b.version 0)) (ltb (get_or order.starts b.version 0) (get_or order.ends next 0)) (le-ltb (get_or order.starts b.version 0) (get_or order.ends next 0) (omega (arith, start, le)))
 
@@ -170,16 +173,16 @@ module _ (parents : Parents) (tree : IsTree parents) (order : Numbering) (versio
     mid_below b among =
         let here = mid_bare b among in
         let start = (passed.each b here).1 in
-        let both = spanned.mid b among in
+        let both = within.mid b among in
         let up : get_or order.starts next 0 ≤ get_or order.starts b.version 0 = omega (arith, start, both.0) in
-        let within : get_or order.starts b.version 0 < get_or order.ends next 0 = omega (arith, start, both.1) in
+        let inside : get_or order.starts b.version 0 < get_or order.ends next 0 = omega (arith, start, both.1) in
         placed.law next b.version next_known (bare_known b here)
-        ∙ and_from (leb (get_or order.starts next 0) (get_or order.starts b.version 0)) (ltb (get_or order.starts b.version 0) (get_or order.ends next 0)) (le-leb (get_or order.starts next 0) (get_or order.starts b.version 0) up) (lt-ltb (get_or order.starts b.version 0) (get_or order.ends next 0) within)
+        ∙ and_from (leb (get_or order.starts next 0) (get_or order.starts b.version 0)) (ltb (get_or order.starts b.version 0) (get_or order.ends next 0)) (le-leb (get_or order.starts next 0) (get_or order.starts b.version 0) up) (lt-ltb (get_or order.starts b.version 0) (get_or order.ends next 0) inside)
 
     pub passed_more : ArePassed parents order versions (i + 1) (replaced bare from to joined)
     passed_more =
         record {
-          ordered = order_replaced (get_or order.starts next 0) (get_or order.ends next 0) bare from to joined passed.ordered spanned refl own_span;
+          ordered = order_replaced (get_or order.starts next 0) (get_or order.ends next 0) bare from to joined passed.ordered within refl own_span;
           each = λ b among.
               elim (among_split (take from bare) (joined ∷ drop to bare) b among) [
                 | inl low ↦ let old = passed.each b (among_take from bare b low) in (still_done b.version old.0, old.1)
@@ -245,8 +248,8 @@ module _ (parents : Parents) (tree : IsTree parents) (order : Numbering) (versio
         let mine = (passed.each mid.0 (mid_bare mid.0 mid.1)).1 in
         let other = (passed.each found.0 (among_take from bare found.0 found.1)).1 in
         let same = ap (λ (w : ℕ). get_or order.starts w 0) (mid.2 ∙ sym (eqb-true found.0.version v found.2)) in
-        let low = spanned.low found.0 found.1 in
-        let up = (spanned.mid mid.0 mid.1).0 in
+        let low = within.low found.0 found.1 in
+        let up = (within.mid mid.0 mid.1).0 in
         omega (arith, mine, other, same, low, up))
 
     high_free : (v : ℕ) → is_bare (take (to - from) (drop from bare)) v ≡ true → is_bare (drop to bare) v ≡ false
@@ -256,8 +259,8 @@ module _ (parents : Parents) (tree : IsTree parents) (order : Numbering) (versio
         let mine = (passed.each mid.0 (mid_bare mid.0 mid.1)).1 in
         let other = (passed.each found.0 (among_drop to bare found.0 found.1)).1 in
         let same = ap (λ (w : ℕ). get_or order.starts w 0) (mid.2 ∙ sym (eqb-true found.0.version v found.2)) in
-        let high = spanned.high found.0 found.1 in
-        let under = (spanned.mid mid.0 mid.1).1 in
+        let high = within.high found.0 found.1 in
+        let under = (within.mid mid.0 mid.1).1 in
         omega (arith, mine, other, same, high, under))
 
     -- the next version was not met before
@@ -291,7 +294,7 @@ module _ (parents : Parents) (tree : IsTree parents) (order : Numbering) (versio
         let pre : Bool = is_bare (take from bare) v in
         let mid : Bool = is_bare (take (to - from) (drop from bare)) v in
         let post : Bool = is_bare (drop to bare) v in
-        let parts = bare_parts bare from to v spanned.le in
+        let parts = bare_parts bare from to v within.le in
         let after = bare_replaced bare from to joined v in
         let met = list_any_more (λ u. eqb u v) versions i 0 lt in
         let once = sum_once order.starts by v (take (to - from) (drop from bare)) (order_part (to - from) (drop from bare) (order_rest from bare passed.ordered)) (λ b among. (passed.each b (mid_bare b among)).1) in
@@ -323,6 +326,28 @@ hidden_none parents order versions bare hidden weights empty =
       count = grown_none (lost_so_far parents (λ u. 1) versions 0 []) hidden (λ v lt. refl);
       weight = grown_none (lost_so_far parents suc versions 0 []) weights (λ v lt. refl);
     })
+
+module _ (parents : Parents) (tree : IsTree parents) (order : Numbering) (versions : List ℕ) (i : ℕ) (bare : List Bare) (hidden weights hidden_was weights_was : List ℕ) (have : HaveHidden parents order versions i bare hidden weights hidden_was weights_was)
+    (n : ℕ) (placed : IsPreorder n parents order) (down : descends versions ≡ true) (below : list_all (λ u. ltb u n) versions ≡ true) (lt : i < length versions) where
+  -- one more was taken
+  pub hidden_more : (from m start stop : ℕ) → start ≡ get_or order.starts (get_or versions i 0) 0 → stop ≡ get_or order.ends (get_or versions i 0) 0
+      → (are_in_order bare ≡ true → is_place_of bare start from ≡ true)
+      → (are_in_order (take (length bare - from) (drop from bare)) ≡ true → is_place_of (take (length bare - from) (drop from bare)) stop m ≡ true)
+      → length hidden_was ≡ length hidden → length weights_was ≡ length weights → (hidden_now weights_now : List ℕ)
+      → HaveGrown (λ v. sum_by (λ (b : Bare). cond (eqb b.version v) 1 0) (take (from + m - from) (drop from bare))) hidden_was hidden_now
+      → HaveGrown (λ v. sum_by (λ (b : Bare). cond (eqb b.version v) (get_or versions i 0 + 1) 0) (take (from + m - from) (drop from bare))) weights_was weights_now
+      → HaveHidden parents order versions (i + 1) (replaced bare from (from + m) (record { start = start; version = get_or versions i 0 })) hidden weights hidden_now weights_now
+  hidden_more from m start stop is_start is_stop first second hidden_len weights_len hidden_now weights_now count weight =
+      let at_first : is_place_of bare start from ≡ true = first have.passed.ordered in
+      let at_second : is_place_of (take (length bare - from) (drop from bare)) stop m ≡ true = second (order_part (length bare - from) (drop from bare) (order_rest from bare have.passed.ordered)) in
+      let within : AreSpanned (get_or order.starts (get_or versions i 0) 0) (get_or order.ends (get_or versions i 0) 0) bare from (from + m) =
+      spanned (get_or order.starts (get_or versions i 0) 0) (get_or order.ends (get_or versions i 0) 0) bare from m (subst (λ (x : ℕ). is_place_of bare x from ≡ true) is_start at_first) (subst (λ (x : ℕ). is_place_of (take (length bare - from) (drop from bare)) x m ≡ true) is_stop at_second) in
+      let one : get_or versions i 0 + 1 ≡ suc (get_or versions i 0) = omega arith in
+      subst (λ (x : ℕ). HaveHidden parents order versions (i + 1) (replaced bare from (from + m) (record { start = x; version = get_or versions i 0 })) hidden weights hidden_now weights_now) (sym is_start) (record {
+        passed = passed_more parents tree order versions i bare have.passed n placed down below lt from (from + m) within;
+        count = lost_more parents tree order versions i bare have.passed n placed down below lt from (from + m) within (λ u. 1) 1 refl hidden hidden_was hidden_now hidden_len have.count count;
+        weight = lost_more parents tree order versions i bare have.passed n placed down below lt from (from + m) within suc (get_or versions i 0 + 1) one weights weights_was weights_now weights_len have.weight weight;
+      })
 
 pub version_below : (versions : List ℕ) (n i : ℕ) → list_all (λ u. ltb u n) versions ≡ true → i < length versions → get_or versions i 0 < n
 version_below versions n i below lt = ltb-true (get_or versions i 0) n (all_at (λ u. ltb u n) (get_or versions i 0) versions below (among_at versions i 0 lt))

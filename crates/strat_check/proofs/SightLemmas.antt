@@ -101,7 +101,8 @@ module _ (parents : Parents) (tree : IsTree parents) where
         let is = summed v lt in
         let gain = gains v lt in
         let loss = losses v lt in
-        let step = root_step parents tree weight groups v down none in
+        let step' = root_step parents tree weight groups v down none in
+        let step : sum_by (weight_at parents weight v) groups + lost_sum parents weight groups v ≡ 0 + own_at groups v * weight v = omega (arith, step') in
         let small = at_bound parents tree weight n light groups v lt in
         let less = lost_bound parents tree weight n light groups v lt in
         settled (sum_above parents sums v) (get_or gained v 0) (get_or lost v 0) (get_or sums v 0) (sum_by (weight_at parents weight v) groups) 0 (lost_sum parents weight groups v) (own_at groups v * weight v) is above gain loss step (omega (arith, small, less, bound)))

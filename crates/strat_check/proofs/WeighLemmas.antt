@@ -50,10 +50,10 @@ sum_zero : {X : Type 0} (xs : List X) → sum_by (λ x. 0) xs ≡ 0
 sum_zero [] = refl
 sum_zero {X} (x ∷ xs) = let rest = sum_zero xs in let whole = sum_by-cons (λ (y : X). 0) x xs in omega (arith, rest, whole)
 
-found_any : {X : Type 0} (p : X → Bool) (xs : List X) → option_map_or (λ x. 1) (find p xs) 0 ≡ cond (list_any p xs) 1 0
+found_any : {X : Type 0} (p : X → Bool) (xs : List X) → ◌≡◌ {A = ℕ} (option_map_or (λ x. 1) (find p xs) 0) (cond (list_any p xs) 1 0)
 found_any p [] = refl
 found_any {X} p (x ∷ xs) =
-    elim (p x) as (λ b. option_map_or {A = X} (λ y. 1) (cond b (Some x) (find p xs)) 0 ≡ cond (b || list_any p xs) 1 0) [
+    elim (p x) as (λ b. ◌≡◌ {A = ℕ} (option_map_or (λ y. 1) (cond b (Some x) (find p xs)) 0) (cond (b || list_any p xs) 1 0)) [
       | true ↦ refl
       | false ↦ found_any p xs
     ]

@@ -1,7 +1,7 @@
 //! The versions of a key that nothing hides yet, in an order of versions in which those below another version
 //! stand side by side.
 
-ghost use Rattle.std.specs.Prelude.{◌≡◌, ◌<◌, ◌≤◌, ◌+◌, ◌×◌, length, vec_len, vec_capacity, IsTrue};
+ghost use Rattle.std.specs.Prelude.{◌≡◌, ◌<◌, ◌≤◌, ◌+◌, length, vec_len, vec_capacity, IsTrue};
 ghost use Rattle.strat_check.specs.Bares.{are_in_order, is_place_of, replaced};
 
 use strat_base::Version;

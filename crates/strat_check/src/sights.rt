@@ -84,7 +84,7 @@ impl Sights {
 
     /// Adds the versions of one more key's entries, the greatest first. For each version O(log versions)
     /// comparisons, and moves of 8 bytes for each one that nothing hides yet and that has a greater number in the
-    /// order of versions. The first call also puts the versions in order: O(versions).
+    /// order of versions. The first call, and the first after `clear`, also puts the versions in order: O(versions).
     pub fn add(&mut self, versions: &[Version], tree: &Tree)
         requires kept { IsTrue (descends versions.now) }
         requires fits { IsTrue (list_all (λ v. nat_lt v (length self.old.own)) versions.now) }
@@ -219,13 +219,15 @@ fn hide_each(
     requires kept { IsTrue (descends versions.now) }
     requires fits { IsTrue (list_all (λ v. nat_lt v (length hidden.old)) versions.now) }
     requires len { length weights.old ≡ length hidden.old }
-    requires found { length order.now.starts ≡ length hidden.old }
+    requires same { length order.now.starts ≡ length hidden.old }
     requires room { length hidden.old ≤ vec_capacity bare.old }
     requires none { bare.old.items ≡ [] }
     ensures ok { (parents : Parents) → IsTree parents
         → IsPreorder (length hidden.old) parents order.now
-        → HaveGrown (λ v. weight_lost parents (λ u. 1) v versions.now) hidden.old hidden.new
-        × HaveGrown (λ v. weight_lost parents suc v versions.now) weights.old weights.new }
+        → HaveGrown (λ v. weight_lost parents (λ u. 1) v versions.now) hidden.old hidden.new }
+    ensures state { (parents : Parents) → IsTree parents
+        → IsPreorder (length hidden.old) parents order.now
+        → HaveGrown (λ v. weight_lost parents suc v versions.now) weights.old weights.new }
     ensures kept { vec_capacity bare.old ≤ vec_capacity bare.new }
 {
     for u in versions {
