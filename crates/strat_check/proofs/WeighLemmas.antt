@@ -166,7 +166,6 @@ module _ (parents : Parents) (tree : IsTree parents) (weight : ℕ → ℕ) wher
 
 -- bounds
 
-
 pub own_le : (groups : List (List ℕ)) (v : ℕ) → own_at groups v ≤ versions_in groups
 own_le groups v = sum_by-le-sum_by (λ versions. count_by (λ u. eqb u v) versions) (λ versions. length versions) groups (λ versions. count_by-le-length (λ u. eqb u v) versions)
 
