@@ -1,9 +1,9 @@
 -- Lists of versions that nothing hides yet: their order, their places, and one in the place of others.
-use Rattle.std.proofs.Common.{◌≡◌, ◌<◌, ◌≤◌, ◌+◌, ◌-◌, ℕ, zero, suc, Bool, true, false, cond, eqb, ltb, leb, ◌&&◌, ◌||◌, get_or, take, drop, inl, inr, ◌⊎◌, List, [], ◌∷◌, ◌++◌, length, refl, sym, ap, ◌∙◌, subst, arith, true≢false}
-use Rattle.std.specs.List.{list_any, list_all, sum_by}
+use Rattle.std.proofs.Common.{◌≡◌, ◌<◌, ◌≤◌, ◌+◌, ◌-◌, ℕ, zero, suc, Bool, true, false, cond, eqb, ltb, leb, ◌&&◌, ◌||◌, get_or, take, drop, inl, inr, List, [], ◌∷◌, ◌++◌, length, refl, sym, ap, ◌∙◌, subst, arith}
+use Rattle.std.specs.List.{list_all, sum_by}
 use Rattle.std.specs.List.Sorted.{IsPartitionedBy, IsPartitionPoint}
-use Rattle.std.proofs.lemmas.Bool.{cases_Bool, and_parts, and_from, ltb-true, lt-ltb, leb-true, le-leb, ltb-false, eqb-true, false_from_ne_true}
-use Rattle.std.proofs.lemmas.List.{take-append-drop, drop-drop, drop-take, take_rest}
+use Rattle.std.proofs.lemmas.Bool.{cases_Bool, and_parts, and_from, ltb-true, lt-ltb, leb-true, leb-false, le-leb, eqb-true, false_from_ne_true}
+use Rattle.std.proofs.lemmas.List.{take-append-drop, drop-drop, take_rest}
 use Rattle.std.proofs.lemmas.List.Folds.{list_all-append, list_any-append}
 use Rattle.std.proofs.lemmas.List.Sums.{sum_by-cons}
 use Rattle.strat_base.proofs.ListFacts.{Among, any_among, all_at, all_from, among_left, among_right, among_split}
@@ -54,80 +54,80 @@ below_at n bare i d below lt = ltb-true (get_or bare i d).version n (all_at (λ 
 
 -- their order
 
-order_at : (bare : List Bare) (j k : ℕ) (d : Bare) → are_in_order bare ≡ true → j ≤ k → k < length bare → (get_or bare j d).start ≤ (get_or bare k d).start
+order_at : (bare : List Bare) (j k : ℕ) (d : Bare) → are_in_order bare ≡ true → j ≤ k → k < length bare → (get_or bare k d).start ≤ (get_or bare j d).start
 order_at [] j k d ordered le lt = absurd (omega arith)
 order_at (x ∷ bare) zero zero d ordered le lt = omega arith
 order_at (x ∷ bare) zero (suc k) d ordered le lt =
-    let parts = and_parts (list_all (λ c. ltb x.start c.start) bare) (are_in_order bare) ordered in
-    let less : x.start < (get_or bare k d).start = ltb-true x.start (get_or bare k d).start (all_at (λ (c : Bare). ltb x.start c.start) (get_or bare k d) bare parts.0 (among_at bare k d (omega arith))) in
+    let parts = and_parts (list_all (λ c. ltb c.start x.start) bare) (are_in_order bare) ordered in
+    let less : (get_or bare k d).start < x.start = ltb-true (get_or bare k d).start x.start (all_at (λ (c : Bare). ltb c.start x.start) (get_or bare k d) bare parts.0 (among_at bare k d (omega arith))) in
     omega arith
 order_at (x ∷ bare) (suc j) zero d ordered le lt = absurd (omega arith)
 order_at (x ∷ bare) (suc j) (suc k) d ordered le lt =
-    order_at bare j k d (and_parts (list_all (λ c. ltb x.start c.start) bare) (are_in_order bare) ordered).1 (omega arith) (omega arith)
+    order_at bare j k d (and_parts (list_all (λ c. ltb c.start x.start) bare) (are_in_order bare) ordered).1 (omega arith) (omega arith)
 
 pub order_part : (n : ℕ) (bare : List Bare) → are_in_order bare ≡ true → are_in_order (take n bare) ≡ true
 order_part zero bare ordered = refl
 order_part (suc n) [] ordered = refl
 order_part (suc n) (x ∷ bare) ordered =
-    let parts = and_parts (list_all (λ c. ltb x.start c.start) bare) (are_in_order bare) ordered in
-    and_from (list_all (λ c. ltb x.start c.start) (take n bare)) (are_in_order (take n bare)) (all_part (λ (c : Bare). ltb x.start c.start) n bare parts.0) (order_part n bare parts.1)
+    let parts = and_parts (list_all (λ c. ltb c.start x.start) bare) (are_in_order bare) ordered in
+    and_from (list_all (λ c. ltb c.start x.start) (take n bare)) (are_in_order (take n bare)) (all_part (λ (c : Bare). ltb c.start x.start) n bare parts.0) (order_part n bare parts.1)
 
 pub order_rest : (n : ℕ) (bare : List Bare) → are_in_order bare ≡ true → are_in_order (drop n bare) ≡ true
 order_rest zero bare ordered = ordered
 order_rest (suc n) [] ordered = refl
-order_rest (suc n) (x ∷ bare) ordered = order_rest n bare (and_parts (list_all (λ c. ltb x.start c.start) bare) (are_in_order bare) ordered).1
+order_rest (suc n) (x ∷ bare) ordered = order_rest n bare (and_parts (list_all (λ c. ltb c.start x.start) bare) (are_in_order bare) ordered).1
 
-order_joined : (xs : List Bare) (b : Bare) (ys : List Bare) → are_in_order xs ≡ true → are_in_order ys ≡ true → ((c : Bare) → Among c xs → c.start < b.start) → ((c : Bare) → Among c ys → b.start < c.start)
+order_joined : (xs : List Bare) (b : Bare) (ys : List Bare) → are_in_order xs ≡ true → are_in_order ys ≡ true → ((c : Bare) → Among c xs → b.start < c.start) → ((c : Bare) → Among c ys → c.start < b.start)
     → are_in_order (xs ++ b ∷ ys) ≡ true
-order_joined [] b ys left right low high =
-    and_from (list_all (λ c. ltb b.start c.start) ys) (are_in_order ys) (all_from (λ (c : Bare). ltb b.start c.start) ys (λ c among. lt-ltb b.start c.start (high c among))) right
-order_joined (x ∷ xs) b ys left right low high =
-    let parts = and_parts (list_all (λ c. ltb x.start c.start) xs) (are_in_order xs) left in
-    let first : x.start < b.start = low x (inl refl) in
-    and_from (list_all (λ c. ltb x.start c.start) (xs ++ b ∷ ys)) (are_in_order (xs ++ b ∷ ys))
-    (all_from (λ (c : Bare). ltb x.start c.start) (xs ++ b ∷ ys) (λ c among. elim (among_split xs (b ∷ ys) c among) [
-      | inl here ↦ all_at (λ (e : Bare). ltb x.start e.start) c xs parts.0 here
-      | inr (inl same) ↦ let start = ap (λ (e : Bare). e.start) same in lt-ltb x.start c.start (omega (arith, start))
-      | inr (inr there) ↦ let more = high c there in lt-ltb x.start c.start (omega arith)
+order_joined [] b ys left right high low =
+    and_from (list_all (λ c. ltb c.start b.start) ys) (are_in_order ys) (all_from (λ (c : Bare). ltb c.start b.start) ys (λ c among. lt-ltb c.start b.start (low c among))) right
+order_joined (x ∷ xs) b ys left right high low =
+    let parts = and_parts (list_all (λ c. ltb c.start x.start) xs) (are_in_order xs) left in
+    let first : b.start < x.start = high x (inl refl) in
+    and_from (list_all (λ c. ltb c.start x.start) (xs ++ b ∷ ys)) (are_in_order (xs ++ b ∷ ys))
+    (all_from (λ (c : Bare). ltb c.start x.start) (xs ++ b ∷ ys) (λ c among. elim (among_split xs (b ∷ ys) c among) [
+      | inl here ↦ all_at (λ (e : Bare). ltb e.start x.start) c xs parts.0 here
+      | inr (inl same) ↦ let start = ap (λ (e : Bare). e.start) same in lt-ltb c.start x.start (omega (arith, start))
+      | inr (inr there) ↦ let less = low c there in lt-ltb c.start x.start (omega arith)
     ]))
-    (order_joined xs b ys parts.1 right (λ c among. low c (inr among)) high)
+    (order_joined xs b ys parts.1 right (λ c among. high c (inr among)) low)
 
 -- where a search by halving ends
 
-pub bare_parted : (bare : List Bare) (number : ℕ) → are_in_order bare ≡ true → IsPartitionedBy (λ (b : Bare). ltb b.start number) bare
+pub bare_parted : (bare : List Bare) (number : ℕ) → are_in_order bare ≡ true → IsPartitionedBy (λ (b : Bare). leb number b.start) bare
 bare_parted bare number ordered i j d le lt e =
-    let later : (get_or bare j d).start < number = ltb-true (get_or bare j d).start number e in
-    let up : (get_or bare i d).start ≤ (get_or bare j d).start = order_at bare i j d ordered le lt in
-    lt-ltb (get_or bare i d).start number (omega arith)
+    let later : number ≤ (get_or bare j d).start = leb-true number (get_or bare j d).start e in
+    let down : (get_or bare j d).start ≤ (get_or bare i d).start = order_at bare i j d ordered le lt in
+    le-leb number (get_or bare i d).start (omega arith)
 
-pub place_from_point : (bare : List Bare) (number at : ℕ) → at ≤ length bare → IsPartitionPoint (λ (b : Bare). ltb b.start number ≡ true) (λ (b : Bare). ltb b.start number ≡ false) bare at → is_place_of bare number at ≡ true
+pub place_from_point : (bare : List Bare) (number at : ℕ) → at ≤ length bare → IsPartitionPoint (λ (b : Bare). leb number b.start ≡ true) (λ (b : Bare). leb number b.start ≡ false) bare at → is_place_of bare number at ≡ true
 place_from_point bare number at within point =
-    and_from (list_all (λ (b : Bare). ltb b.start number) (take at bare)) (list_all (λ (b : Bare). leb number b.start) (drop at bare))
-    (all_before (λ (b : Bare). ltb b.start number) bare at within (λ k d lt. point.0 k d (omega arith) lt))
-    (all_behind (λ (b : Bare). leb number b.start) bare at (λ k d le lt. le-leb number (get_or bare k d).start (ltb-false (get_or bare k d).start number (point.1 k d le lt))))
+    and_from (list_all (λ (b : Bare). leb number b.start) (take at bare)) (list_all (λ (b : Bare). ltb b.start number) (drop at bare))
+    (all_before (λ (b : Bare). leb number b.start) bare at within (λ k d lt. point.0 k d (omega arith) lt))
+    (all_behind (λ (b : Bare). ltb b.start number) bare at (λ k d le lt. lt-ltb (get_or bare k d).start number (leb-false number (get_or bare k d).start (point.1 k d le lt))))
 
--- these have numbers from a start to below an end, those before them lower ones, and those behind them higher ones
+-- these have numbers from a start to below an end, those before them greater ones, and those behind them lower ones
 pub record AreSpanned (start stop : ℕ) (bare : List Bare) (from to : ℕ) : Type 0 where
   pub le : from ≤ to
-  pub low : (b : Bare) → Among b (take from bare) → b.start < start
+  pub high : (b : Bare) → Among b (take from bare) → stop ≤ b.start
   pub mid : (b : Bare) → Among b (take (to - from) (drop from bare)) → (start ≤ b.start) × (b.start < stop)
-  pub high : (b : Bare) → Among b (drop to bare) → stop ≤ b.start
+  pub low : (b : Bare) → Among b (drop to bare) → b.start < start
 
-pub spanned : (start stop : ℕ) (bare : List Bare) (from n : ℕ) → is_place_of bare start from ≡ true → is_place_of (take (length bare - from) (drop from bare)) stop n ≡ true → AreSpanned start stop bare from (from + n)
+pub spanned : (start stop : ℕ) (bare : List Bare) (from n : ℕ) → is_place_of bare stop from ≡ true → is_place_of (take (length bare - from) (drop from bare)) start n ≡ true → AreSpanned start stop bare from (from + n)
 spanned start stop bare from n first second =
-    let outer = and_parts (list_all (λ (b : Bare). ltb b.start start) (take from bare)) (list_all (λ (b : Bare). leb start b.start) (drop from bare)) first in
-    let rest : is_place_of (drop from bare) stop n ≡ true = subst (λ (bs : List Bare). is_place_of bs stop n ≡ true) (take_rest bare from) second in
-    let inner = and_parts (list_all (λ (b : Bare). ltb b.start stop) (take n (drop from bare))) (list_all (λ (b : Bare). leb stop b.start) (drop n (drop from bare))) rest in
+    let outer = and_parts (list_all (λ (b : Bare). leb stop b.start) (take from bare)) (list_all (λ (b : Bare). ltb b.start stop) (drop from bare)) first in
+    let rest : is_place_of (drop from bare) start n ≡ true = subst (λ (bs : List Bare). is_place_of bs start n ≡ true) (take_rest bare from) second in
+    let inner = and_parts (list_all (λ (b : Bare). leb start b.start) (take n (drop from bare))) (list_all (λ (b : Bare). ltb b.start start) (drop n (drop from bare))) rest in
     let less : from + n - from ≡ n = omega arith in
     record {
       le = omega arith;
-      low = λ b among. ltb-true b.start start (all_at (λ (c : Bare). ltb c.start start) b (take from bare) outer.0 among);
+      high = λ b among. leb-true stop b.start (all_at (λ (c : Bare). leb stop c.start) b (take from bare) outer.0 among);
       mid = λ b among.
           let here : Among b (take n (drop from bare)) = subst (λ (k : ℕ). Among b (take k (drop from bare))) less among in
-          (leb-true start b.start (all_at (λ (c : Bare). leb start c.start) b (drop from bare) outer.1 (among_take n (drop from bare) b here)), ltb-true b.start stop (all_at (λ (c : Bare). ltb c.start stop) b (take n (drop from bare)) inner.0 here));
-      high = λ b among.
+          (leb-true start b.start (all_at (λ (c : Bare). leb start c.start) b (take n (drop from bare)) inner.0 here), ltb-true b.start stop (all_at (λ (c : Bare). ltb c.start stop) b (drop from bare) outer.1 (among_take n (drop from bare) b here)));
+      low = λ b among.
           let there : Among b (drop n (drop from bare)) = subst (λ (bs : List Bare). Among b bs) (sym (drop-drop n from bare)) among in
-          leb-true stop b.start (all_at (λ (c : Bare). leb stop c.start) b (drop n (drop from bare)) inner.1 there);
+          ltb-true b.start start (all_at (λ (c : Bare). ltb c.start start) b (drop n (drop from bare)) inner.1 there);
     }
 
 -- one in the place of others
@@ -135,8 +135,8 @@ spanned start stop bare from n first second =
 pub order_replaced : (start stop : ℕ) (bare : List Bare) (from to : ℕ) (b : Bare) → are_in_order bare ≡ true → AreSpanned start stop bare from to → b.start ≡ start → start < stop → are_in_order (replaced bare from to b) ≡ true
 order_replaced start stop bare from to b ordered spans is some =
     order_joined (take from bare) b (drop to bare) (order_part from bare ordered) (order_rest to bare ordered)
-    (λ c among. let low = spans.low c among in omega (arith, is))
     (λ c among. let high = spans.high c among in omega (arith, is))
+    (λ c among. let low = spans.low c among in omega (arith, is))
 
 pub bare_replaced : (bare : List Bare) (from to : ℕ) (b : Bare) (v : ℕ) → is_bare (replaced bare from to b) v ≡ (is_bare (take from bare) v || (eqb b.version v || is_bare (drop to bare) v))
 bare_replaced bare from to b v = list_any-append (λ (c : Bare). eqb c.version v) (take from bare) (b ∷ drop to bare)
@@ -157,14 +157,14 @@ pub sum_once : (starts : List ℕ) (by v : ℕ) (bare : List Bare) → are_in_or
     → sum_by (λ (b : Bare). cond (eqb b.version v) by 0) bare ≡ cond (is_bare bare v) by 0
 sum_once starts by v [] ordered each = refl
 sum_once starts by v (x ∷ bare) ordered each =
-    let parts = and_parts (list_all (λ c. ltb x.start c.start) bare) (are_in_order bare) ordered in
+    let parts = and_parts (list_all (λ c. ltb c.start x.start) bare) (are_in_order bare) ordered in
     let whole = sum_by-cons (λ (b : Bare). cond (eqb b.version v) by 0) x bare in
     let rest = sum_once starts by v bare parts.1 (λ b among. each b (inr among)) in
     elim (cases_Bool (eqb x.version v)) [
       | inl here ↦
           let none : is_bare bare v ≡ false = false_from_ne_true (is_bare bare v) (λ again.
           let found = any_among (λ (c : Bare). eqb c.version v) bare again in
-          let less : x.start < found.0.start = ltb-true x.start found.0.start (all_at (λ (c : Bare). ltb x.start c.start) found.0 bare parts.0 found.1) in
+          let less : found.0.start < x.start = ltb-true found.0.start x.start (all_at (λ (c : Bare). ltb c.start x.start) found.0 bare parts.0 found.1) in
           let mine = each x (inl refl) in
           let other = each found.0 (inr found.1) in
           let same = ap (λ (w : ℕ). get_or starts w 0) (eqb-true x.version v here ∙ sym (eqb-true found.0.version v found.2)) in

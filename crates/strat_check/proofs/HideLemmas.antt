@@ -1,5 +1,5 @@
 -- What the versions of a key hide, found in one pass from the greatest down.
-use Rattle.std.proofs.Common.{◌≡◌, ◌<◌, ◌≤◌, ◌+◌, ◌-◌, ℕ, zero, suc, Bool, true, false, cond, eqb, ltb, leb, ◌&&◌, ◌||◌, not, get_or, take, drop, inl, inr, ◌⊎◌, List, [], ◌∷◌, ◌++◌, length, Option, Some, None, refl, sym, ap, ◌∙◌, subst, arith, true≢false, add-one}
+use Rattle.std.proofs.Common.{◌≡◌, ◌<◌, ◌≤◌, ◌+◌, ◌-◌, ℕ, zero, suc, Bool, true, false, cond, eqb, ltb, leb, ◌&&◌, ◌||◌, not, get_or, take, drop, inl, inr, ◌⊎◌, List, [], ◌∷◌, ◌++◌, length, Option, Some, None, refl, sym, ap, ◌∙◌, subst, arith, true≢false}
 use Rattle.std.specs.List.{list_any, list_all, find, sum_by}
 use Rattle.std.specs.Option.{option_map_or, option_or}
 use Rattle.std.proofs.lemmas.Bool.{cases_Bool, and_parts, and_from, and_left, and_right, ltb-true, lt-ltb, le-leb, lt-leb, le-ltb, eqb-true, eq-eqb, false_from_ne_true}
@@ -7,10 +7,10 @@ use Rattle.std.proofs.lemmas.List.{take-append-drop, take_all, take_more, drop_m
 use Rattle.std.proofs.lemmas.List.Folds.{find-append, list_any_more}
 use Rattle.strat_base.specs.Order.{descends}
 use Rattle.strat_base.specs.Tree.{Parents, parent_of, is_ancestor, path, IsTree}
-use Rattle.strat_base.proofs.ListFacts.{Among, any_among, any_from, all_at, none_at, among_left, among_right, among_split}
+use Rattle.strat_base.proofs.ListFacts.{Among, any_among, any_from, all_at, among_left, among_right, among_split}
 use Rattle.strat_base.proofs.ResultFacts.{option_cases}
 use Rattle.strat_base.proofs.TreeLemmas.{parent_older, path_le, on_root, on_path, from_path, self_on_path, ancestor_among, among_ancestor}
-use Rattle.strat_tree.specs.Preorder.{Numbering, IsPreorder, spans}
+use Rattle.strat_tree.specs.Preorder.{Numbering, IsPreorder}
 use Rattle.strat_check.specs.declared.bare.Bare.{Bare}
 use Rattle.strat_check.specs.Bares.{are_in_order, is_bare, is_place_of, replaced}
 use Rattle.strat_check.specs.Sightings.{weight_above, weight_lost}
@@ -149,17 +149,17 @@ module _ (parents : Parents) (tree : IsTree parents) (order : Numbering) (versio
         ltb-true (get_or order.starts next 0) (get_or order.ends next 0) (and_parts (leb (get_or order.starts next 0) (get_or order.starts next 0)) (ltb (get_or order.starts next 0) (get_or order.ends next 0)) tests).1
 
     -- those outside are not below the next one
-    low_apart : (b : Bare) → Among b (take from bare) → is_ancestor parents next b.version ≡ false
+    low_apart : (b : Bare) → Among b (drop to bare) → is_ancestor parents next b.version ≡ false
     low_apart b among =
-        let here = among_take from bare b among in
+        let here = among_drop to bare b among in
         let start = (passed.each b here).1 in
         let less = within.low b among in
         placed.law next b.version next_known (bare_known b here)
         ∙ and_left (leb (get_or order.starts next 0) (get_or order.starts b.version 0)) (ltb (get_or order.starts b.version 0) (get_or order.ends next 0)) (lt-leb (get_or order.starts next 0) (get_or order.starts b.version 0) (omega (arith, start, less)))
 
-    high_apart : (b : Bare) → Among b (drop to bare) → is_ancestor parents next b.version ≡ false
+    high_apart : (b : Bare) → Among b (take from bare) → is_ancestor parents next b.version ≡ false
     high_apart b among =
-        let here = among_drop to bare b among in
+        let here = among_take from bare b among in
         let start = (passed.each b here).1 in
         let le = within.high b among in
         placed.law next b.version next_known (bare_known b here)
@@ -185,19 +185,19 @@ module _ (parents : Parents) (tree : IsTree parents) (order : Numbering) (versio
           ordered = order_replaced (get_or order.starts next 0) (get_or order.ends next 0) bare from to joined passed.ordered within refl own_span;
           each = λ b among.
               elim (among_split (take from bare) (joined ∷ drop to bare) b among) [
-                | inl low ↦ let old = passed.each b (among_take from bare b low) in (still_done b.version old.0, old.1)
+                | inl high ↦ let old = passed.each b (among_take from bare b high) in (still_done b.version old.0, old.1)
                 | inr (inl same) ↦
                     let version : b.version ≡ next = ap (λ (c : Bare). c.version) same in
                     let start : b.start ≡ get_or order.starts next 0 = ap (λ (c : Bare). c.start) same in
                     (subst (λ (u : ℕ). Among u (take (i + 1) versions)) (sym version) next_done, start ∙ ap (λ (u : ℕ). get_or order.starts u 0) (sym version))
-                | inr (inr high) ↦ let old = passed.each b (among_drop to bare b high) in (still_done b.version old.0, old.1)
+                | inr (inr low) ↦ let old = passed.each b (among_drop to bare b low) in (still_done b.version old.0, old.1)
               ];
           free = λ b among u there less.
               elim (among_split (take from bare) (joined ∷ drop to bare) b among) [
-                | inl low ↦
+                | inl high ↦
                     elim (done_more u there) [
-                      | inl old ↦ passed.free b (among_take from bare b low) u old less
-                      | inr same ↦ ap (λ (w : ℕ). is_ancestor parents w b.version) same ∙ low_apart b low
+                      | inl old ↦ passed.free b (among_take from bare b high) u old less
+                      | inr same ↦ ap (λ (w : ℕ). is_ancestor parents w b.version) same ∙ high_apart b high
                     ]
                 | inr (inl same) ↦
                     let version : b.version ≡ next = ap (λ (c : Bare). c.version) same in
@@ -205,10 +205,10 @@ module _ (parents : Parents) (tree : IsTree parents) (order : Numbering) (versio
                       | inl old ↦ let greater = greater_before versions i down lt u old in absurd (omega (arith, version, greater, less))
                       | inr own ↦ absurd (omega (arith, version, own, less))
                     ]
-                | inr (inr high) ↦
+                | inr (inr low) ↦
                     elim (done_more u there) [
-                      | inl old ↦ passed.free b (among_drop to bare b high) u old less
-                      | inr same ↦ ap (λ (w : ℕ). is_ancestor parents w b.version) same ∙ high_apart b high
+                      | inl old ↦ passed.free b (among_drop to bare b low) u old less
+                      | inr same ↦ ap (λ (w : ℕ). is_ancestor parents w b.version) same ∙ low_apart b low
                     ]
               ];
         }
@@ -241,27 +241,27 @@ module _ (parents : Parents) (tree : IsTree parents) (order : Numbering) (versio
     in_mid v on = let found = any_among (λ (b : Bare). eqb b.version v) (take (to - from) (drop from bare)) on in (found.0, found.1, eqb-true found.0.version v found.2)
 
     -- a version stands once among those that are bare
-    low_free : (v : ℕ) → is_bare (take (to - from) (drop from bare)) v ≡ true → is_bare (take from bare) v ≡ false
-    low_free v on = false_from_ne_true (is_bare (take from bare) v) (λ again.
+    high_free : (v : ℕ) → is_bare (take (to - from) (drop from bare)) v ≡ true → is_bare (take from bare) v ≡ false
+    high_free v on = false_from_ne_true (is_bare (take from bare) v) (λ again.
         let mid = in_mid v on in
         let found = any_among (λ (b : Bare). eqb b.version v) (take from bare) again in
         let mine = (passed.each mid.0 (mid_bare mid.0 mid.1)).1 in
         let other = (passed.each found.0 (among_take from bare found.0 found.1)).1 in
         let same = ap (λ (w : ℕ). get_or order.starts w 0) (mid.2 ∙ sym (eqb-true found.0.version v found.2)) in
-        let low = within.low found.0 found.1 in
-        let up = (within.mid mid.0 mid.1).0 in
-        omega (arith, mine, other, same, low, up))
+        let high = within.high found.0 found.1 in
+        let under = (within.mid mid.0 mid.1).1 in
+        omega (arith, mine, other, same, high, under))
 
-    high_free : (v : ℕ) → is_bare (take (to - from) (drop from bare)) v ≡ true → is_bare (drop to bare) v ≡ false
-    high_free v on = false_from_ne_true (is_bare (drop to bare) v) (λ again.
+    low_free : (v : ℕ) → is_bare (take (to - from) (drop from bare)) v ≡ true → is_bare (drop to bare) v ≡ false
+    low_free v on = false_from_ne_true (is_bare (drop to bare) v) (λ again.
         let mid = in_mid v on in
         let found = any_among (λ (b : Bare). eqb b.version v) (drop to bare) again in
         let mine = (passed.each mid.0 (mid_bare mid.0 mid.1)).1 in
         let other = (passed.each found.0 (among_drop to bare found.0 found.1)).1 in
         let same = ap (λ (w : ℕ). get_or order.starts w 0) (mid.2 ∙ sym (eqb-true found.0.version v found.2)) in
-        let high = within.high found.0 found.1 in
-        let under = (within.mid mid.0 mid.1).1 in
-        omega (arith, mine, other, same, high, under))
+        let low = within.low found.0 found.1 in
+        let up = (within.mid mid.0 mid.1).0 in
+        omega (arith, mine, other, same, low, up))
 
     -- the next version was not met before
     not_done : (v : ℕ) → eqb next v ≡ true → list_any (λ u. eqb u v) (take i versions) ≡ false
@@ -303,7 +303,7 @@ module _ (parents : Parents) (tree : IsTree parents) (order : Numbering) (versio
         ap (λ (b : Bool). cond (b && not (is_bare (replaced bare from to joined) v)) above 0) met ∙ ap (λ (b : Bool). cond ((done || eqb next v) && not b) above 0) after in
         let step = tally done pre mid post (eqb next v) above by
         (λ here. (not_done v here, not_mid v here))
-        (λ apart on. let b = in_mid v on in (was_done v on, low_free v on, high_free v on, ap (λ (w : ℕ). weight_above parents weight w versions) (sym b.2) ∙ hider b.0 b.1 weight ∙ sym is)) in
+        (λ apart on. let b = in_mid v on in (was_done v on, high_free v on, low_free v on, ap (λ (w : ℕ). weight_above parents weight w versions) (sym b.2) ∙ hider b.0 b.1 weight ∙ sym is)) in
         omega (arith, was, is_now, step, once)
 
     pub lost_more : (weight : ℕ → ℕ) (by : ℕ) → by ≡ weight next → (a b c : List ℕ) → length b ≡ length a → HaveGrown (lost_so_far parents weight versions i bare) a b
@@ -331,17 +331,17 @@ module _ (parents : Parents) (tree : IsTree parents) (order : Numbering) (versio
     (n : ℕ) (placed : IsPreorder n parents order) (down : descends versions ≡ true) (below : list_all (λ u. ltb u n) versions ≡ true) (lt : i < length versions) where
   -- one more was taken
   pub hidden_more : (from m start stop : ℕ) → start ≡ get_or order.starts (get_or versions i 0) 0 → stop ≡ get_or order.ends (get_or versions i 0) 0
-      → (are_in_order bare ≡ true → is_place_of bare start from ≡ true)
-      → (are_in_order (take (length bare - from) (drop from bare)) ≡ true → is_place_of (take (length bare - from) (drop from bare)) stop m ≡ true)
+      → (are_in_order bare ≡ true → is_place_of bare stop from ≡ true)
+      → (are_in_order (take (length bare - from) (drop from bare)) ≡ true → is_place_of (take (length bare - from) (drop from bare)) start m ≡ true)
       → length hidden_was ≡ length hidden → length weights_was ≡ length weights → (hidden_now weights_now : List ℕ)
       → HaveGrown (λ v. sum_by (λ (b : Bare). cond (eqb b.version v) 1 0) (take (from + m - from) (drop from bare))) hidden_was hidden_now
       → HaveGrown (λ v. sum_by (λ (b : Bare). cond (eqb b.version v) (get_or versions i 0 + 1) 0) (take (from + m - from) (drop from bare))) weights_was weights_now
       → HaveHidden parents order versions (i + 1) (replaced bare from (from + m) (record { start = start; version = get_or versions i 0 })) hidden weights hidden_now weights_now
   hidden_more from m start stop is_start is_stop first second hidden_len weights_len hidden_now weights_now count weight =
-      let at_first : is_place_of bare start from ≡ true = first have.passed.ordered in
-      let at_second : is_place_of (take (length bare - from) (drop from bare)) stop m ≡ true = second (order_part (length bare - from) (drop from bare) (order_rest from bare have.passed.ordered)) in
+      let at_first : is_place_of bare stop from ≡ true = first have.passed.ordered in
+      let at_second : is_place_of (take (length bare - from) (drop from bare)) start m ≡ true = second (order_part (length bare - from) (drop from bare) (order_rest from bare have.passed.ordered)) in
       let within : AreSpanned (get_or order.starts (get_or versions i 0) 0) (get_or order.ends (get_or versions i 0) 0) bare from (from + m) =
-      spanned (get_or order.starts (get_or versions i 0) 0) (get_or order.ends (get_or versions i 0) 0) bare from m (subst (λ (x : ℕ). is_place_of bare x from ≡ true) is_start at_first) (subst (λ (x : ℕ). is_place_of (take (length bare - from) (drop from bare)) x m ≡ true) is_stop at_second) in
+      spanned (get_or order.starts (get_or versions i 0) 0) (get_or order.ends (get_or versions i 0) 0) bare from m (subst (λ (x : ℕ). is_place_of bare x from ≡ true) is_stop at_first) (subst (λ (x : ℕ). is_place_of (take (length bare - from) (drop from bare)) x m ≡ true) is_start at_second) in
       let one : get_or versions i 0 + 1 ≡ suc (get_or versions i 0) = omega arith in
       subst (λ (x : ℕ). HaveHidden parents order versions (i + 1) (replaced bare from (from + m) (record { start = x; version = get_or versions i 0 })) hidden weights hidden_now weights_now) (sym is_start) (record {
         passed = passed_more parents tree order versions i bare have.passed n placed down below lt from (from + m) within;

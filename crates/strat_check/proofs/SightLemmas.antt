@@ -1,5 +1,5 @@
 -- What is counted of keys, and what is summed up of it.
-use Rattle.std.proofs.Common.{◌≡◌, ◌<◌, ◌≤◌, ◌+◌, ◌-◌, ◌*◌, ◌^◌, ℕ, suc, Bool, true, false, eqb, ltb, ◌&&◌, min, get_or, set, inl, inr, List, [], ◌∷◌, ◌++◌, length, Option, Some, None, refl, sym, ap, ◌∙◌, subst, arith}
+use Rattle.std.proofs.Common.{◌≡◌, ◌<◌, ◌≤◌, ◌+◌, ◌-◌, ◌*◌, ◌^◌, ℕ, suc, true, eqb, ◌&&◌, min, get_or, set, inl, inr, List, [], ◌∷◌, ◌++◌, length, Option, refl, sym, ap, ◌∙◌, subst, arith}
 use Rattle.std.specs.List.{list_all, sum_by, count_by}
 use Rattle.std.specs.Option.{option_map_or}
 use Rattle.std.proofs.lemmas.Bool.{cases_eq}
@@ -11,8 +11,7 @@ use Rattle.strat_base.specs.Order.{descends}
 use Rattle.strat_base.specs.Tree.{Parents, parent_of, IsTree}
 use Rattle.strat_base.proofs.ResultFacts.{option_cases}
 use Rattle.strat_base.proofs.TreeLemmas.{parent_older, along_path}
-use Rattle.def_state.specs.Counted.{own_at, keys_at}
-use Rattle.def_check.specs.Weights.{nearest_sum}
+use Rattle.def_state.specs.Counted.{own_at}
 use Rattle.strat_tree.specs.Preorder.{Numbering, IsPreorder}
 use Rattle.strat_check.specs.Sightings.{Sightings, versions_in, weight_at, weight_lost, lost_sum, IsSighting, IsSighted}
 use Rattle.strat_check.specs.Sums.{HaveGrown, AreWeighed, AreSummed, sum_above, greatest}

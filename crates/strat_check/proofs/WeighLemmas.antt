@@ -1,13 +1,13 @@
 -- What a version sees of keys, told from what its parent sees, what it has and what it hides.
-use Rattle.std.proofs.Common.{◌≡◌, ◌<◌, ◌≤◌, ◌+◌, ◌*◌, ℕ, zero, suc, Bool, true, false, cond, eqb, ltb, ◌||◌, inl, inr, List, [], ◌∷◌, length, Option, Some, None, refl, sym, ap, ◌∙◌, arith, true≢false}
+use Rattle.std.proofs.Common.{◌≡◌, ◌<◌, ◌≤◌, ◌+◌, ◌*◌, ℕ, Bool, true, false, cond, eqb, ltb, ◌||◌, inl, inr, List, [], ◌∷◌, length, Option, Some, None, refl, sym, ap, ◌∙◌, arith, true≢false}
 use Rattle.std.specs.List.{list_any, list_all, find, sum_by, count_by}
 use Rattle.std.specs.Option.{option_map_or}
-use Rattle.std.proofs.lemmas.Bool.{cases_Bool, or_parts, and_parts, ltb-true, eqb-true, eq-eqb, false_from_ne_true}
+use Rattle.std.proofs.lemmas.Bool.{cases_Bool, and_parts, ltb-true, eqb-true, eq-eqb, false_from_ne_true}
 use Rattle.std.proofs.lemmas.List.Sums.{sum_by-cons, sum_by-le-sum_by, count_by-le-length}
 use Rattle.std.proofs.Math.Nat.{add-mul, one-mul, zero-mul}
 use Rattle.strat_base.specs.Order.{descends}
-use Rattle.strat_base.specs.Tree.{Parents, parent_of, is_ancestor, path, IsTree}
-use Rattle.strat_base.proofs.ListFacts.{Among, any_among, any_from, all_at, none_at, find_some}
+use Rattle.strat_base.specs.Tree.{Parents, parent_of, is_ancestor, IsTree}
+use Rattle.strat_base.proofs.ListFacts.{Among, any_among, any_from, all_at, find_some}
 use Rattle.strat_base.proofs.ResultFacts.{option_cases}
 use Rattle.strat_base.proofs.TreeLemmas.{parent_older, path_le, on_root, on_path, from_path, self_on_path, ancestor_among, among_ancestor}
 use Rattle.def_state.specs.Counted.{own_at, sees_one, keys_at}

@@ -12,7 +12,7 @@ ghost use Rattle.strat_check.specs.Sightings.{versions_in, weight_lost, IsSighti
 ghost use Rattle.strat_check.specs.Bares.{are_bare_below};
 ghost use Rattle.strat_check.specs.Sums.{HaveGrown, AreWeighed, AreSummed, sum_above};
 
-use crate::bare::{Bare, count_before, replace};
+use crate::bare::{Bare, count_from, replace};
 use std::alloc::Global;
 use std::marker::Model;
 use strat_base::{NoMemory, Version};
@@ -83,8 +83,9 @@ impl Sights {
     }
 
     /// Adds the versions of one more key's entries, the greatest first. For each version O(log versions)
-    /// comparisons, and moves of 8 bytes for each one that nothing hides yet and that has a greater number in the
-    /// order of versions. The first call, and the first after `clear`, also puts the versions in order: O(versions).
+    /// comparisons, and a move of 8 bytes for each one that nothing hides yet and that has a smaller number in the
+    /// order of versions; that is none where children were made after the descendants of their older siblings. The
+    /// first call, and the first after `clear`, also puts the versions in order: O(versions).
     pub fn add(&mut self, versions: &[Version], tree: &Tree)
         requires kept { IsTrue (descends versions.now) }
         requires fits { IsTrue (list_all (λ v. nat_lt v (length self.old.own)) versions.now) }
@@ -233,8 +234,8 @@ fn hide_each(
     for u in versions {
         let u = *u;
         let start = order.start(u);
-        let from = count_before(bare, start);
-        let to = from + count_before(&bare[from..], order.end(u));
+        let from = count_from(bare, order.end(u));
+        let to = from + count_from(&bare[from..], start);
         grow_each(hidden, &bare[from..to], 1);
         grow_each(weights, &bare[from..to], u as u64 + 1);
         replace(bare, from, to, Bare { start, version: u });
