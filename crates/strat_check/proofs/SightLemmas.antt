@@ -13,8 +13,8 @@ use Rattle.strat_base.proofs.ResultFacts.{option_cases}
 use Rattle.strat_base.proofs.TreeLemmas.{parent_older, along_path}
 use Rattle.def_state.specs.Counted.{own_at}
 use Rattle.strat_tree.specs.Preorder.{Numbering, IsPreorder}
-use Rattle.strat_check.specs.Sightings.{Sightings, versions_in, weight_at, weight_lost, lost_sum, IsSighting, IsSighted}
-use Rattle.strat_check.specs.Sums.{HaveGrown, AreWeighed, AreSummed, sum_above, greatest}
+use Rattle.strat_check.specs.Sightings.{Sightings, versions_added, weight_at, weight_lost, lost_sum, IsSighting, IsSighted}
+use Rattle.strat_check.specs.Sums.{HaveGrown, AreWeighed, AreSumsOf, sum_above, greatest}
 use Rattle.strat_check.proofs.WeighLemmas.{keys_weighed, root_step, up_step, own_le, at_bound, lost_bound}
 
 light_one : (u : ℕ) → u < 16384 → 1 ≤ 16384
@@ -26,7 +26,7 @@ light_suc n u few lt = omega arith
 -- one more key
 pub sight_added : (parents : Parents) (tree : IsTree parents) (groups : List (List ℕ)) (versions : List ℕ) (s : Sightings) (own hidden weights : List ℕ) (order : Numbering)
     → length parents ≤ 16384 → length s.own ≡ length parents → length own ≡ length s.own → length s.hidden ≡ length s.own → length s.hidden_weight ≡ length s.own
-    → descends versions ≡ true → IsSighting parents groups s → versions_in (groups ++ versions ∷ []) ≤ 2 ^ 48
+    → descends versions ≡ true → IsSighting parents groups s → versions_added (groups ++ versions ∷ []) ≤ 2 ^ 48
     → HaveGrown (λ v. count_by (λ u. eqb u v) versions) s.own own
     → HaveGrown (λ v. weight_lost parents (λ u. 1) v versions) s.hidden hidden
     → HaveGrown (λ v. weight_lost parents suc v versions) s.hidden_weight weights
@@ -58,7 +58,7 @@ sight_added parents tree groups versions s own hidden weights order few known ow
 
 -- one more version is summed: those below it were, and the others still have what they gain
 pub record AreSummedBelow (parents : Parents) (gained lost sums : List ℕ) (n : ℕ) : Type 0 where
-  pub done : AreSummed parents gained lost sums n
+  pub done : AreSumsOf parents gained lost sums n
   pub rest : (v : ℕ) → n ≤ v → get_or sums v 0 ≡ get_or gained v 0
 
 pub summed_none : (parents : Parents) (gained lost : List ℕ) → AreSummedBelow parents gained lost gained 0
@@ -91,8 +91,8 @@ module _ (parents : Parents) (tree : IsTree parents) where
       }
 
   -- sums of exact numbers are exact
-  module _ (weight : ℕ → ℕ) (n : ℕ) (light : (u : ℕ) → u < n → weight u ≤ 16384) (groups : List (List ℕ)) (down : list_all descends groups ≡ true) (bound : versions_in groups ≤ 2 ^ 48) where
-    pub summed_right : (gained lost sums : List ℕ) → AreSummed parents gained lost sums n → ((v : ℕ) → v < n → get_or gained v 0 ≡ own_at groups v * weight v)
+  module _ (weight : ℕ → ℕ) (n : ℕ) (light : (u : ℕ) → u < n → weight u ≤ 16384) (groups : List (List ℕ)) (down : list_all descends groups ≡ true) (bound : versions_added groups ≤ 2 ^ 48) where
+    pub summed_right : (gained lost sums : List ℕ) → AreSumsOf parents gained lost sums n → ((v : ℕ) → v < n → get_or gained v 0 ≡ own_at groups v * weight v)
         → ((v : ℕ) → v < n → get_or lost v 0 ≡ lost_sum parents weight groups v) → (v : ℕ) → v < n → get_or sums v 0 ≡ sum_by (weight_at parents weight v) groups
     summed_right gained lost sums summed gains losses = along_path parents tree (λ v. v < n → get_or sums v 0 ≡ sum_by (weight_at parents weight v) groups)
         (λ v none lt.
@@ -131,8 +131,8 @@ module _ (parents : Parents) (tree : IsTree parents) where
         ]
 
   pub sight_finished : (groups : List (List ℕ)) (s : Sightings) (seen gains weight : List ℕ)
-      → length parents ≤ 16384 → length s.own ≡ length parents → IsSighting parents groups s → versions_in groups ≤ 2 ^ 48
-      → AreSummed parents s.own s.hidden seen (length s.own) → AreWeighed s.own gains (length s.own) → AreSummed parents gains s.hidden_weight weight (length s.own)
+      → length parents ≤ 16384 → length s.own ≡ length parents → IsSighting parents groups s → versions_added groups ≤ 2 ^ 48
+      → AreSumsOf parents s.own s.hidden seen (length s.own) → AreWeighed s.own gains (length s.own) → AreSumsOf parents gains s.hidden_weight weight (length s.own)
       → IsSighted parents groups (record { own = s.own; hidden = s.hidden; hidden_weight = s.hidden_weight; seen = seen; weight = weight; is_numbered = s.is_numbered; order = s.order })
   sight_finished groups s seen gains weight few known sighting bound seen_summed weighed weight_summed =
       record {

@@ -12,7 +12,7 @@ use Rattle.strat_base.proofs.ResultFacts.{option_cases}
 use Rattle.strat_base.proofs.TreeLemmas.{parent_older, path_le, on_root, on_path, from_path, self_on_path, ancestor_among, among_ancestor}
 use Rattle.def_state.specs.Counted.{own_at, sees_one, keys_at}
 use Rattle.def_split.proofs.CountedLemmas.{sum_same}
-use Rattle.strat_check.specs.Sightings.{versions_in, weight_at, weight_above, weight_lost, lost_sum}
+use Rattle.strat_check.specs.Sightings.{versions_added, weight_at, weight_above, weight_lost, lost_sum}
 use Rattle.strat_check.proofs.HideLemmas.{find_nothing}
 
 find_alike : {X : Type 0} (p q : X → Bool) (xs : List X) → ((x : X) → Among x xs → p x ≡ q x) → find p xs ≡ find q xs
@@ -166,10 +166,10 @@ module _ (parents : Parents) (tree : IsTree parents) (weight : ℕ → ℕ) wher
 
 -- bounds
 
-pub own_le : (groups : List (List ℕ)) (v : ℕ) → own_at groups v ≤ versions_in groups
+pub own_le : (groups : List (List ℕ)) (v : ℕ) → own_at groups v ≤ versions_added groups
 own_le groups v = sum_by-le-sum_by (λ versions. count_by (λ u. eqb u v) versions) (λ versions. length versions) groups (λ versions. count_by-le-length (λ u. eqb u v) versions)
 
-sum_scaled : (f : List ℕ → ℕ) (groups : List (List ℕ)) → ((versions : List ℕ) → f versions ≤ length versions * 16384) → sum_by f groups ≤ versions_in groups * 16384
+sum_scaled : (f : List ℕ → ℕ) (groups : List (List ℕ)) → ((versions : List ℕ) → f versions ≤ length versions * 16384) → sum_by f groups ≤ versions_added groups * 16384
 sum_scaled f [] each = omega arith
 sum_scaled f (group ∷ groups) each =
     let here = each group in
@@ -215,8 +215,8 @@ module _ (parents : Parents) (tree : IsTree parents) (weight : ℕ → ℕ) (n :
         | false ↦ omega arith
       ]
 
-  pub at_bound : (groups : List (List ℕ)) (v : ℕ) → v < n → sum_by (weight_at parents weight v) groups ≤ versions_in groups * 16384
+  pub at_bound : (groups : List (List ℕ)) (v : ℕ) → v < n → sum_by (weight_at parents weight v) groups ≤ versions_added groups * 16384
   at_bound groups v lt = sum_scaled (weight_at parents weight v) groups (at_small v lt)
 
-  pub lost_bound : (groups : List (List ℕ)) (v : ℕ) → v < n → lost_sum parents weight groups v ≤ versions_in groups * 16384
+  pub lost_bound : (groups : List (List ℕ)) (v : ℕ) → v < n → lost_sum parents weight groups v ≤ versions_added groups * 16384
   lost_bound groups v lt = sum_scaled (weight_lost parents weight v) groups (lost_small v lt)

@@ -22,8 +22,8 @@ pub record Sightings : Type 0 where
   pub order : Numbering
 
 -- how many entries groups have
-abbrev pub versions_in : List (List ℕ) → ℕ
-versions_in groups = sum_by (λ versions. length versions) groups
+abbrev pub versions_added : List (List ℕ) → ℕ
+versions_added groups = sum_by (λ versions. length versions) groups
 
 -- the weight of the nearest version on the path to v among versions of a key, or 0
 abbrev pub weight_at : Parents → (ℕ → ℕ) → ℕ → List ℕ → ℕ

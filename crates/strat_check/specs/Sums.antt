@@ -24,7 +24,7 @@ abbrev pub sum_above : Parents → List ℕ → ℕ → ℕ
 sum_above parents sums v = option_map_or (λ p. slice_index sums p) (parent_of parents v) 0
 
 -- below n each version has what its parent has and what it gains, without what it loses
-abbrev pub AreSummed : Parents → List ℕ → List ℕ → List ℕ → ℕ → Type 0
-AreSummed parents gained lost sums n = (v : ℕ) → v < n
+abbrev pub AreSumsOf : Parents → List ℕ → List ℕ → List ℕ → ℕ → Type 0
+AreSumsOf parents gained lost sums n = (v : ℕ) → v < n
     → slice_index sums v
     ≡ min (sum_above parents sums v + slice_index gained v) greatest - slice_index lost v

@@ -8,9 +8,9 @@ ghost use Rattle.strat_base.specs.Tree.{Parents, parent_of, IsTree};
 ghost use Rattle.def_state.specs.Counted.{own_at, keys_at};
 ghost use Rattle.def_check.specs.Weights.{nearest_sum};
 ghost use Rattle.strat_tree.specs.Preorder.{IsPreorder};
-ghost use Rattle.strat_check.specs.Sightings.{versions_in, weight_lost, IsSighting, IsSighted};
+ghost use Rattle.strat_check.specs.Sightings.{versions_added, weight_lost, IsSighting, IsSighted};
 ghost use Rattle.strat_check.specs.Bares.{are_bare_below};
-ghost use Rattle.strat_check.specs.Sums.{HaveGrown, AreWeighed, AreSummed, sum_above};
+ghost use Rattle.strat_check.specs.Sums.{HaveGrown, AreWeighed, AreSumsOf, sum_above};
 
 use crate::bare::{Bare, count_from, replace};
 use std::alloc::Global;
@@ -91,9 +91,10 @@ impl Sights {
         requires fits { IsTrue (list_all (λ v. nat_lt v (length self.old.own)) versions.now) }
         requires len { length self.old.own ≡ length tree.now.parents }
         ensures ok { (groups : List (List ℕ)) → IsSighting tree.now.parents groups self.old
-            → versions_in (groups ++ versions.now ∷ []) ≤ 2 ^ 48
+            → versions_added (groups ++ versions.now ∷ []) ≤ 2 ^ 48
             → IsSighting tree.now.parents (groups ++ versions.now ∷ []) self.new }
         ensures len { length self.new.own ≡ length self.old.own }
+        ensures state { self.new.is_numbered ≡ true }
     {
         // For the proof: the parents are a tree.
         let _ = tree.count();
@@ -113,8 +114,10 @@ impl Sights {
     pub fn finish(&mut self, tree: &Tree)
         requires len { length self.old.own ≡ length tree.now.parents }
         ensures ok { (groups : List (List ℕ)) → IsSighting tree.now.parents groups self.old
-            → versions_in groups ≤ 2 ^ 48 → IsSighted tree.now.parents groups self.new }
+            → versions_added groups ≤ 2 ^ 48 → IsSighted tree.now.parents groups self.new }
         ensures len { length self.new.own ≡ length self.old.own }
+        ensures same { self.new
+            ≡ record self.old { seen = self.new.seen; weight = self.new.weight } }
     {
         // For the proof: the parents are a tree of few versions.
         let _ = tree.count();
@@ -257,7 +260,7 @@ fn sum_down(sums: &mut [u64], lost: &[u64], parents: &[Option<Version>])
     requires kept { IsTree parents.now }
     requires len { length lost.now ≡ length sums.old }
     requires fits { length sums.old ≤ length parents.now }
-    ensures ok { AreSummed parents.now sums.old lost.now sums.new (length sums.old) }
+    ensures ok { AreSumsOf parents.now sums.old lost.now sums.new (length sums.old) }
 {
     for v in 0..sums.len() {
         let sum = at_parent(sums, parents, v).saturating_add(sums[v]);
