@@ -1,0 +1,5 @@
+pub mod GrowthLemmas
+pub mod BareLemmas
+pub mod HideLemmas
+pub mod WeighLemmas
+pub mod SightLemmas

@@ -1,0 +1,4 @@
+pub mod Sightings
+pub mod SightFields
+pub mod Bares
+pub mod Sums

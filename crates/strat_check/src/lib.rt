@@ -1,0 +1,7 @@
+//! The check of a store: what is wrong with it, if anything, told from its bytes.
+#![tactic(auto)]
+
+mod bare;
+mod sights;
+
+pub use sights::Sights;
