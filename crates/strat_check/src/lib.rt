@@ -1,2 +1,9 @@
 //! The check of a store: what is wrong with it, if anything, told from its bytes.
 #![tactic(auto)]
+
+pub mod array_count;
+mod marked_group;
+pub mod marked_run;
+mod marking;
+pub mod scan;
+pub mod sights;
