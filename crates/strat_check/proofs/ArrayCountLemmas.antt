@@ -1,12 +1,14 @@
 -- An array that is counted by itself.
-use Rattle.std.proofs.Common.{◌≡◌, ◌<◌, ◌≤◌, ◌+◌, ◌*◌, ◌/◌, ◌^◌, ℕ, zero, suc, true, Bool, ltb, List, [], ◌∷◌, ◌++◌, length, map, filter, Option, Some, Result, Ok, Err, refl, sym, ap, ◌∙◌, subst, arith, append-nil, length-append}
-use Rattle.std.specs.List.{Contains, slice_get, flat_map}
+use Rattle.std.proofs.Common.{◌≡◌, ◌<◌, ◌≤◌, ◌+◌, ◌*◌, ◌/◌, ◌^◌, ℕ, zero, suc, true, Bool, ltb, leb, ◌&&◌, List, [], ◌∷◌, ◌++◌, length, map, filter, Option, Some, Result, Ok, Err, IsErrAnd, refl, sym, ap, ◌∙◌, subst, arith, append-nil, length-append}
+use Rattle.std.specs.List.{Contains, slice_get, flat_map, list_all}
 use Rattle.std.specs.Option.{option_map}
 use Rattle.std.specs.Prelude.{sum_by}
 use Rattle.std.proofs.lemmas.Bool.{and_parts, leb-true}
 use Rattle.std.proofs.lemmas.List.{length-map, map-append}
+use Rattle.std.proofs.lemmas.List.Sums.{sum_by-cons}
+use Rattle.std.proofs.lemmas.Result.{err_from_is_err_and}
 use Rattle.strat_base.specs.Entries.{Entry, is_ascending}
-use Rattle.strat_base.specs.EntryBytes.{entry_bytes}
+use Rattle.strat_base.specs.EntryBytes.{entry_bytes, fits_fields}
 use Rattle.strat_base.specs.Numbers.{be}
 use Rattle.strat_base.specs.Tree.{Parents, IsTree}
 use Rattle.strat_base.specs.declared.failures.Trouble.{Trouble}
@@ -89,6 +91,26 @@ module _ {R : Type 0} (view : R → RunView) where
     left = reads.left;
   }
 
+  -- an error was handed on
+  pub read_failed : {T U : Type 0} (r : Result U Trouble) (t : Trouble) → IsErrAnd r (λ e. e ≡ t) → (a b : DiskView) (f g p q : ℕ) (old new : List R)
+      → ReadsRuns {T = T} view Device Damaged a b f g p q old new (Err t) → ReadsRuns view Device Damaged a b f g p q old new r
+  read_failed {T} {U} r t told a b f g p q old new reads =
+      let e = err_from_is_err_and r told in
+      subst (λ (x : Result U Trouble). ReadsRuns view Device Damaged a b f g p q old new x) (sym (e.1 ∙ ap (λ (x : Trouble). Err x) e.2)) (handed reads)
+    where
+      same_err : (x y : Trouble) → Path (Result U Trouble) (Err x) (Err y) → Path (Result T Trouble) (Err x) (Err y)
+      same_err x y is = cc
+
+      handed : ReadsRuns {T = T} view Device Damaged a b f g p q old new (Err t) → ReadsRuns {T = U} view Device Damaged a b f g p q old new (Err t)
+      handed reads = record {
+        same = reads.same;
+        cause = record { later = reads.cause.later; ok = tt; device = λ is. reads.cause.device (same_err t Device is); other = reads.cause.other };
+        named = λ n is. reads.named n (same_err t (Damaged n) is);
+        blamed = λ n is. reads.blamed n (same_err t (Damaged n) is);
+        fewer = reads.fewer;
+        left = reads.left;
+      }
+
 -- Groups whose leads are counted.
 module _ (parents : Parents) (owners : List ℕ) where
   -- the leads of the groups that were taken of runs were added
@@ -107,7 +129,8 @@ module _ (parents : Parents) (owners : List ℕ) where
       let same = length-map (filter (is_owned owners) group) (λ (e : Entry). e.version / 16384) in
       let few = filter_fewer (is_owned owners) group in
       let rest = owned_fewer groups in
-      omega (arith, size, same, few, rest)
+      let sum = sum_by-cons (λ (versions : List ℕ). length versions) (owned_versions owners group) (map (owned_versions owners) groups) in
+      omega (arith, size, same, few, rest, sum)
 
   -- as many leads were added as runs had entries, at most
   few_leads : (runs groups left : List (List Entry)) → MergesTo runs groups left → length (grouped_entries runs) ≤ 2 ^ 48 → versions_in (map (owned_versions owners) groups) ≤ 2 ^ 48
@@ -147,7 +170,7 @@ module _ (parents : Parents) (owners : List ℕ) where
 
 few_in_block : (entries : List Entry) → fits_block entries ≡ true → length entries ≤ 2048
 few_in_block entries fits =
-    let one = leb-true (length (block_front entries)) 4096 (and_parts _ _ fits).1 in
+    let one = leb-true (length (block_front entries)) 4096 (and_parts (ltb 0 (length entries) && list_all fits_fields entries && is_ascending entries) (leb (length (block_front entries)) 4096) fits).1 in
     let front = length-append (be 2 (length entries)) (offsets (2 + 2 * length entries) entries ++ flat_map entry_bytes entries) in
     let behind = length-append (offsets (2 + 2 * length entries) entries) (flat_map entry_bytes entries) in
     let places = length-offsets (2 + 2 * length entries) entries in

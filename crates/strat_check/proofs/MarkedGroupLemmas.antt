@@ -34,13 +34,11 @@ item_low n items i d below lt = let low = version_below items (16384 * n) i d be
 -- of the items that are of the runs that own them, no two have one version
 pub leads_descend : (owners : List ℕ) (items : List Item) → is_descending items ≡ true → descends (leads_among owners items) ≡ true
 leads_descend owners [] down = refl
-leads_descend owners (item ∷ items) down = go (is_owner_of owners item.version) refl
+leads_descend owners (item ∷ items) down =
+    go (leads_descend owners items (and_parts (list_all (λ (later : Item). ltb later.version item.version) items) (is_descending items) down).1) (is_owner_of owners item.version) refl
   where
     behind : list_all (λ (later : Item). ltb later.version item.version) items ≡ true
     behind = (and_parts (list_all (λ (later : Item). ltb later.version item.version) items) (is_descending items) down).0
-
-    rest : descends (leads_among owners items) ≡ true
-    rest = leads_descend owners items (and_parts (list_all (λ (later : Item). ltb later.version item.version) items) (is_descending items) down).1
 
     less : is_owner_of owners item.version ≡ true → (x : Item) → x.version < item.version → is_owner_of owners x.version ≡ true → x.version / 16384 < item.version / 16384
     less mine x lower its =
@@ -49,9 +47,9 @@ leads_descend owners (item ∷ items) down = go (is_owner_of owners item.version
         let place : x.version / 16384 ≡ item.version / 16384 → x.version % 16384 ≡ item.version % 16384 = λ same. sym two ∙ ap (λ (u : ℕ). get_or owners u 0) same ∙ one in
         omega (arith, lower, place)
 
-    go : (b : Bool) → is_owner_of owners item.version ≡ b → descends (map (λ (d : Item). d.version / 16384) (cond b (item ∷ filter (λ (d : Item). is_owner_of owners d.version) items) (filter (λ (d : Item). is_owner_of owners d.version) items))) ≡ true
-    go false is = rest
-    go true is =
+    go : descends (leads_among owners items) ≡ true → (b : Bool) → is_owner_of owners item.version ≡ b → descends (map (λ (d : Item). d.version / 16384) (cond b (item ∷ filter (λ (d : Item). is_owner_of owners d.version) items) (filter (λ (d : Item). is_owner_of owners d.version) items))) ≡ true
+    go rest false is = rest
+    go rest true is =
         and_from (list_all (λ u. ltb u (item.version / 16384)) (leads_among owners items)) (descends (leads_among owners items))
         (all_from (λ u. ltb u (item.version / 16384)) (leads_among owners items) (λ u among.
         let at = map_among (λ (d : Item). d.version / 16384) (filter (λ (d : Item). is_owner_of owners d.version) items) u among in

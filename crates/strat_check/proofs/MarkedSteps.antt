@@ -1,5 +1,5 @@
 -- A marked run is a run.
-use Rattle.std.proofs.Common.{◌≡◌, ◌<◌, ◌≤◌, ◌+◌, ◌*◌, ℕ, Bool, true, ltb, List, [], ◌∷◌, map, filter, drop, get_or, length, Option, Some, None, refl, sym, ap, ◌∙◌, subst, arith}
+use Rattle.std.proofs.Common.{◌≡◌, ◌<◌, ◌≤◌, ◌+◌, ◌*◌, ℕ, Bool, true, ltb, List, [], ◌∷◌, map, filter, drop, get_or, length, Option, Some, None, IsSome, refl, sym, ap, ◌∙◌, subst, arith}
 use Rattle.std.specs.Option.{option_map}
 use Rattle.std.specs.Ordering.{is_lt}
 use Rattle.std.proofs.lemmas.Bool.{ltb-true, lt-ltb}
@@ -28,7 +28,7 @@ tagged_below n v =
     (λ tagged. let within = range_among 0 n v (tagged_among (versions_below n) v tagged) in lt-ltb v n (omega (arith, within.1)))
     (λ low. let less = ltb-true v n low in among_tagged (versions_below n) v (among_range 0 n v (omega arith) (omega (arith, less))))
 
-leads_below : (n : ℕ) (entries : List Entry) → lead_entries (versions_below n) entries ≡ filter (λ e. ltb e.version n) entries
+pub leads_below : (n : ℕ) (entries : List Entry) → lead_entries (versions_below n) entries ≡ filter (λ e. ltb e.version n) entries
 leads_below n entries = filter_same (λ e. is_tagged (versions_below n) e.version) (λ e. ltb e.version n) entries (λ e among. tagged_below n e.version)
 
 -- the first entry of a run is of a version below its number
@@ -66,3 +66,8 @@ marked_advances v i old new step = record {
       (marked_order i a.0 b.0 (is_less a.0 b.0 (step.later a.0 b.0 a.1 b.1))));
   bound = ap (λ (n : ℕ). 16384 * n) step.bound;
 }
+
+-- what is marked is there
+pub some_unmarked : (i : ℕ) (o : Option Entry) → IsSome (option_map (marked i) o) → IsSome o
+some_unmarked i None some = some
+some_unmarked i (Some e) some = some

@@ -37,7 +37,7 @@ entries_below n entries = filter (λ e. ltb e.version n) entries
 module _ (parents : Parents) (tree : IsTree parents) (n v : ℕ) (low : v < n) where
   -- an entry that a version sees is of a version below n, too
   seen_low : (e : Entry) → is_ancestor parents e.version v ≡ true → ltb e.version n ≡ true
-  seen_low e above = let le = path_le parents tree e.version v (ancestor_among parents e.version v above) in lt-ltb e.version n (omega (arith, le, low))
+  seen_low e above = let le = path_le parents tree e.version v (ancestor_among parents tree e.version v above) in lt-ltb e.version n (omega (arith, le, low))
 
   hidden_same : (entries : List Entry) (e : Entry) → list_any (is_hidden_by parents v e) (entries_below n entries) ≡ list_any (is_hidden_by parents v e) entries
   hidden_same entries e =
