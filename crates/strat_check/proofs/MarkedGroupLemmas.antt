@@ -1,7 +1,7 @@
 -- The next group of marked runs that are merged.
-use Rattle.std.proofs.Common.{◌≡◌, ◌<◌, ◌+◌, ◌*◌, ◌/◌, ◌%◌, ℕ, Bool, true, false, cond, eqb, ltb, List, [], ◌∷◌, ◌++◌, length, map, filter, take, get_or, refl, sym, ap, ◌∙◌, subst, arith}
+use Rattle.std.proofs.Common.{◌≡◌, ◌<◌, ◌≤◌, ◌+◌, ◌*◌, ◌/◌, ◌%◌, ℕ, Bool, true, false, cond, eqb, ltb, inl, inr, List, [], ◌∷◌, ◌++◌, length, map, filter, take, get_or, refl, sym, ap, ◌∙◌, subst, arith}
 use Rattle.std.specs.List.{list_all}
-use Rattle.std.proofs.lemmas.Bool.{and_parts, and_from, eqb-true, ltb-true, lt-ltb}
+use Rattle.std.proofs.lemmas.Bool.{and_parts, and_from, eqb-true, ltb-true, lt-ltb, cases_lt}
 use Rattle.std.proofs.lemmas.List.{map-append, take_more}
 use Rattle.std.proofs.lemmas.List.Elements.{filter-append}
 use Rattle.strat_base.specs.Entries.{Entry}
@@ -44,8 +44,14 @@ leads_descend owners (item ∷ items) down =
     less mine x lower its =
         let one = eqb-true (get_or owners (item.version / 16384) 0) (item.version % 16384) mine in
         let two = eqb-true (get_or owners (x.version / 16384) 0) (x.version % 16384) its in
-        let place : x.version / 16384 ≡ item.version / 16384 → x.version % 16384 ≡ item.version % 16384 = λ same. sym two ∙ ap (λ (u : ℕ). get_or owners u 0) same ∙ one in
-        omega (arith, lower, place)
+        let le : x.version / 16384 ≤ item.version / 16384 = omega (arith, lower) in
+        elim (cases_lt (x.version / 16384) (item.version / 16384)) [
+          | inl lt ↦ lt
+          | inr ge ↦
+              let same : x.version / 16384 ≡ item.version / 16384 = omega (arith, le, ge) in
+              let place : x.version % 16384 ≡ item.version % 16384 = sym two ∙ ap (λ (u : ℕ). get_or owners u 0) same ∙ one in
+              absurd (omega (arith, lower, same, place))
+        ]
 
     go : descends (leads_among owners items) ≡ true → (b : Bool) → is_owner_of owners item.version ≡ b → descends (map (λ (d : Item). d.version / 16384) (cond b (item ∷ filter (λ (d : Item). is_owner_of owners d.version) items) (filter (λ (d : Item). is_owner_of owners d.version) items))) ≡ true
     go rest false is = rest

@@ -1,4 +1,5 @@
 pub mod ArrayCounts
+pub mod Bares
 pub mod Below
 pub mod MarkedGroups
 pub mod MarkedLaw
@@ -6,3 +7,4 @@ pub mod MarkedRuns
 pub mod Scanned
 pub mod SightFields
 pub mod Sightings
+pub mod Sums

@@ -1,6 +1,6 @@
 //! What each version sees of an array, counted by itself.
 
-ghost use Rattle.std.specs.Prelude.{◌≡◌, ◌≤◌, ◌*◌, ◌^◌, ℕ, nat_lt, List, [], ◌∷◌, length, map, filter, Some, IfOk, OnOk, OnErr, IsErrOf, IsTrue};
+ghost use Rattle.std.specs.Prelude.{◌≡◌, ◌≤◌, ◌*◌, ◌^◌, ℕ, nat_lt, List, [], ◌∷◌, length, map, filter, replicate, Some, IfOk, OnOk, OnErr, IsErrOf, IsTrue};
 ghost use Rattle.strat_array.specs.Within.{AreWithin};
 ghost use Rattle.strat_base.specs.Entries.{Entry, is_ascending};
 ghost use Rattle.strat_base.specs.declared.failures.Trouble.TheVariants.{Damaged, Device};
@@ -26,6 +26,14 @@ use std::alloc::Global;
 use strat_base::{ArrayDesc, NoMemory, Trouble};
 use strat_disk::Disk;
 use strat_tree::Tree;
+
+/// A table in which place 0 owns each version below a number.
+fn first_owns(alloc: Global, versions: u32) -> Result<Vec<u32>, NoMemory>
+    ensures ok { IfOk result (λ owners. owners.items ≡ replicate versions 0) }
+{
+    let owners = vec![in alloc; 0; versions as usize]?;
+    Ok(owners)
+}
 
 /// One run alone, to be merged.
 fn merge_alone(alloc: Global, run: MarkedRun, versions: u32) -> Result<Merging, NoMemory>
@@ -126,7 +134,7 @@ pub fn count_array<D: Disk>(
 {
     sights.clear();
     let versions = tree.count();
-    let owners = vec![in alloc; 0; versions as usize]?;
+    let owners = first_owns(alloc, versions)?;
     let mut merging = open_alone(alloc, desc, versions, disk)?;
     count_groups(&mut merging, &owners, sights, tree, disk)
 }

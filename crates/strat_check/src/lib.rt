@@ -2,8 +2,11 @@
 #![tactic(auto)]
 
 pub mod array_count;
+mod bare;
 mod marked_group;
 pub mod marked_run;
 mod marking;
 pub mod scan;
-pub mod sights;
+mod sights;
+
+pub use sights::Sights;

@@ -56,11 +56,7 @@ impl Merging {
 
 /// Takes the versions of the items that are of the runs that own them, by a table of the places that own each version.
 /// O(items).
-fn take_leads(
-    items: &[Item],
-    owners: &[u32],
-    versions: &mut Vec<Version>,
-) -> Result<(), NoMemory>
+fn take_leads(items: &[Item], owners: &[u32], versions: &mut Vec<Version>) -> Result<(), NoMemory>
     requires fits { IsTrue (are_below (16384 * length owners.now) items.now) }
     ensures ok { OnOk result (versions.new.items ≡ leads_among owners.now items.now) }
 {
@@ -101,7 +97,10 @@ pub(crate) fn next_leads<D: Disk>(
         (D.faults disk.old) (D.faults disk.new) (D.reads disk.old) (D.reads disk.new)
         (runs_merged merging.old.merger) (runs_merged merging.new.merger) result }
 {
-    if !merging.merger.next_group::<D>(disk, &mut merging.arena, &mut merging.group)? {
+    if !merging
+        .merger
+        .next_group::<D>(disk, &mut merging.arena, &mut merging.group)?
+    {
         return Ok(false);
     }
     take_leads(merging.group.items(), owners, &mut merging.versions)?;

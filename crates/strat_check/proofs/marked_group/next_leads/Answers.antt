@@ -1,4 +1,4 @@
-use Rattle.std.proofs.Common.{◌≡◌, ℕ, true, ltb, List, length, ap, sym, ◌∙◌, subst}
+use Rattle.std.proofs.Common.{◌≡◌, ◌*◌, ℕ, true, ltb, List, length, ap, sym, ◌∙◌, subst}
 use Rattle.std.specs.List.{list_all}
 use Rattle.strat_arena.specs.declared.items.Item.{Item}
 use Rattle.strat_base.specs.Order.{descends}
@@ -22,10 +22,10 @@ returns-clause-kept g c =
     let leads : c.take_leads.new.versions.items ≡ leads_among c.args.owners.now c.next_group.new.group = c.in_ok-take_leads.ensures.ok ∙ ap (leads_among c.args.owners.now) c.items.ensures.ok in
     record {
       unspent = c.in_ok-next_group.ensures.kept;
-      under = found.1.bound (16384 * length c.args.owners.now) c.requires.under;
+      under = found.1.bound (16384 * length c.args.owners.now) c.requires.kept.under;
       descending = subst (λ (vs : List ℕ). descends vs ≡ true) (sym leads) (leads_descend c.args.owners.now c.next_group.new.group found.1.descending);
       low = subst (λ (vs : List ℕ). list_all (λ v. ltb v (length c.args.owners.now)) vs ≡ true) (sym leads)
-          (leads_low c.args.owners.now (length c.args.owners.now) c.next_group.new.group (found.1.low (16384 * length c.args.owners.now) c.requires.under));
+          (leads_low c.args.owners.now (length c.args.owners.now) c.next_group.new.group (found.1.low (16384 * length c.args.owners.now) c.requires.kept.under));
     }
 
 pub returns-clause-state : goal.returns-clause-state
