@@ -1,10 +1,11 @@
 -- An array that is counted by itself.
-use Rattle.std.proofs.Common.{◌≡◌, ◌<◌, ◌≤◌, ◌+◌, ◌*◌, ◌/◌, ◌^◌, ℕ, zero, suc, true, Bool, ltb, leb, ◌&&◌, List, [], ◌∷◌, ◌++◌, length, map, filter, Option, Some, Result, Ok, Err, IsErrAnd, refl, sym, ap, ◌∙◌, subst, arith, append-nil, length-append}
+use Rattle.std.proofs.Common.{◌≡◌, ◌<◌, ◌≤◌, ◌+◌, ◌*◌, ◌/◌, ◌^◌, ℕ, zero, suc, true, Bool, ltb, leb, not, ◌&&◌, List, [], ◌∷◌, ◌++◌, length, map, filter, Option, Some, Result, Ok, Err, IsErrAnd, refl, sym, ap, ◌∙◌, subst, arith, append-nil, length-append}
 use Rattle.std.specs.List.{Contains, slice_get, flat_map, list_all}
 use Rattle.std.specs.Option.{option_map}
 use Rattle.std.specs.Prelude.{sum_by}
 use Rattle.std.proofs.lemmas.Bool.{and_parts, leb-true}
 use Rattle.std.proofs.lemmas.List.{length-map, map-append}
+use Rattle.std.proofs.lemmas.List.Filters.{length-filter_both}
 use Rattle.std.proofs.lemmas.List.Sums.{sum_by-cons}
 use Rattle.std.proofs.lemmas.Result.{err_from_is_err_and}
 use Rattle.strat_base.specs.Entries.{Entry, is_ascending}
@@ -27,12 +28,11 @@ use Rattle.def_split.specs.Groups.{grouped_entries}
 use Rattle.strat_merge.specs.Reading.{ReadsRuns}
 use Rattle.strat_merge.specs.Runs.{RunView, lefts, blocks_left, IsBadFor}
 use Rattle.strat_promote.proofs.BoundLemmas.{merged_fewer}
-use Rattle.strat_promote.proofs.PassLemmas.{filter_fewer}
 use Rattle.def_check.specs.Marked.{marked}
 use Rattle.strat_check.specs.ArrayCounts.{AreSightsOf, ReadsArray}
 use Rattle.strat_check.specs.MarkedGroups.{is_owned, owned_versions}
 use Rattle.strat_check.specs.MarkedRuns.{marked_seen}
-use Rattle.strat_check.specs.Sightings.{Sightings, IsSighting, IsSighted, versions_in}
+use Rattle.strat_check.specs.Sightings.{Sightings, IsSighting, IsSighted, versions_added}
 use Rattle.strat_check.specs.declared.marked_run.MarkedRun.{MarkedRun}
 
 -- Reads that follow one another.
@@ -122,18 +122,18 @@ module _ (parents : Parents) (owners : List ℕ) where
   pub none_added : (runs left : List (List Entry)) (s : Sightings) → left ≡ runs → IsSighting parents [] s → AreAdded runs left s
   none_added runs left s same none = record { groups = []; merged = same; added = none }
 
-  owned_fewer : (groups : List (List Entry)) → versions_in (map (owned_versions owners) groups) ≤ length (grouped_entries groups)
+  owned_fewer : (groups : List (List Entry)) → versions_added (map (owned_versions owners) groups) ≤ length (grouped_entries groups)
   owned_fewer [] = omega arith
   owned_fewer (group ∷ groups) =
       let size = length-append group (grouped_entries groups) in
       let same = length-map (filter (is_owned owners) group) (λ (e : Entry). e.version / 16384) in
-      let few = filter_fewer (is_owned owners) group in
+      let few = length-filter_both (is_owned owners) (λ (e : Entry). not (is_owned owners e)) (λ e. refl) group in
       let rest = owned_fewer groups in
       let sum = sum_by-cons (λ (versions : List ℕ). length versions) (owned_versions owners group) (map (owned_versions owners) groups) in
       omega (arith, size, same, few, rest, sum)
 
   -- as many leads were added as runs had entries, at most
-  few_leads : (runs groups left : List (List Entry)) → MergesTo runs groups left → length (grouped_entries runs) ≤ 2 ^ 48 → versions_in (map (owned_versions owners) groups) ≤ 2 ^ 48
+  few_leads : (runs groups left : List (List Entry)) → MergesTo runs groups left → length (grouped_entries runs) ≤ 2 ^ 48 → versions_added (map (owned_versions owners) groups) ≤ 2 ^ 48
   few_leads runs groups left merged few =
       let most = merged_fewer runs groups left merged in
       let fewer = owned_fewer groups in
@@ -141,14 +141,14 @@ module _ (parents : Parents) (owners : List ℕ) where
 
   pub one_added : (runs old new : List (List Entry)) (group : List Entry) (versions : List ℕ) (before after : Sightings) → length (grouped_entries runs) ≤ 2 ^ 48
       → ((groups : List (List Entry)) → MergesTo runs groups old → MergesTo runs (groups ++ group ∷ []) new) → versions ≡ owned_versions owners group
-      → ((groups : List (List ℕ)) → IsSighting parents groups before → versions_in (groups ++ versions ∷ []) ≤ 2 ^ 48 → IsSighting parents (groups ++ versions ∷ []) after)
+      → ((groups : List (List ℕ)) → IsSighting parents groups before → versions_added (groups ++ versions ∷ []) ≤ 2 ^ 48 → IsSighting parents (groups ++ versions ∷ []) after)
       → AreAdded runs old before → AreAdded runs new after
   one_added runs old new group versions before after few takes owned adds are =
       let merged : MergesTo runs (are.groups ++ group ∷ []) new = takes are.groups are.merged in
       let all : map (owned_versions owners) (are.groups ++ group ∷ []) ≡ map (owned_versions owners) are.groups ++ versions ∷ [] =
       map-append (owned_versions owners) are.groups (group ∷ []) ∙ ap (λ (vs : List ℕ). map (owned_versions owners) are.groups ++ vs ∷ []) (sym owned) in
-      let room : versions_in (map (owned_versions owners) are.groups ++ versions ∷ []) ≤ 2 ^ 48 =
-      subst (λ (gs : List (List ℕ)). versions_in gs ≤ 2 ^ 48) all (few_leads runs (are.groups ++ group ∷ []) new merged few) in
+      let room : versions_added (map (owned_versions owners) are.groups ++ versions ∷ []) ≤ 2 ^ 48 =
+      subst (λ (gs : List (List ℕ)). versions_added gs ≤ 2 ^ 48) all (few_leads runs (are.groups ++ group ∷ []) new merged few) in
       record {
         groups = are.groups ++ group ∷ [];
         merged = merged;
@@ -157,7 +157,7 @@ module _ (parents : Parents) (owners : List ℕ) where
 
   pub all_added : (runs left : List (List Entry)) (before after : Sightings) → length (grouped_entries runs) ≤ 2 ^ 48
       → ((groups : List (List Entry)) → MergesTo runs groups left → Merges runs groups)
-      → ((groups : List (List ℕ)) → IsSighting parents groups before → versions_in groups ≤ 2 ^ 48 → IsSighted parents groups after)
+      → ((groups : List (List ℕ)) → IsSighting parents groups before → versions_added groups ≤ 2 ^ 48 → IsSighted parents groups after)
       → AreAdded runs left before → AreSightsOf parents owners runs after
   all_added runs left before after few ends sums are =
       record {
@@ -194,7 +194,7 @@ few_marked n c blocks content few on =
     let most = few_entries c blocks content on in
     let size = length-append (map (marked 0) (filter (λ (e : Entry). ltb e.version n) content)) [] in
     let same = length-map (filter (λ (e : Entry). ltb e.version n) content) (marked 0) in
-    let fewer = filter_fewer (λ (e : Entry). ltb e.version n) content in
+    let fewer = length-filter_both (λ (e : Entry). ltb e.version n) (λ (e : Entry). not (ltb e.version n)) (λ e. refl) content in
     omega (arith, most, size, same, fewer, few)
 
 -- One run alone.

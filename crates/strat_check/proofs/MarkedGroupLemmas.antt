@@ -1,22 +1,27 @@
 -- The next group of marked runs that are merged.
-use Rattle.std.proofs.Common.{◌≡◌, ◌<◌, ◌≤◌, ◌+◌, ◌*◌, ◌/◌, ◌%◌, ℕ, Bool, true, false, cond, eqb, ltb, inl, inr, List, [], ◌∷◌, ◌++◌, length, map, filter, take, get_or, refl, sym, ap, ◌∙◌, subst, arith}
-use Rattle.std.specs.List.{list_all}
+use Rattle.std.proofs.Common.{◌≡◌, ◌<◌, ◌≤◌, ◌+◌, ◌*◌, ◌/◌, ◌%◌, ℕ, zero, suc, Bool, true, false, cond, eqb, ltb, inl, inr, List, [], ◌∷◌, ◌++◌, length, map, filter, take, get_or, None, refl, sym, ap, ◌∙◌, subst, arith}
+use Rattle.std.specs.List.{list_all, slice_get}
 use Rattle.std.proofs.lemmas.Bool.{and_parts, and_from, eqb-true, ltb-true, lt-ltb, cases_lt}
 use Rattle.std.proofs.lemmas.List.{map-append, take_more}
 use Rattle.std.proofs.lemmas.List.Elements.{filter-append}
 use Rattle.strat_base.specs.Entries.{Entry}
 use Rattle.strat_base.specs.Order.{descends}
-use Rattle.strat_base.proofs.ListFacts.{all_at, all_from, filter_among}
+use Rattle.strat_base.proofs.ListFacts.{Among, all_at, all_from, filter_among}
+use Rattle.def_crash.specs.Image.{Image}
+use Rattle.def_split.specs.Groups.{grouped_entries}
 use Rattle.def_promote.specs.Merging.{MergesTo}
 use Rattle.def_promote.proofs.MergingLemmas.{merged_more}
 use Rattle.def_split.proofs.ListLemmas.{map_among}
 use Rattle.strat_arena.specs.ArenaView.{KeyValue}
 use Rattle.strat_arena.specs.Items.{entries_of, entry_of_item}
 use Rattle.strat_arena.specs.declared.items.Item.{Item}
-use Rattle.strat_live.proofs.BegunLemmas.{version_below}
 use Rattle.strat_live.specs.Counting.{are_below}
 use Rattle.strat_live.specs.Group.{is_descending}
 use Rattle.strat_merge.specs.Gathered.{TakesNext}
+use Rattle.strat_merge.specs.Runs.{NoneLeft, lefts}
+use Rattle.strat_check.specs.MarkedLaw.{marked_law}
+use Rattle.strat_check.specs.MarkedRuns.{marked_seen}
+use Rattle.strat_check.specs.declared.marked_run.MarkedRun.{MarkedRun}
 use Rattle.strat_check.specs.MarkedGroups.{is_owner_of, is_owned, owned_versions, leads_among}
 
 -- one more item was looked at
@@ -29,7 +34,14 @@ lead_more owners items i d lt =
 
 -- the version of an item is below n
 pub item_low : (n : ℕ) (items : List Item) (i : ℕ) (d : Item) → are_below (16384 * n) items ≡ true → i < length items → (get_or items i d).version / 16384 < n
-item_low n items i d below lt = let low = version_below items (16384 * n) i d below lt in omega (arith, low)
+item_low n items i d below lt =
+    let low = ltb-true (get_or items i d).version (16384 * n) (all_at (λ (x : Item). ltb x.version (16384 * n)) (get_or items i d) items below (there items i lt)) in
+    omega (arith, low)
+  where
+    there : (items : List Item) (i : ℕ) → i < length items → Among (get_or items i d) items
+    there [] i lt = absurd (omega arith)
+    there (x ∷ items) zero lt = inl refl
+    there (x ∷ items) (suc i) lt = inr (there items i (omega arith))
 
 -- of the items that are of the runs that own them, no two have one version
 pub leads_descend : (owners : List ℕ) (items : List Item) → is_descending items ≡ true → descends (leads_among owners items) ≡ true
@@ -87,3 +99,14 @@ owned_items owners pairs (item ∷ items) = go (is_owner_of owners item.version)
 -- one more group was taken
 pub merges_more : (runs groups old new : List (List Entry)) (group : List Entry) → MergesTo runs groups old → TakesNext old new group → MergesTo runs (groups ++ group ∷ []) new
 merges_more runs groups old new group merged next = subst (MergesTo runs (groups ++ group ∷ [])) (sym next.1.1) (merged_more runs groups old merged next.0 group next.1.0)
+
+-- where no marked run begins with an entry, none has one left in any image
+pub none_marked : (f : Image) (runs : List MarkedRun) → NoneLeft (map marked_seen runs) → grouped_entries (lefts f (map marked_seen runs)) ≡ []
+none_marked f [] none = refl
+none_marked f (run ∷ runs) none =
+    let left : (marked_seen run).left f ≡ [] = ended ((marked_seen run).left f) (sym ((marked_law run).begins f) ∙ none 0) in
+    ap (λ (es : List Entry). es ++ grouped_entries (lefts f (map marked_seen runs))) left ∙ none_marked f runs (λ i. none (suc i))
+  where
+    ended : (es : List Entry) → slice_get es 0 ≡ None → es ≡ []
+    ended [] e = refl
+    ended (x ∷ es) e = absurd (cc)

@@ -1,5 +1,5 @@
 -- A marked run is a run.
-use Rattle.std.proofs.Common.{◌≡◌, ◌<◌, ◌≤◌, ◌+◌, ◌*◌, ℕ, Bool, true, ltb, List, [], ◌∷◌, map, filter, drop, get_or, length, Option, Some, None, IsSome, refl, sym, ap, ◌∙◌, subst, arith}
+use Rattle.std.proofs.Common.{◌≡◌, ◌<◌, ◌≤◌, ◌+◌, ◌*◌, ℕ, Bool, true, ltb, List, [], ◌∷◌, map, filter, drop, get_or, length, Option, Some, None, IsSome, Result, Ok, Err, OnOk, refl, sym, ap, ◌∙◌, subst, arith}
 use Rattle.std.specs.Option.{option_map}
 use Rattle.std.specs.Ordering.{is_lt}
 use Rattle.std.proofs.lemmas.Bool.{ltb-true, lt-ltb}
@@ -71,3 +71,8 @@ marked_advances v i old new step = record {
 pub some_unmarked : (i : ℕ) (o : Option Entry) → IsSome (option_map (marked i) o) → IsSome o
 some_unmarked i None some = some
 some_unmarked i (Some e) some = some
+
+-- what holds after a call that succeeds, and what follows from it
+pub ok_mapped : {T E A B : Type 0} (r : Result T E) → OnOk r A → (A → B) → OnOk r B
+ok_mapped (Ok x) a f = f a
+ok_mapped (Err e) a f = tt

@@ -17,7 +17,7 @@ use Rattle.strat_promote.proofs.LeadLemmas.{ascends_after, ascends_on, ascends_b
 use Rattle.def_crash.specs.Faults.{ReadsAtMost}
 use Rattle.strat_merge.specs.Runs.{ReadsFront}
 use Rattle.def_recovery.proofs.OpeningLemmas.{map_some, next_some}
-use Rattle.strat_check.specs.Scanned.{IsScanned, IsBehind, first_empty, have_low_versions}
+use Rattle.strat_check.specs.Scanned.{IsScanned, ComesBehind, first_empty, have_low_versions}
 use Rattle.strat_check.specs.declared.scan.Scan.{Scan}
 
 -- entries and others that ascend, joined, ascend where the others come after the last of them
@@ -88,7 +88,7 @@ pub scan_begins : (c : Image) (all left : List ℕ) (n : ℕ) (last : Option Ent
 scan_begins c all left n last same none =
     record { front = []; entries = []; split = sym same; read = nothing_on c; ascends = refl; counted = refl; within = refl; ends = none }
 
-pub scan_goes_on : (c : Image) (all left rest : List ℕ) (b n : ℕ) (last now : Option Entry) (before block after : Scan) → Scanning c all left n last before → left ≡ b ∷ rest → IsBehind c b n last now block
+pub scan_goes_on : (c : Image) (all left rest : List ℕ) (b n : ℕ) (last now : Option Entry) (before block after : Scan) → Scanning c all left n last before → left ≡ b ∷ rest → ComesBehind c b n last now block
     → (after.ascends ≡ (before.ascends && block.ascends)) × (after.is_within ≡ (before.is_within && block.is_within)) → after.entries ≡ before.entries + block.entries
     → Scanning c all rest n now after
 scan_goes_on c all left rest b n last now before block after s next behind both sum =

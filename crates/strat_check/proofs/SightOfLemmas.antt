@@ -16,8 +16,9 @@ use Rattle.def_split.specs.Groups.{grouped_entries, group_versions, AreGroups, o
 use Rattle.def_split.proofs.CountedLemmas.{own_groups}
 use Rattle.def_split.proofs.ListLemmas.{bool_same, filter_both, filter_same, filter_ascending, map_among, distinct_range}
 use Rattle.def_promote.specs.Merging.{Merges}
-use Rattle.def_promote.proofs.UnionLemmas.{ascending_unique}
-use Rattle.strat_promote.proofs.MadeLemmas.{merged_from}
+use Rattle.def_promote.proofs.UnionLemmas.{ascending_unique, found_among}
+use Rattle.def_state.proofs.LevelLemmas.{ascending_single}
+use Rattle.def_promote.proofs.MergingLemmas.{merged}
 use Rattle.def_check.specs.Marked.{marked, unmarked, is_marked_lead, leads_of_marked}
 use Rattle.def_check.specs.Told.{MayBeCounted, AreLeadsOf}
 use Rattle.def_check.specs.Weights.{weight_of, nearest_sum}
@@ -133,7 +134,9 @@ module _ (n : ℕ) (content : List Entry) (up : is_ascending content ≡ true) (
   -- an entry of a group is one of the run, which owns all versions
   owned : (e : Entry) → Among e (grouped_entries groups) → is_owned (replicate n 0) e ≡ is_marked_lead (versions_below n ∷ []) e
   owned e among =
-      let there : Among e (map (marked 0) (entries_below n content) ++ []) = merged_from (map (marked 0) (entries_below n content) ∷ []) groups merges e among in
+      let there : Among e (map (marked 0) (entries_below n content) ++ []) =
+      let union = (merged (map (marked 0) (entries_below n content) ∷ []) groups merges).0 in
+      found_among (grouped_entries groups) (grouped_entries (map (marked 0) (entries_below n content) ∷ [])) union.first (ascending_single (grouped_entries groups) union.ascending) e among in
       let at = map_among (marked 0) (entries_below n content) e (subst (Among e) (append-nil (map (marked 0) (entries_below n content))) there) in
       let x : Entry = at.0 in
       let less = (filter_among (λ (d : Entry). ltb d.version n) content at.0 at.1).1 in

@@ -1,8 +1,11 @@
 -- A run over the entries of an array whose versions are below a number, marked with its place among others.
-use Rattle.std.specs.Prelude.{ℕ, ◌*◌, List, drop, map, option_map}
-use Rattle.std.specs.List.{range_with_len}
+use Rattle.std.specs.Prelude.{◌≡◌, ℕ, ◌*◌, Some, drop, map, option_map}
+use Rattle.strat_base.specs.declared.descriptors.ArrayDesc.{ArrayDesc}
+use Rattle.def_crash.specs.Image.{Image}
+use Rattle.def_crash.specs.Moments.{DiskView, Exposes}
 use Rattle.strat_merge.specs.Runs.{RunView}
 use Rattle.strat_promote.specs.LeadRuns.{leads_from}
+use Rattle.strat_promote.specs.Leads.{misfit_in}
 use Rattle.def_check.specs.Marked.{marked}
 use Rattle.strat_check.specs.declared.marked_run.MarkedRun.{MarkedRun}
 use Rattle.strat_check.specs.Below.{versions_below}
@@ -25,3 +28,8 @@ unmarked_seen r =
 -- what a merge sees of it
 abbrev pub marked_seen : MarkedRun → RunView
 marked_seen r = marked_view r.place (unmarked_seen r)
+
+-- what is bad for a run on the content that a disk exposes is bad in an array
+abbrev pub AreMisfitsOf : DiskView → ArrayDesc → RunView → Type 0
+AreMisfitsOf disk a run =
+    (f : Image) (b : ℕ) → Exposes disk f → run.misfit f ≡ Some b → misfit_in f a ≡ Some b

@@ -27,7 +27,7 @@ first_empty c blocks = find (λ b. is_none (block_on c b)) blocks
 
 -- a block holds entries; it was told whether they come after the last ones before, how many they are, whether their
 -- versions are below a number, and which is the last of them
-pub record IsBehind (c : Image) (b n : ℕ) (before now : Option Entry) (s : Scan) : Type 0 where
+pub record ComesBehind (c : Image) (b n : ℕ) (before now : Option Entry) (s : Scan) : Type 0 where
   pub entries : List Entry
   pub here : block_on c b ≡ Some entries
   pub after : s.ascends ≡ comes_after before entries

@@ -95,7 +95,7 @@ impl MarkedRun {
     ghost use Rattle.def_bytes.specs.Arrays.{blocks_of, entries_on};
     ghost use Rattle.def_check.specs.Marked.{marked};
     ghost use Rattle.strat_promote.specs.Leads.{misfit_in};
-    ghost use Rattle.strat_check.specs.MarkedRuns.{marked_seen, unmarked_seen};
+    ghost use Rattle.strat_check.specs.MarkedRuns.{AreMisfitsOf, marked_seen, unmarked_seen};
 
     /// Begins with the first entry of an array whose version is below a number: reads blocks until there is one. What is
     /// taken here is a block, a key and a copy of the extents. Device: the disk counted a fault. Damaged: this block of
@@ -114,8 +114,8 @@ impl MarkedRun {
             → IsTrue (is_ascending c) → (marked_seen run).left f
             ≡ map (marked place) (filter (λ e. nat_lt e.version versions) c)) }
         ensures found { IfOk result (λ run. (marked_seen run).versions ≡ 16384 * versions) }
-        ensures kept { IfOk result (λ run. (f : Image) (b : ℕ) → Exposes (D.view disk.old) f
-            → (marked_seen run).misfit f ≡ Some b → misfit_in f desc.now ≡ Some b) }
+        ensures kept { IfOk result (λ run. AreMisfitsOf (D.view disk.old) desc.now
+            (marked_seen run)) }
         ensures damaged { (b : ℕ) → IsErrOf result (trouble.Damaged b)
             → Contains (blocks_of desc.now.extents) b
             × ((f : Image) → Exposes (D.view disk.old) f → misfit_in f desc.now ≡ Some b) }

@@ -11,7 +11,7 @@ ghost use Rattle.def_crash.specs.Image.{Image};
 ghost use Rattle.def_crash.specs.Moments.{Exposes, OnlyReads};
 ghost use Rattle.def_bytes.specs.Arrays.{block_on, blocks_of};
 ghost use Rattle.strat_promote.specs.LeadRuns.{entries_at_hand};
-ghost use Rattle.strat_check.specs.Scanned.{IsScanned, IsBehind, first_empty, have_low_versions};
+ghost use Rattle.strat_check.specs.Scanned.{IsScanned, ComesBehind, first_empty, have_low_versions};
 
 use std::alloc::Global;
 use strat_array::{BlockNumbers, Scratch};
@@ -70,7 +70,7 @@ fn read_behind<D: Disk>(
 ) -> Result<Scan, Fault>
     requires fits { block < 2 ^ 32 - 1 }
     ensures ok { IfOk result (λ s. (f : Image) → Exposes (D.view disk.old) f
-        → IsBehind f block versions last.old last.new s) }
+        → ComesBehind f block versions last.old last.new s) }
     ensures len { IfOk result (λ s. s.entries ≤ 454) }
     ensures damaged { (b : ℕ) → IsErrOf result (fault.Damaged b) → (b ≡ block)
         × ((f : Image) → Exposes (D.view disk.old) f → block_on f block ≡ None) }

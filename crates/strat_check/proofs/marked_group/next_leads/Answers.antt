@@ -4,17 +4,15 @@ use Rattle.strat_arena.specs.declared.items.Item.{Item}
 use Rattle.strat_base.specs.Order.{descends}
 use Rattle.strat_merge.specs.MergerFields.{views_of}
 use Rattle.strat_merge.specs.Runs.{lefts}
-use Rattle.strat_promote.proofs.PassLemmas.{none_left}
 use Rattle.strat_check.specs.MarkedGroups.{leads_among}
-use Rattle.strat_check.specs.MarkedLaw.{marked_law}
 use Rattle.strat_check.specs.MarkedRuns.{marked_seen}
-use Rattle.strat_check.proofs.MarkedGroupLemmas.{leads_descend, leads_low, owned_items, merges_more}
+use Rattle.strat_check.proofs.MarkedGroupLemmas.{leads_descend, leads_low, owned_items, merges_more, none_marked}
 use Rattle.strat_check.proofs.marked_group.next_leads.Goals as goal
 
 pub returns-then-not-branch-clause-none : goal.returns-then-not-branch-clause-none
 returns-then-not-branch-clause-none g c = λ _ f runs groups merged.
     let none = c.in_ok-next_group.ensures.none c.if-not-branch.true in
-    (lefts f (views_of marked_seen c.args.merging.now.merger), merged, none_left marked_seen marked_law f c.args.merging.now.merger.runs.items none.0)
+    (lefts f (views_of marked_seen c.args.merging.now.merger), merged, none_marked f c.args.merging.now.merger.runs.items none.0)
 
 pub returns-clause-kept : goal.returns-clause-kept
 returns-clause-kept g c =

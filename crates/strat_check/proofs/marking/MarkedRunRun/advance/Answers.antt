@@ -1,10 +1,9 @@
 use Rattle.std.proofs.Common.{drop, sym, ◌∙◌}
 use Rattle.std.specs.List.{slice_get}
-use Rattle.strat_merge.proofs.PassLemmas.{on_ok_map}
 use Rattle.strat_promote.specs.LeadRuns.{leads_from}
 use Rattle.strat_promote.proofs.LeadRunLemmas.{advanced, bad_before, seen_misfit, lead_run_is}
 use Rattle.strat_check.specs.Below.{versions_below}
-use Rattle.strat_check.proofs.MarkedSteps.{marked_advances, some_unmarked}
+use Rattle.strat_check.proofs.MarkedSteps.{marked_advances, ok_mapped, some_unmarked}
 use Rattle.strat_check.proofs.marking.MarkedRunRun.advance.Goals as goal
 
 pub invariant_of-self-clause-law : goal.invariant_of-self-clause-law
@@ -13,7 +12,7 @@ invariant_of-self-clause-law g c = lead_run_is _ _ _ _ c.reach_below.ensures.sta
 pub returns-clause-ok : goal.returns-clause-ok
 returns-clause-ok g c =
     let r = c.args.self.now in
-    on_ok_map c.reach_below.result c.reach_below.ensures.ok (λ passes.
+    ok_mapped c.reach_below.result c.reach_below.ensures.ok (λ passes.
     marked_advances (g.D.Disk.view c.args.disk.now) r.place (leads_from (versions_below r.versions) r.versions (drop r.at r.blocks.entries) r.blocks.blocks)
     (leads_from (versions_below r.versions) r.versions (drop c.reach_below.new.at c.reach_below.new.blocks.entries) c.reach_below.new.blocks.blocks)
     (advanced (g.D.Disk.view c.args.disk.now) (versions_below r.versions) r.versions r.blocks c.reach_below.new.blocks r.at c.reach_below.new.at
