@@ -1,5 +1,12 @@
-pub mod GrowthLemmas
+pub mod ArrayCountLemmas
 pub mod BareLemmas
+pub mod CountedArrayLemmas
+pub mod GroupingLemmas
+pub mod GrowthLemmas
 pub mod HideLemmas
-pub mod WeighLemmas
+pub mod MarkedGroupLemmas
+pub mod MarkedSteps
+pub mod ScanLemmas
 pub mod SightLemmas
+pub mod SightOfLemmas
+pub mod WeighLemmas

@@ -1,4 +1,10 @@
-pub mod Sightings
-pub mod SightFields
+pub mod ArrayCounts
 pub mod Bares
+pub mod Below
+pub mod MarkedGroups
+pub mod MarkedLaw
+pub mod MarkedRuns
+pub mod Scanned
+pub mod SightFields
+pub mod Sightings
 pub mod Sums
