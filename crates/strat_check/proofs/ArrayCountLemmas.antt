@@ -5,6 +5,7 @@ use Rattle.std.specs.Option.{option_map}
 use Rattle.std.specs.Prelude.{sum_by}
 use Rattle.std.proofs.lemmas.Bool.{and_parts, leb-true}
 use Rattle.std.proofs.lemmas.List.{length-map, map-append}
+use Rattle.std.proofs.lemmas.List.Concat.{flat_map-append}
 use Rattle.std.proofs.lemmas.List.Filters.{length-filter_both}
 use Rattle.std.proofs.lemmas.List.Sums.{sum_by-cons}
 use Rattle.std.proofs.lemmas.Result.{err_from_is_err_and}
@@ -110,6 +111,28 @@ module _ {R : Type 0} (view : R → RunView) where
         fewer = reads.fewer;
         left = reads.left;
       }
+
+-- so many groups were taken of runs, and each of them has an entry
+pub record AreTaken (runs left : List (List Entry)) (count : ℕ) : Type 0 where
+  pub groups : List (List Entry)
+  pub merged : MergesTo runs groups left
+  pub many : count ≤ length (grouped_entries groups)
+
+pub none_taken : (runs left : List (List Entry)) → left ≡ runs → AreTaken runs left 0
+none_taken runs left same = record { groups = []; merged = same; many = omega arith }
+
+pub one_taken : (runs old new : List (List Entry)) (count : ℕ) (group : List Entry) → 0 < length group → ((groups : List (List Entry)) → MergesTo runs groups old → MergesTo runs (groups ++ group ∷ []) new)
+    → AreTaken runs old count → AreTaken runs new (count + 1)
+one_taken runs old new count group some takes are =
+    let all = ap (λ (es : List Entry). length es) (flat_map-append (λ (g : List Entry). g) are.groups (group ∷ [])) in
+    let both = length-append (grouped_entries are.groups) (grouped_entries (group ∷ [])) in
+    let one = length-append group [] in
+    let many = are.many in
+    record { groups = are.groups ++ group ∷ []; merged = takes are.groups are.merged; many = omega (arith, all, both, one, some, many) }
+
+-- no more groups were taken than runs have entries
+pub few_taken : (runs left : List (List Entry)) (count : ℕ) → AreTaken runs left count → count ≤ length (grouped_entries runs)
+few_taken runs left count are = let most = merged_fewer runs are.groups left are.merged in let many = are.many in omega (arith, most, many)
 
 -- Groups whose leads are counted.
 module _ (parents : Parents) (owners : List ℕ) where

@@ -110,3 +110,8 @@ none_marked f (run ∷ runs) none =
     ended : (es : List Entry) → slice_get es 0 ≡ None → es ≡ []
     ended [] e = refl
     ended (x ∷ es) e = absurd (cc)
+
+-- items that are some have some entries
+pub entries_some : (pairs : List KeyValue) (items : List Item) → 0 < length items → 0 < length (entries_of pairs items)
+entries_some pairs [] some = some
+entries_some pairs (item ∷ items) some = omega arith
