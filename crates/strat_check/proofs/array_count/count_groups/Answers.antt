@@ -1,5 +1,4 @@
-use Rattle.std.proofs.Common.{◌≡◌, ℕ, List, ap, sym, refl, ◌∙◌, subst, arith}
-use Rattle.strat_base.specs.Order.{descends}
+use Rattle.std.proofs.Common.{refl, ◌∙◌, arith}
 use Rattle.strat_arena.specs.Items.{entries_of}
 use Rattle.strat_merge.specs.MergerFields.{views_of, runs_merged}
 use Rattle.strat_merge.specs.Runs.{lefts}
