@@ -1,20 +1,19 @@
 -- An array that is counted by itself.
-use Rattle.std.proofs.Common.{◌≡◌, ◌<◌, ◌≤◌, ◌+◌, ◌*◌, ◌/◌, ◌^◌, ℕ, zero, suc, true, Bool, ltb, leb, not, ◌&&◌, List, [], ◌∷◌, ◌++◌, length, map, filter, Option, Some, Result, Ok, Err, IsErrAnd, refl, sym, ap, ◌∙◌, subst, arith, append-nil, length-append}
-use Rattle.std.specs.List.{Contains, slice_get, flat_map, list_all}
+use Rattle.std.proofs.Common.{◌≡◌, ◌<◌, ◌≤◌, ◌+◌, ◌*◌, ◌/◌, ◌^◌, ℕ, zero, suc, true, ltb, leb, not, ◌&&◌, List, [], ◌∷◌, ◌++◌, length, map, filter, Some, Result, Ok, Err, IsErrAnd, refl, sym, ap, ◌∙◌, subst, arith, length-append}
+use Rattle.std.specs.List.{slice_get, flat_map, list_all}
 use Rattle.std.specs.Option.{option_map}
-use Rattle.std.specs.Prelude.{sum_by}
 use Rattle.std.proofs.lemmas.Bool.{and_parts, leb-true}
 use Rattle.std.proofs.lemmas.List.{length-map, map-append}
+use Rattle.std.proofs.lemmas.List.Concat.{flat_map-append}
 use Rattle.std.proofs.lemmas.List.Filters.{length-filter_both}
 use Rattle.std.proofs.lemmas.List.Sums.{sum_by-cons}
 use Rattle.std.proofs.lemmas.Result.{err_from_is_err_and}
 use Rattle.strat_base.specs.Entries.{Entry, is_ascending}
 use Rattle.strat_base.specs.EntryBytes.{entry_bytes, fits_fields}
 use Rattle.strat_base.specs.Numbers.{be}
-use Rattle.strat_base.specs.Tree.{Parents, IsTree}
+use Rattle.strat_base.specs.Tree.{Parents}
 use Rattle.strat_base.specs.declared.failures.Trouble.{Trouble}
 use Rattle.strat_base.specs.declared.failures.Trouble.TheVariants.{Damaged, Device, NoMemory}
-use Rattle.strat_base.proofs.NumberLemmas.{length-be}
 use Rattle.def_bytes.specs.Arrays.{block_on, entries_on}
 use Rattle.def_bytes.specs.Block.{block_front, offsets, fits_block}
 use Rattle.def_bytes.proofs.BlockLemmas.{block_in-some, length-offsets}
@@ -26,14 +25,12 @@ use Rattle.def_promote.specs.Merging.{MergesTo, Merges}
 use Rattle.def_recovery.proofs.OpeningLemmas.{map_some, next_some}
 use Rattle.def_split.specs.Groups.{grouped_entries}
 use Rattle.strat_merge.specs.Reading.{ReadsRuns}
-use Rattle.strat_merge.specs.Runs.{RunView, lefts, blocks_left, IsBadFor}
+use Rattle.strat_merge.specs.Runs.{RunView, IsBadFor}
 use Rattle.strat_promote.proofs.BoundLemmas.{merged_fewer}
 use Rattle.def_check.specs.Marked.{marked}
-use Rattle.strat_check.specs.ArrayCounts.{AreSightsOf, ReadsArray}
+use Rattle.strat_check.specs.ArrayCounts.{AreSightsOf}
 use Rattle.strat_check.specs.MarkedGroups.{is_owned, owned_versions}
-use Rattle.strat_check.specs.MarkedRuns.{marked_seen}
 use Rattle.strat_check.specs.Sightings.{Sightings, IsSighting, IsSighted, versions_added}
-use Rattle.strat_check.specs.declared.marked_run.MarkedRun.{MarkedRun}
 
 -- Reads that follow one another.
 module _ {R : Type 0} (view : R → RunView) where
@@ -110,6 +107,28 @@ module _ {R : Type 0} (view : R → RunView) where
         fewer = reads.fewer;
         left = reads.left;
       }
+
+-- so many groups were taken of runs, and each of them has an entry
+pub record AreTaken (runs left : List (List Entry)) (count : ℕ) : Type 0 where
+  pub groups : List (List Entry)
+  pub merged : MergesTo runs groups left
+  pub many : count ≤ length (grouped_entries groups)
+
+pub none_taken : (runs left : List (List Entry)) → left ≡ runs → AreTaken runs left 0
+none_taken runs left same = record { groups = []; merged = same; many = omega arith }
+
+pub one_taken : (runs old new : List (List Entry)) (count : ℕ) (group : List Entry) → 0 < length group → ((groups : List (List Entry)) → MergesTo runs groups old → MergesTo runs (groups ++ group ∷ []) new)
+    → AreTaken runs old count → AreTaken runs new (count + 1)
+one_taken runs old new count group some takes are =
+    let all = ap (λ (es : List Entry). length es) (flat_map-append (λ (g : List Entry). g) are.groups (group ∷ [])) in
+    let both = length-append (grouped_entries are.groups) (grouped_entries (group ∷ [])) in
+    let one = length-append group [] in
+    let many = are.many in
+    record { groups = are.groups ++ group ∷ []; merged = takes are.groups are.merged; many = omega (arith, all, both, one, some, many) }
+
+-- no more groups were taken than runs have entries
+pub few_taken : (runs left : List (List Entry)) (count : ℕ) → AreTaken runs left count → count ≤ length (grouped_entries runs)
+few_taken runs left count are = let most = merged_fewer runs are.groups left are.merged in let many = are.many in omega (arith, most, many)
 
 -- Groups whose leads are counted.
 module _ (parents : Parents) (owners : List ℕ) where

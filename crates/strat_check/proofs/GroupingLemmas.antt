@@ -1,5 +1,5 @@
 -- Entries that ascend, key by key.
-use Rattle.std.proofs.Common.{◌≡◌, ℕ, Bool, true, false, cond, not, ◌&&◌, inl, inr, List, [], ◌∷◌, ◌++◌, refl, sym, ap, ◌∙◌, subst, true≢false}
+use Rattle.std.proofs.Common.{◌≡◌, ℕ, Bool, true, false, cond, not, inl, inr, List, [], ◌∷◌, ◌++◌, refl, sym, ap, ◌∙◌, subst, true≢false}
 use Rattle.std.specs.List.{list_all, list_any}
 use Rattle.std.specs.Ordering.{nat_cmp, ordering_then, ordering_reverse}
 use Rattle.std.specs.declared.cmp.Ordering.{Ordering}
@@ -8,7 +8,7 @@ use Rattle.std.proofs.lemmas.Bool.{and_parts, and_from, not_from_false, false_fr
 use Rattle.std.proofs.lemmas.Cmp.{nat_list_cmp_total}
 use Rattle.strat_base.specs.Order.{key_cmp}
 use Rattle.strat_base.specs.Entries.{Entry, is_of, is_ascending}
-use Rattle.strat_base.proofs.ListFacts.{Among, any_among, all_at}
+use Rattle.strat_base.proofs.ListFacts.{Among, any_among}
 use Rattle.strat_base.proofs.EntryLemmas.{is_of_key, same_bytes}
 use Rattle.def_state.proofs.MapLemmas.{same_key}
 use Rattle.def_state.proofs.SettingLemmas.{order, stands_first, first_of}
@@ -76,9 +76,6 @@ built_more e ((d ∷ group) ∷ groups) entries built first up = go (is_of e.key
   where
     keyed : (has_one_key (d ∷ group) ≡ true) × (list_all has_one_key groups ≡ true)
     keyed = and_parts (has_one_key (d ∷ group)) (list_all has_one_key groups) built.keyed
-
-    is_apart : Entry → Bool
-    is_apart x = not (list_any (is_of x.key) (grouped_entries groups))
 
     apart : (list_all (λ (x : Entry). not (list_any (is_of x.key) (grouped_entries groups))) (d ∷ group) ≡ true) × (are_keyed_apart groups ≡ true)
     apart = and_parts (list_all (λ (x : Entry). not (list_any (is_of x.key) (grouped_entries groups))) (d ∷ group)) (are_keyed_apart groups) built.apart

@@ -1,12 +1,10 @@
 -- The next group of marked runs that are merged.
-use Rattle.std.proofs.Common.{◌≡◌, ◌<◌, ◌≤◌, ◌+◌, ◌*◌, ◌/◌, ◌%◌, ℕ, zero, suc, Bool, true, false, cond, eqb, ltb, inl, inr, List, [], ◌∷◌, ◌++◌, length, map, filter, take, get_or, None, refl, sym, ap, ◌∙◌, subst, arith}
+use Rattle.std.proofs.Common.{◌≡◌, ◌<◌, ◌≤◌, ◌*◌, ◌/◌, ◌%◌, ℕ, suc, Bool, true, false, cond, ltb, inl, inr, List, [], ◌∷◌, ◌++◌, length, map, filter, get_or, None, refl, sym, ap, ◌∙◌, subst, arith}
 use Rattle.std.specs.List.{list_all, slice_get}
 use Rattle.std.proofs.lemmas.Bool.{and_parts, and_from, eqb-true, ltb-true, lt-ltb, cases_lt}
-use Rattle.std.proofs.lemmas.List.{map-append, take_more}
-use Rattle.std.proofs.lemmas.List.Elements.{filter-append}
 use Rattle.strat_base.specs.Entries.{Entry}
 use Rattle.strat_base.specs.Order.{descends}
-use Rattle.strat_base.proofs.ListFacts.{Among, all_at, all_from, filter_among}
+use Rattle.strat_base.proofs.ListFacts.{all_at, all_from, filter_among}
 use Rattle.def_crash.specs.Image.{Image}
 use Rattle.def_split.specs.Groups.{grouped_entries}
 use Rattle.def_promote.specs.Merging.{MergesTo}
@@ -23,25 +21,6 @@ use Rattle.strat_check.specs.MarkedLaw.{marked_law}
 use Rattle.strat_check.specs.MarkedRuns.{marked_seen}
 use Rattle.strat_check.specs.declared.marked_run.MarkedRun.{MarkedRun}
 use Rattle.strat_check.specs.MarkedGroups.{is_owner_of, is_owned, owned_versions, leads_among}
-
--- one more item was looked at
-pub lead_more : (owners : List ℕ) (items : List Item) (i : ℕ) (d : Item) → i < length items
-    → leads_among owners (take (i + 1) items) ≡ leads_among owners (take i items) ++ leads_among owners (get_or items i d ∷ [])
-lead_more owners items i d lt =
-    ap (leads_among owners) (take_more items i d lt)
-    ∙ ap (λ (xs : List Item). map (λ item. item.version / 16384) xs) (filter-append (λ (item : Item). is_owner_of owners item.version) (take i items) (get_or items i d ∷ []))
-    ∙ map-append (λ (item : Item). item.version / 16384) (filter (λ (item : Item). is_owner_of owners item.version) (take i items)) (filter (λ (item : Item). is_owner_of owners item.version) (get_or items i d ∷ []))
-
--- the version of an item is below n
-pub item_low : (n : ℕ) (items : List Item) (i : ℕ) (d : Item) → are_below (16384 * n) items ≡ true → i < length items → (get_or items i d).version / 16384 < n
-item_low n items i d below lt =
-    let low = ltb-true (get_or items i d).version (16384 * n) (all_at (λ (x : Item). ltb x.version (16384 * n)) (get_or items i d) items below (there items i lt)) in
-    omega (arith, low)
-  where
-    there : (items : List Item) (i : ℕ) → i < length items → Among (get_or items i d) items
-    there [] i lt = absurd (omega arith)
-    there (x ∷ items) zero lt = inl refl
-    there (x ∷ items) (suc i) lt = inr (there items i (omega arith))
 
 -- of the items that are of the runs that own them, no two have one version
 pub leads_descend : (owners : List ℕ) (items : List Item) → is_descending items ≡ true → descends (leads_among owners items) ≡ true
@@ -110,3 +89,8 @@ none_marked f (run ∷ runs) none =
     ended : (es : List Entry) → slice_get es 0 ≡ None → es ≡ []
     ended [] e = refl
     ended (x ∷ es) e = absurd (cc)
+
+-- items that are some have some entries
+pub entries_some : (pairs : List KeyValue) (items : List Item) → 0 < length items → 0 < length (entries_of pairs items)
+entries_some pairs [] some = some
+entries_some pairs (item ∷ items) some = omega arith

@@ -1,5 +1,5 @@
 -- What is counted of an array's entries of versions below their number is what is counted of all of them.
-use Rattle.std.proofs.Common.{◌≡◌, ◌<◌, ◌≤◌, ◌+◌, ◌*◌, ◌/◌, ◌%◌, ◌&&◌, not, ℕ, Bool, true, false, cond, eqb, ltb, List, [], ◌∷◌, ◌++◌, length, map, filter, get_or, replicate, sum_by, refl, sym, ap, ◌∙◌, subst, arith, append-nil}
+use Rattle.std.proofs.Common.{◌≡◌, ◌<◌, ◌/◌, ◌%◌, ◌&&◌, not, ℕ, Bool, true, eqb, ltb, List, [], ◌∷◌, ◌++◌, length, map, filter, get_or, replicate, sum_by, refl, sym, ap, ◌∙◌, subst, arith, append-nil}
 use Rattle.std.specs.List.{list_all, list_any}
 use Rattle.std.proofs.lemmas.Bool.{and_parts, and_from, eqb-true, ltb-true, lt-ltb}
 use Rattle.std.proofs.lemmas.List.{get_or-replicate}
@@ -10,7 +10,7 @@ use Rattle.strat_base.proofs.EntryLemmas.{held_among, among_held}
 use Rattle.strat_base.proofs.ListFacts.{Among, any_among, any_from, all_from, among_left, among_right, among_filter, filter_among, range_among}
 use Rattle.strat_base.proofs.TreeLemmas.{path_le, ancestor_among}
 use Rattle.def_state.specs.Counted.{own_at, keys_at}
-use Rattle.def_state.specs.Level.{TaggedArray, Level, level_leads, tagged_versions, is_distinct}
+use Rattle.def_state.specs.Level.{TaggedArray, Level, level_leads, is_distinct}
 use Rattle.def_state.specs.Live.{is_hidden_by, is_live, live}
 use Rattle.def_split.specs.Groups.{grouped_entries, group_versions, AreGroups, own_of}
 use Rattle.def_split.proofs.CountedLemmas.{own_groups}
@@ -26,7 +26,7 @@ use Rattle.def_check.proofs.MarkedLeads.{kept_leads}
 use Rattle.def_check.proofs.WeightLemmas.{groups_weigh, versions_weigh, versions_count}
 use Rattle.strat_check.specs.ArrayCounts.{IsSightOf}
 use Rattle.strat_check.specs.Below.{versions_below}
-use Rattle.strat_check.specs.MarkedGroups.{is_owner_of, is_owned, owned_versions}
+use Rattle.strat_check.specs.MarkedGroups.{is_owned, owned_versions}
 use Rattle.strat_check.specs.Sightings.{Sightings, IsSighted}
 use Rattle.strat_check.proofs.GroupingLemmas.{key_groups, groups_of}
 use Rattle.strat_check.proofs.MarkedSteps.{tagged_below, leads_below}

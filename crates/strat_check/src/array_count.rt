@@ -1,6 +1,6 @@
 //! What each version sees of an array, counted by itself.
 
-ghost use Rattle.std.specs.Prelude.{◌≡◌, ◌≤◌, ◌*◌, ◌^◌, ℕ, nat_lt, List, [], ◌∷◌, length, map, filter, replicate, Some, IfOk, OnOk, OnErr, IsErrOf, IsTrue};
+ghost use Rattle.std.specs.Prelude.{◌≡◌, ◌<◌, ◌≤◌, ◌*◌, ◌^◌, ℕ, nat_lt, false, List, [], ◌∷◌, length, map, filter, replicate, Some, IfOk, OnOk, OnErr, IsErrOf, IsTrue};
 ghost use Rattle.strat_array.specs.Within.{AreWithin};
 ghost use Rattle.strat_base.specs.Entries.{Entry, is_ascending};
 ghost use Rattle.strat_base.specs.declared.failures.Trouble.TheVariants.{Damaged, Device};
@@ -78,21 +78,24 @@ fn open_alone<D: Disk>(
 }
 
 /// Adds the leads of all groups that runs have left to sights of none, and sums up what each version sees. A table has for
-/// each version the place of the run that owns it.
+/// each version the place of the run that owns it. `false` where there are more keys than a disk has entries.
 fn count_groups<D: Disk>(
     merging: &mut Merging,
     owners: &[u32],
     sights: &mut Sights,
     tree: &Tree,
     disk: &mut D,
-) -> Result<(), Trouble>
+) -> Result<bool, Trouble>
     requires kept { IsMerging (length owners.now) merging.old }
     requires len { (length owners.now ≡ length tree.now.parents)
         × (length sights.old.own ≡ length tree.now.parents) }
-    ensures ok { OnOk result ((f : Image) (runs : List (List Entry)) → Exposes (D.view disk.old) f
-        → lefts f (views_of marked_seen merging.old.merger) ≡ runs
+    ensures ok { IfOk result (λ all. IsTrue all → (f : Image) (runs : List (List Entry))
+        → Exposes (D.view disk.old) f → lefts f (views_of marked_seen merging.old.merger) ≡ runs
         → length (grouped_entries runs) ≤ 2 ^ 48 → IsSighting tree.now.parents [] sights.old
         → AreSightsOf tree.now.parents owners.now runs sights.new) }
+    ensures none { IfOk result (λ all. all ≡ false → (f : Image) (runs : List (List Entry))
+        → Exposes (D.view disk.old) f → lefts f (views_of marked_seen merging.old.merger) ≡ runs
+        → 2 ^ 48 < length (grouped_entries runs)) }
     ensures len { length sights.new.own ≡ length sights.old.own }
     ensures reads { ReadsRuns marked_seen Device Damaged (D.view disk.old) (D.view disk.new)
         (D.faults disk.old) (D.faults disk.new) (D.reads disk.old) (D.reads disk.new)
@@ -101,12 +104,11 @@ fn count_groups<D: Disk>(
     for _ in 0..u64::MAX {
         if !next_leads(merging, owners, disk)? {
             sights.finish(tree);
-            return Ok(());
+            return Ok(true);
         }
         sights.add(&merging.versions, tree);
     }
-    // The blocks of arrays have fewer than 2^44 keys, so this is never reached.
-    Err(Trouble::NoMemory)
+    Ok(false)
 }
 
 /// Counts what each version sees of an array, all of whose entries ascend: each block is read once. Takes memory for a
@@ -136,5 +138,9 @@ pub fn count_array<D: Disk>(
     let versions = tree.count();
     let owners = first_owns(alloc, versions)?;
     let mut merging = open_alone(alloc, desc, versions, disk)?;
-    count_groups(&mut merging, &owners, sights, tree, disk)
+    if count_groups(&mut merging, &owners, sights, tree, disk)? {
+        return Ok(());
+    }
+    // The blocks of an array have fewer entries, so this is not reached.
+    Err(Trouble::NoMemory)
 }

@@ -1,4 +1,4 @@
-use Rattle.std.proofs.Common.{List, ℕ, sym, ap, ◌∙◌, subst}
+use Rattle.std.proofs.Common.{sym, ap, ◌∙◌, subst}
 use Rattle.std.specs.List.{Contains}
 use Rattle.strat_promote.specs.LeadRuns.{BlockReading, misfit_from}
 use Rattle.strat_promote.proofs.LeadRunLemmas.{seen_misfit, damage_told, lead_run_is}
