@@ -1,7 +1,7 @@
 //! What versions see of a level's leads, and which of its arrays have strays.
 
 ghost use Rattle.std.specs.List.{Contains, list_all};
-ghost use Rattle.std.specs.Prelude.{◌≡◌, ◌≤◌, ◌^◌, ℕ, nat_lt, false, List, Some, length, map, sum_by, IfOk, OnOk, IsErrOf, IsTrue};
+ghost use Rattle.std.specs.Prelude.{◌≡◌, ◌<◌, ◌≤◌, ◌^◌, ℕ, nat_lt, false, List, [], ◌∷◌, ◌++◌, Some, length, map, sum_by, IfOk, OnOk, IsErrOf, IsTrue};
 ghost use Rattle.strat_array.specs.Within.{AreWithin};
 ghost use Rattle.strat_base.specs.Entries.{Entry};
 ghost use Rattle.strat_base.specs.declared.descriptors.ArrayDesc.{ArrayDesc as Desc};
@@ -9,7 +9,9 @@ ghost use Rattle.strat_base.specs.declared.failures.Trouble.TheVariants.{Damaged
 ghost use Rattle.def_crash.specs.Faults.{HasCause, ReadsAtMost};
 ghost use Rattle.def_crash.specs.Image.{Image};
 ghost use Rattle.def_crash.specs.Moments.{Exposes, OnlyReads};
+ghost use Rattle.def_promote.specs.Merging.{MergesTo};
 ghost use Rattle.def_recovery.specs.Opened.{level_on};
+ghost use Rattle.def_split.specs.Groups.{grouped_entries};
 ghost use Rattle.def_state.specs.Level.{Level};
 ghost use Rattle.def_check.specs.Told.{MayBeCounted};
 ghost use Rattle.strat_merge.specs.MergerFields.{runs_merged, views_of};
@@ -67,6 +69,11 @@ fn count_group<D: Disk>(
         (lefts f (views_of marked_seen pass.old.merging.merger)) pass.old.found.items sights.old
         → IsCountingLevel tree.now.parents (map (λ a. a.versions) arrays.now) runs
         (lefts f (views_of marked_seen pass.new.merging.merger)) pass.new.found.items sights.new) }
+    ensures state { IfOk result (λ more. IsTrue more → (group : List Entry) × (0 < length group)
+        × ((f : Image) (runs groups : List (List Entry)) → Exposes (D.view disk.old) f
+        → MergesTo runs groups (lefts f (views_of marked_seen pass.old.merging.merger))
+        → MergesTo runs (groups ++ group ∷ [])
+        (lefts f (views_of marked_seen pass.new.merging.merger)))) }
     ensures none { IfOk result (λ more. more ≡ false → (f : Image) (runs : List (List Entry))
         → Exposes (D.view disk.old) f
         → IsCountingLevel tree.now.parents (map (λ a. a.versions) arrays.now) runs
@@ -92,7 +99,7 @@ fn count_group<D: Disk>(
     Ok(true)
 }
 
-/// Takes all groups.
+/// Takes all groups. `false` where there are more keys than a disk has entries.
 fn count_groups<D: Disk>(
     alloc: Global,
     pass: &mut LevelPass,
@@ -100,7 +107,7 @@ fn count_groups<D: Disk>(
     tree: &Tree,
     sights: &mut Sights,
     disk: &mut D,
-) -> Result<(), Trouble>
+) -> Result<bool, Trouble>
     requires kept { IsLevelPass (length tree.now.parents) (length arrays.now) pass.old }
     requires fits { (a : Desc) → Contains arrays.now a
         → IsTrue (list_all (λ v. nat_lt v (length tree.now.parents)) a.versions) }
@@ -108,25 +115,29 @@ fn count_groups<D: Disk>(
     ensures kept { OnOk result
         (IsLevelPass (length tree.now.parents) (length arrays.now) pass.new) }
     ensures len { length sights.new.own ≡ length sights.old.own }
-    ensures ok { OnOk result ((f : Image) (runs : List (List Entry)) → Exposes (D.view disk.old) f
+    ensures ok { IfOk result (λ all. IsTrue all → (f : Image) (runs : List (List Entry))
+        → Exposes (D.view disk.old) f
         → AreOwners (map (λ a. a.versions) arrays.now) pass.old.owners.items
         → IsCountingLevel tree.now.parents (map (λ a. a.versions) arrays.now) runs
         (lefts f (views_of marked_seen pass.old.merging.merger)) pass.old.found.items sights.old
         → IsLevelCounted tree.now.parents (map (λ a. a.versions) arrays.now) runs
         pass.new.found.items sights.new) }
+    ensures none { IfOk result (λ all. all ≡ false → (f : Image) (runs : List (List Entry))
+        → Exposes (D.view disk.old) f
+        → lefts f (views_of marked_seen pass.old.merging.merger) ≡ runs
+        → 2 ^ 48 < length (grouped_entries runs)) }
     ensures reads { ReadsRuns marked_seen Device Damaged (D.view disk.old) (D.view disk.new)
         (D.faults disk.old) (D.faults disk.new) (D.reads disk.old) (D.reads disk.new)
         (runs_merged pass.old.merging.merger) (runs_merged pass.new.merging.merger) result }
 {
-    // No array has as many entries.
     for _ in 0..u64::MAX {
         match count_group(alloc, pass, arrays, tree, sights, disk) {
             Ok(true) => {}
-            Ok(false) => return Ok(()),
+            Ok(false) => return Ok(true),
             Err(trouble) => return Err(trouble),
         }
     }
-    Err(Trouble::NoMemory)
+    Ok(false)
 }
 
 /// Goes through the arrays of a level key by key: afterwards the sights are those of its leads, and the answer is what was
@@ -173,7 +184,9 @@ pub fn count_level<D: Disk>(
         owners,
         found,
     };
-    count_groups(alloc, &mut pass, arrays, tree, sights, disk)?;
+    if !count_groups(alloc, &mut pass, arrays, tree, sights, disk)? {
+        return Err(Trouble::NoMemory);
+    }
     sights.finish(tree);
     Ok(pass.found)
 }

@@ -11,6 +11,7 @@ use Rattle.strat_check.specs.MarkedRuns.{marked_seen}
 use Rattle.strat_check.specs.Strays.{AreNoted}
 use Rattle.strat_check.specs.declared.strays.Strays.{Strays}
 use Rattle.strat_check.proofs.LevelPassLemmas.{counted_more}
+use Rattle.strat_check.proofs.MarkedGroupLemmas.{entries_some}
 use Rattle.strat_check.proofs.OwnerLemmas.{put_back}
 use Rattle.strat_check.proofs.level_count.count_group.Goals as goal
 
@@ -42,3 +43,9 @@ returns-clause-ok g c = λ _ f runs told own counting.
           (counted_more tree tags owners own pairs items low counting.groups found c.note_group.new.found c.args.sights.now c.add.new.self c.deref-2.result.now counting.counted noted
           (c.deref-2.ensures.value ∙ next.state more ∙ ap (λ (xs : List ℕ). owned_versions xs (entries_of pairs items)) c.deref.ensures.value) c.add.ensures.ok);
     }
+
+pub returns-clause-state : goal.returns-clause-state
+returns-clause-state g c = λ _.
+    let next = c.in_ok-next_leads.ensures in
+    let more = c.if-not-branch.false in
+    (entries_of c.next_leads.new.merging.arena.pairs c.next_leads.new.merging.group, entries_some _ _ (next.found more).1.some, λ f runs groups told merged. next.ok more f runs groups told merged)

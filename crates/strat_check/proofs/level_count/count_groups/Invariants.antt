@@ -8,7 +8,7 @@ use Rattle.strat_merge.specs.Runs.{lefts}
 use Rattle.strat_check.specs.LevelPasses.{IsLevelPass, IsCountingLevel}
 use Rattle.strat_check.specs.MarkedRuns.{marked_seen}
 use Rattle.strat_check.specs.Owners.{AreOwners}
-use Rattle.strat_check.proofs.ArrayCountLemmas.{HaveRead}
+use Rattle.strat_check.proofs.ArrayCountLemmas.{HaveRead, AreTaken}
 use Rattle.strat_check.proofs.level_count.count_groups.Given as goal
 
 abbrev pub invariant-loop : goal.invariant-loop
@@ -19,6 +19,8 @@ invariant-loop g l =
       len : length l.sights.own ≡ length l.initial.sights.own;
       reads : HaveRead marked_seen (g.D.Disk.view l.initial.disk) (g.D.Disk.view l.disk) (g.D.Disk.faults l.initial.disk) (g.D.Disk.faults l.disk)
           (g.D.Disk.reads l.initial.disk) (g.D.Disk.reads l.disk) (runs_merged l.initial.pass.merging.merger) (runs_merged l.pass.merging.merger);
+      taken : (f : Image) (runs : List (List Entry)) → Exposes (g.D.Disk.view l.initial.disk) f → lefts f (views_of marked_seen l.initial.pass.merging.merger) ≡ runs
+          → AreTaken runs (lefts f (views_of marked_seen l.pass.merging.merger)) l.counter;
       counted : (f : Image) (runs : List (List Entry)) → Exposes (g.D.Disk.view l.initial.disk) f → AreOwners (map (λ (a : ArrayDesc). a.versions) l.arrays) l.initial.pass.owners.items
           → IsCountingLevel l.tree.parents (map (λ (a : ArrayDesc). a.versions) l.arrays) runs (lefts f (views_of marked_seen l.initial.pass.merging.merger)) l.initial.pass.found.items l.initial.sights
           → IsCountingLevel l.tree.parents (map (λ (a : ArrayDesc). a.versions) l.arrays) runs (lefts f (views_of marked_seen l.pass.merging.merger)) l.pass.found.items l.sights;
