@@ -1,10 +1,15 @@
 pub mod ArrayCounts
 pub mod Bares
 pub mod Below
+pub mod LevelPasses
+pub mod LevelRuns
 pub mod MarkedGroups
 pub mod MarkedLaw
 pub mod MarkedRuns
+pub mod Owners
 pub mod Scanned
 pub mod SightFields
 pub mod Sightings
+pub mod StrayGroups
+pub mod Strays
 pub mod Sums

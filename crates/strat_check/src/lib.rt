@@ -3,10 +3,15 @@
 
 pub mod array_count;
 mod bare;
+pub mod level_count;
+mod level_runs;
 mod marked_group;
 pub mod marked_run;
 mod marking;
+mod owners;
 pub mod scan;
 mod sights;
+mod stray_group;
+pub mod strays;
 
 pub use sights::Sights;
