@@ -1,5 +1,5 @@
 -- One more group of a level is counted, and what the groups tell in the end.
-use Rattle.std.proofs.Common.{◌≡◌, ◌<◌, ◌≤◌, ◌+◌, ◌*◌, ◌/◌, ◌%◌, ◌^◌, ℕ, zero, suc, Bool, true, false, cond, eqb, ltb, ◌&&◌, ◌||◌, not, inl, inr, List, [], ◌∷◌, ◌++◌, length, map, filter, get_or, Option, Some, None, refl, sym, ap, ◌∙◌, subst, arith, true≢false, length-append}
+use Rattle.std.proofs.Common.{◌≡◌, ◌<◌, ◌≤◌, ◌*◌, ◌/◌, ◌%◌, ◌^◌, ℕ, zero, suc, Bool, true, false, cond, ltb, ◌||◌, not, List, [], ◌∷◌, ◌++◌, length, map, filter, get_or, Some, refl, sym, ap, ◌∙◌, subst, arith, length-append}
 use Rattle.std.specs.List.{list_any, list_all, flat_map, slice_get, sum_by}
 use Rattle.std.proofs.lemmas.Bool.{and_parts, ltb-true}
 use Rattle.std.proofs.lemmas.List.{map-append}
@@ -17,7 +17,7 @@ use Rattle.def_state.specs.Sound.{has_ascending_entries}
 use Rattle.def_state.proofs.LevelLemmas.{ascending_single}
 use Rattle.def_split.specs.Groups.{grouped_entries, group_versions, AreGroups}
 use Rattle.def_split.proofs.ListLemmas.{map_among, filter_same, filter_ascending}
-use Rattle.def_promote.specs.Merging.{MergesTo, Merges}
+use Rattle.def_promote.specs.Merging.{Merges}
 use Rattle.def_promote.proofs.MergingLemmas.{merged}
 use Rattle.def_promote.proofs.UnionLemmas.{single_fits}
 use Rattle.def_state.specs.Live.{live}
@@ -26,11 +26,11 @@ use Rattle.def_check.specs.Told.{MayBeCounted, AreLeadsOf}
 use Rattle.def_check.proofs.MarkedLemmas.{run_told}
 use Rattle.def_check.proofs.MarkedLeads.{kept_leads}
 use Rattle.strat_live.specs.Counting.{are_below}
-use Rattle.strat_check.specs.LevelPasses.{AreCounted, IsLevelCounted}
+use Rattle.strat_check.specs.LevelPasses.{AreCounted}
 use Rattle.strat_check.specs.MarkedGroups.{is_owned, owned_versions}
 use Rattle.strat_check.specs.Owners.{AreOwners}
 use Rattle.strat_check.specs.Sightings.{Sightings, versions_added, IsSighting, IsSighted}
-use Rattle.strat_check.specs.Strays.{unmarked_where, has_stray, has_live_stray, strays_at, AreNoted, AreStraysOf, IsCountedLevel}
+use Rattle.strat_check.specs.Strays.{unmarked_where, has_stray, has_live_stray, strays_at, AreNoted, IsCountedLevel}
 use Rattle.strat_check.specs.declared.strays.Strays.{Strays}
 use Rattle.strat_check.proofs.StrayLemmas.{any_told, live_stray_told, live_below}
 

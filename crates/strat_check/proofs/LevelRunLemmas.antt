@@ -1,9 +1,9 @@
 -- The marked runs of a level's arrays are opened one after another.
-use Rattle.std.proofs.Common.{◌≡◌, ◌<◌, ◌≤◌, ◌+◌, ◌-◌, ◌*◌, ℕ, zero, suc, Bool, true, false, leb, ltb, inl, inr, ◌⊎◌, List, [], ◌∷◌, ◌++◌, length, map, filter, take, get_or, unwrap_or, Option, Some, None, Result, Ok, Err, OnErr, refl, sym, ap, ◌∙◌, subst, arith, length-append, true≢false}
+use Rattle.std.proofs.Common.{◌≡◌, ◌<◌, ◌≤◌, ◌+◌, ◌*◌, ℕ, zero, suc, true, false, leb, ltb, inl, inr, ◌⊎◌, List, [], ◌∷◌, ◌++◌, length, map, filter, take, get_or, unwrap_or, Option, Some, Result, Ok, Err, OnErr, refl, sym, ap, ◌∙◌, subst, arith, length-append, true≢false}
 use Rattle.std.specs.List.{list_all, slice_get, Contains}
 use Rattle.std.specs.Option.{option_map_or}
 use Rattle.std.proofs.lemmas.Bool.{and_from, and_parts, le-leb}
-use Rattle.std.proofs.lemmas.List.{length-map, map-append, append-nil, append_assoc, take_more}
+use Rattle.std.proofs.lemmas.List.{length-map, map-append, append-nil, take_more}
 use Rattle.std.proofs.lemmas.List.Folds.{list_all-append}
 use Rattle.std.proofs.lemmas.List.Elements.{Contains-append_left, Contains-append_right, Contains-append_cases}
 use Rattle.std.proofs.lemmas.Grind.{flat_map-append}
@@ -16,8 +16,8 @@ use Rattle.def_crash.specs.Moments.{DiskView, Exposes, OnlyReads}
 use Rattle.def_bytes.specs.Arrays.{blocks_of, entries_on}
 use Rattle.def_check.specs.Marked.{marked, marked_runs}
 use Rattle.strat_merge.specs.Gathered.{are_under}
-use Rattle.strat_merge.specs.Runs.{RunView, lefts, blocks_left, IsBadFor, ReadsFront}
-use Rattle.strat_promote.specs.Job.{blocks_listed, IsBadInput}
+use Rattle.strat_merge.specs.Runs.{RunView, blocks_left, IsBadFor, ReadsFront}
+use Rattle.strat_promote.specs.Job.{blocks_listed}
 use Rattle.strat_promote.specs.Leads.{misfit_in}
 use Rattle.strat_promote.specs.Opening.{IsBlamed}
 use Rattle.strat_check.specs.LevelRuns.{is_in_order, kept_on, OpensRun, AreOpened}

@@ -1,7 +1,7 @@
 -- What is noted of arrays while a group is looked at, item by item.
-use Rattle.std.proofs.Common.{◌≡◌, ◌<◌, ◌+◌, ℕ, zero, suc, Bool, true, false, ◌&&◌, ◌||◌, not, eqb, cond, inl, inr, List, [], ◌∷◌, ◌++◌, length, map, filter, take, get_or, replicate, refl, sym, ap, ◌∙◌, arith, true≢false}
+use Rattle.std.proofs.Common.{◌≡◌, ◌<◌, ◌+◌, ℕ, zero, suc, Bool, true, false, ◌&&◌, ◌||◌, not, eqb, cond, inl, inr, List, [], ◌∷◌, ◌++◌, length, map, filter, take, get_or, replicate, refl, sym, ap, ◌∙◌, arith}
 use Rattle.std.specs.List.{list_any, list_all}
-use Rattle.std.proofs.lemmas.Bool.{and_parts, and_from, cases_Bool, cases_eq, ne_eqb, not-true, not_from_false, false_from_ne_true}
+use Rattle.std.proofs.lemmas.Bool.{and_parts, and_from, cases_Bool, cases_eq, ne_eqb, not-true, not_from_false}
 use Rattle.std.proofs.lemmas.List.{take_more, map-append}
 use Rattle.std.proofs.lemmas.List.Folds.{list_any-append}
 use Rattle.strat_arena.specs.ArenaView.{KeyValue}
@@ -9,13 +9,12 @@ use Rattle.strat_arena.specs.Items.{entry_of_item, entries_of}
 use Rattle.strat_arena.specs.declared.items.Item.{Item}
 use Rattle.strat_base.specs.Entries.{Entry, holds_entry}
 use Rattle.strat_base.specs.Tree.{Parents}
-use Rattle.strat_base.proofs.ListFacts.{Among, all_at, all_from, any_among, any_from, any_same, filter_among, among_filter}
+use Rattle.strat_base.proofs.ListFacts.{all_at, all_from, any_among, any_from, filter_among}
 use Rattle.def_state.specs.Live.{is_live, live}
 use Rattle.def_check.specs.Marked.{unmarked, is_from_run}
 use Rattle.strat_check.specs.Strays.{unmarked_where, has_stray, has_live_stray, strays_at}
 use Rattle.strat_check.specs.StrayGroups.{is_stray, noted, settled, AreSettled}
 use Rattle.strat_check.specs.declared.strays.Strays.{Strays}
-use Rattle.strat_check.proofs.StrayLemmas.{not_all, among_unmarked, unmarked_among}
 
 pub all_repeated : {X : Type 0} (p : X → Bool) (n : ℕ) (x : X) → p x ≡ true → list_all p (replicate n x) ≡ true
 all_repeated p zero x is = refl

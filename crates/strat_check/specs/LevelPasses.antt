@@ -1,5 +1,5 @@
 -- A pass over the groups of a level's marked runs.
-use Rattle.std.specs.Prelude.{◌≡◌, ◌<◌, ◌≤◌, ℕ, ◌^◌, List, [], length, map, slice_index_or}
+use Rattle.std.specs.Prelude.{◌≡◌, ◌<◌, ◌≤◌, ℕ, ◌^◌, List, [], length, slice_index_or}
 use Rattle.std.specs.List.{list_any}
 use Rattle.strat_base.specs.Entries.{Entry}
 use Rattle.strat_base.specs.Tree.{Parents}

@@ -1,5 +1,5 @@
 -- A group of marked entries at hand, and what is found of an array in it.
-use Rattle.std.specs.Prelude.{◌≡◌, ◌≤◌, ℕ, ◌*◌, ◌/◌, ◌%◌, ◌==◌, ◌&&◌, ◌||◌, not, Bool, List, length, map, filter, slice_index_or, IsTrue}
+use Rattle.std.specs.Prelude.{◌≤◌, ℕ, ◌*◌, ◌/◌, ◌%◌, ◌==◌, ◌&&◌, ◌||◌, not, Bool, List, length, map, filter, IsTrue}
 use Rattle.std.specs.List.{list_all}
 use Rattle.strat_arena.specs.Items.{entries_of, have_pairs}
 use Rattle.strat_arena.specs.declared.items.Item.{Item}
@@ -8,7 +8,7 @@ use Rattle.def_check.specs.Marked.{unmarked, is_from_run}
 use Rattle.strat_live.specs.Counting.{are_below}
 use Rattle.strat_live.specs.Group.{is_descending}
 use Rattle.strat_check.specs.MarkedGroups.{is_owned}
-use Rattle.strat_check.specs.Strays.{unmarked_where, strays_at}
+use Rattle.strat_check.specs.Strays.{unmarked_where}
 use Rattle.strat_check.specs.declared.stray_group.StrayGroup.{StrayGroup}
 use Rattle.strat_check.specs.declared.strays.Strays.{Strays}
 

@@ -1,9 +1,7 @@
-use Rattle.std.proofs.Common.{◌≡◌, ◌≤◌, ◌<◌, ◌∙◌, ℕ, true, ltb, List, [], length, map, sym, ap, subst, arith, IsTrue}
+use Rattle.std.proofs.Common.{◌≡◌, ◌∙◌, ℕ, true, ltb, List, [], length, map, sym, ap, subst, arith, IsTrue}
 use Rattle.std.specs.List.{list_all, flat_map, Contains}
-use Rattle.strat_array.specs.Within.{AreWithin}
 use Rattle.strat_base.specs.declared.descriptors.ArrayDesc.{ArrayDesc}
 use Rattle.strat_base.proofs.ResultFacts.{err_of}
-use Rattle.def_crash.specs.Image.{Image}
 use Rattle.def_crash.proofs.MomentLemmas.{reads_trans}
 use Rattle.def_state.specs.Level.{TaggedArray, is_distinct}
 use Rattle.def_check.specs.Marked.{marked_runs, kept_below}
@@ -13,7 +11,6 @@ use Rattle.strat_promote.specs.Opening.{IsBlamed}
 use Rattle.strat_check.specs.LevelPasses.{AreCounted, IsCountingLevel}
 use Rattle.strat_check.specs.LevelRuns.{is_in_order, kept_on}
 use Rattle.strat_check.specs.MarkedRuns.{marked_seen}
-use Rattle.strat_check.specs.Owners.{AreOwners}
 use Rattle.strat_check.specs.declared.marked_run.MarkedRun.{MarkedRun}
 use Rattle.strat_check.proofs.LevelPassLemmas.{counted_none, level_counted}
 use Rattle.strat_check.proofs.LevelOnLemmas.{level_is, tags_apart}

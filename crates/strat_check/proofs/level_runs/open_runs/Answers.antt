@@ -1,11 +1,10 @@
-use Rattle.std.proofs.Common.{◌≡◌, ◌<◌, ◌≤◌, ◌+◌, ◌∙◌, ◌++◌, ◌∷◌, [], ℕ, List, map, length, take, sym, ap, subst, arith, length-take}
-use Rattle.std.proofs.lemmas.List.{take_all}
+use Rattle.std.proofs.Common.{◌≡◌, ◌∙◌, ℕ, List, map, length, take, sym, subst, arith, length-take}
 use Rattle.strat_base.proofs.ResultFacts.{err_of}
 use Rattle.strat_base.specs.declared.descriptors.ArrayDesc.{ArrayDesc}
 use Rattle.def_crash.proofs.MomentLemmas.{reads_trans}
 use Rattle.strat_check.specs.LevelRuns.{OpensRun, AreOpened}
 use Rattle.strat_check.specs.MarkedRuns.{marked_seen}
-use Rattle.strat_check.proofs.LevelRunLemmas.{opened_none, opened_more, array_next, array_blamed, array_reads, on_err}
+use Rattle.strat_check.proofs.LevelRunLemmas.{opened_more, array_next, array_blamed, array_reads, on_err}
 use Rattle.strat_check.proofs.level_runs.open_runs.Goals as goal
 
 pub open_run-requires-clause-fits : goal.open_run-requires-clause-fits

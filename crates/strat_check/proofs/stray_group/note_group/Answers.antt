@@ -1,4 +1,4 @@
-use Rattle.std.proofs.Common.{◌≡◌, ◌∙◌, ◌<◌, ◌+◌, ℕ, [], length, map, get_or, sym, subst, arith}
+use Rattle.std.proofs.Common.{◌∙◌, ◌<◌, [], length, map, get_or, arith}
 use Rattle.strat_base.proofs.ResultFacts.{on_ok_then}
 use Rattle.strat_base.specs.declared.descriptors.ArrayDesc.{ArrayDesc}
 use Rattle.strat_check.specs.MarkedGroups.{is_owned}

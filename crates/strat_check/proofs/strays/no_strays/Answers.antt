@@ -1,6 +1,5 @@
 use Rattle.std.proofs.Common.{◌∙◌, List, not, ap, refl}
 use Rattle.std.specs.List.{list_all}
-use Rattle.strat_check.specs.StrayGroups.{AreSettled}
 use Rattle.strat_check.specs.declared.strays.Strays.{Strays}
 use Rattle.strat_check.proofs.SettledLemmas.{all_repeated}
 use Rattle.strat_check.proofs.strays.no_strays.Goals as goal
