@@ -50,13 +50,13 @@ noted strays s = record {
 }
 
 -- and once it is asked, where it is due, whether one of these is live
-abbrev pub settled : Bool → Bool → Strays → Strays
-settled asked lives s = record {
+abbrev pub with_answer : Bool → Bool → Strays → Strays
+with_answer asked lives s = record {
   has_any = s.has_any;
   is_live = s.is_live || (asked && s.is_due && lives);
   is_due = s.is_due && not asked;
 }
 
 -- nothing is due
-abbrev pub AreSettled : List Strays → Type 0
-AreSettled found = IsTrue (list_all (λ s. not s.is_due) found)
+abbrev pub AreAllAsked : List Strays → Type 0
+AreAllAsked found = IsTrue (list_all (λ s. not s.is_due) found)
