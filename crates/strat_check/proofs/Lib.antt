@@ -1,6 +1,7 @@
 pub mod ArrayCountLemmas
 pub mod ArrayLemmas
 pub mod BareLemmas
+pub mod BeginLemmas
 pub mod ChildLemmas
 pub mod CountedArrayLemmas
 pub mod FitLemmas
@@ -27,6 +28,6 @@ pub mod SightOfLemmas
 pub mod StoreLemmas
 pub mod StrayLemmas
 pub mod ToldLemmas
+pub mod VerdictLemmas
 pub mod WalkLemmas
 pub mod WeighLemmas
-pub mod VerdictLemmas
