@@ -9,16 +9,14 @@ may change. It prints how many answers there were of each kind.
 import sys
 
 from checks.checking import SEED, tried
-from program import Skipped, Wrong, has_check, scratch
+from program import Skipped, Wrong, scratch, wants_check
 
 
 def main(words):
     count, seed = (int(words[at]) if words[at:] else default for at, default in enumerate((20_000, SEED)))
-    if not has_check():
-        print("skipped: the program has no word check yet")
-        return 1
     with scratch(True) as folder:
         try:
+            wants_check()
             found = tried(folder, seed, count)
         except (Skipped, Wrong) as why:
             print(f"FAILED: {why}")

@@ -236,6 +236,11 @@ def has_check():
         return run(["check", os.path.join(folder, "absent.store")]) != (b"", 1, complaint(1))
 
 
+def wants_check():
+    if not has_check():
+        raise Skipped("the program has no word check yet")
+
+
 UNASKED = collections.Counter()  # files of which the program was not asked whether they are sound, since it has no such word
 
 

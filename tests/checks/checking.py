@@ -19,7 +19,7 @@ from checks.calls import each_call, faults_of, status_of
 from faulty import Rig, counts_of, starts
 from model import BLOCK
 from program import (
-    DEADLINE, PROGRAM, PUT_A, Skipped, StoreFile, bytes_of, complaint, expect, expect_checked, has_check, in_memory, run)
+    DEADLINE, PROGRAM, PUT_A, StoreFile, bytes_of, complaint, expect, expect_checked, in_memory, run, wants_check)
 from samples import DISTINCT, PUBLISHED, store_after
 
 DAMAGED = 400  # damaged files that are tried here; `tests/checked.py` tries as many as it is told
@@ -27,11 +27,6 @@ SEED = 43
 PASSES = 3  # how often a block of an array is read at most, beside what a recovery reads
 
 TELLABLE = "mbcdefhijk"  # a is refused by recovery, g follows from m and a, and l from k
-
-
-def wants_check():
-    if not has_check():
-        raise Skipped("the program has no word check yet")
 
 
 def put_there(path, data):
