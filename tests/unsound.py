@@ -88,9 +88,9 @@ def only(tag, *entries):
 
 
 def many(tag, count):
-    """An array with so many leads, 400 to a block."""
+    """An array with so many leads, 200 to a block."""
     entries = [says(b"%06d" % key, tag[0]) for key in range(count)]
-    return part(tag, *(entries[at:at + 400] for at in range(0, count, 400)))
+    return part(tag, *(entries[at:at + 200] for at in range(0, count, 200)))
 
 
 A, B = only((0,), says(b"a", 0)), only((1,), says(b"a", 0), says(b"b", 1))
@@ -121,6 +121,8 @@ def specimens(number):
     yield "c", "a copy of one key stands for that of another", 1, Specimen(
         CHILD, (only((0,), says(b"a", 0), says(b"c", 0)), only((1,), says(b"a", 0), says(b"b", 0), says(b"d", 1), says(b"e", 1))), {})
     yield "d", "a quarter is live", 0, Specimen(FAN, (only((0, 1, 2, 3), *(says(b"%d" % v, v) for v in range(4))),), {})
+    yield "d", "a quarter is live in each of two arrays", 0, Specimen(
+        8 * (0,), [only(range(first, first + 4), *(says(b"%d" % v, v) for v in range(first, first + 4))) for first in (1, 5)], {})
     yield "e", "two copies beside one lead", 1, Specimen(
         CHILD, (only((0,), says(b"a", 0), says(b"b", 0)), only((1,), says(b"a", 0), says(b"b", 0), says(b"c", 1))), {1: {"leads": 2}})
     yield "f", "an entry of another value is hidden", 1, Specimen(CHILD, (A, only((1,), says(b"a", 1), says(b"a", 0, b"2"))), {})
@@ -161,31 +163,48 @@ def stacked(*specimens_by_number, backwards=False):
 
 # Levels that break rules together
 
-def two_levels(first, second, parents, journal=()):
+def two_levels(first, second, parents, journal=(), lies=()):
     """Level 1 has the first arrays with their horizon, and level 2 the second ones."""
     parts = itertools.count(1)
     strata = [Stratum(number, horizon, [found._replace(id=next(parts)) for found in arrays])
               for number, (horizon, arrays) in enumerate((first, second), 1)]
-    return laid_out(strata, parents, journal)
+    return laid_out(strata, parents, journal, lies)
 
 
 def broken_together():
-    """Files whose levels are sound each by itself: what is told, what it is, and the bytes."""
+    """Files of two levels that break a rule together: what is told, what it is, and the bytes."""
     own = only((1,), says(b"b", 1))
-    yield Breach("i", 2, 0), "a deeper level has a greater horizon", two_levels((2, [own]), (3, [only((0, 1, 2), says(b"a", 0))]), (0, 0))
-    yield None, "both have the same horizon", two_levels((3, [own]), (3, [only((0, 1, 2), says(b"a", 0))]), (0, 0))
+    late, full = (3, [only((0, 1, 2), says(b"a", 0))]), (3, [many((0, 1, 2), (MEM << 2) + 1)])
+    yield Breach("h", 2, 0), "a deeper level with a greater horizon has too many leads", two_levels((2, [own]), full, (0, 0))
+    yield Breach("i", 2, 0), "one has leads above it of a version that it closed", two_levels(
+        (2, [only((0, 1), says(b"b", 0))]), late, (0, 0))
+    yield Breach("i", 2, 0), "a deeper level has a greater horizon", two_levels((2, [own]), late, (0, 0))
+    yield None, "both have the same horizon", two_levels((3, [own]), late, (0, 0))
     above = only((0, 1), says(b"b", 0))
     yield Breach("j", 2, 0), "a version with a child below the deeper horizon has a lead above it", two_levels(
         (2, [above]), (2, [only((0, 1), says(b"a", 0))]), (0,))
+    yield Breach("j", 2, 0), "so it is, and a descriptor is wrong", two_levels(
+        (2, [above]), (2, [only((0, 1), says(b"a", 0))]), (0,), lies={1: {"least": 0}})
     yield None, "its child is not below that horizon", two_levels((2, [above]), (1, [only((0,), says(b"a", 0))]), (0,))
     yield None, "its child was made by the journal", two_levels(
         (1, [only((0,), says(b"b", 0))]), (1, [only((0,), says(b"a", 0))]), (), [(formats.PUT, 0, b"c", b"1"), (formats.CLONE, 0)])
 
 
+def doubled(specimen):
+    """The same tree with a second child of version 0, for which the same is wrong: what is told is the first."""
+    first, second = specimen.parts
+    blocks = [[entry._replace(version=2 * entry.version) for entry in block] for block in second.blocks]
+    lies = {2: specimen.lies[1]} if specimen.lies else {}
+    return Specimen((0, 0), (first, second, Part(0, (2,), blocks)), {**specimen.lies, **lies})
+
+
 def broken_alone(number):
     """For each specimen what is told of a level of this number, what it is, and the bytes."""
     for rule, what, place, specimen in specimens(number):
-        yield Breach(rule, number, 0 if place is None else 1 + place) if rule else None, what, stacked((number, specimen))
+        told = Breach(rule, number, 0 if place is None else 1 + place) if rule else None
+        yield told, what, stacked((number, specimen))
+        if specimen.parents == CHILD and place == 1:
+            yield told, f"{what}; and so for another version", stacked((number, doubled(specimen)))
 
 
 def broken_twice():

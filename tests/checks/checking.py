@@ -96,8 +96,7 @@ def a_check_tells_files_that_are_known(folder):
     path = os.path.join(folder, "a.store")
     for name, data, line, status in [*worked_files(folder), *told_files()]:
         put_there(path, data)
-        expect(name, run(["check", path]), (line, status, complaint(status)))
-        expect_checked(name, path)
+        expect(name, expect_checked(name, path), (line, status))
     expect("no file", run(["check", os.path.join(folder, "absent.store")]), (b"", 2, complaint(2)))
 
 
