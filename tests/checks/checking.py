@@ -89,6 +89,25 @@ def the_rules_beside_the_program_tell_files_that_are_known(folder):
     expect_tellable(line for _, _, line, _ in told_files())
 
 
+def wrong_orders():
+    """Ways in which a checker may tell another breach than the first: what is wrong, and what it tells first."""
+    for at, letter in enumerate(TELLABLE):
+        yield f"without {letter}", lambda found, letter=letter: [breach for breach in found if breach.rule != letter]
+        if at:
+            before = TELLABLE[at - 1]
+            order = TELLABLE.replace(before + letter, letter + before) + "gl"
+            yield f"{letter} before {before}", lambda found, order=order: sorted(found, key=lambda breach: order.index(breach.rule))
+    yield "the deepest level first", lambda found: sorted(found, key=lambda it: (rules.ORDER.index(it.rule), -it.level))
+    yield "the last array first", lambda found: sorted(found, key=lambda it: (rules.ORDER.index(it.rule), it.level, -it.array))
+    yield "all of a level first", lambda found: sorted(found, key=lambda it: (it.level, rules.ORDER.index(it.rule)))
+
+
+def each_wrong_order_is_told_by_some_file(folder):
+    found = [rules.breaches(data, formats.read(data)) for _, data, _, status in told_files() if status != model.DAMAGED]
+    for what, told in wrong_orders():
+        expect(f"{what}, noticed", any(rules.line_of(told(all_of)) != rules.line_of(all_of) for all_of in found), True)
+
+
 # What the program says
 
 def a_check_tells_files_that_are_known(folder):
@@ -170,6 +189,7 @@ def a_check_whose_output_fails_is_told(folder):
 
 CHECKS = [
     the_rules_beside_the_program_tell_files_that_are_known,
+    each_wrong_order_is_told_by_some_file,
     a_check_tells_files_that_are_known,
     a_check_tells_what_damaged_files_are,
     a_check_reads_each_block_of_an_array_three_times_at_most,
