@@ -245,9 +245,9 @@ UNASKED = collections.Counter()  # files of which the program was not asked whet
 
 
 def left_behind(path):
-    """A file's bytes, size, times and number, and the names in its folder: what a run that writes would leave otherwise."""
-    found = os.stat(path)
-    return bytes_of(path), (found.st_size, found.st_mtime_ns, found.st_ctime_ns, found.st_ino), sorted(os.listdir(os.path.dirname(path)))
+    """A file's bytes, times and number, and its folder's names and time: what a run that writes would leave otherwise."""
+    found, folder = os.stat(path), os.path.dirname(path)
+    return bytes_of(path), (found.st_mtime_ns, found.st_ctime_ns, found.st_ino, os.stat(folder).st_mtime_ns), sorted(os.listdir(folder))
 
 
 def expect_checked(name, path):
