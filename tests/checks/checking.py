@@ -110,6 +110,7 @@ def each_wrong_order_is_told_by_some_file(folder):
 
 # What the program says
 
+@in_memory
 def a_check_tells_files_that_are_known(folder):
     wants_check()
     path = os.path.join(folder, "a.store")
