@@ -44,6 +44,14 @@ def a_change_of_any_source_builds_once(folder):
                 change()
 
 
+def a_change_of_tests_builds_nothing(folder):
+    made = Checkout(folder)
+    made.build()
+    made.write("crates/low_tests/src/lib.rt", "")
+    expect("status", made.launch(["serve", made.store])[1], 0)
+    expect("builds", made.calls(), 0)
+
+
 def a_source_that_is_saved_amid_a_build_is_built_by_the_next_use(folder):
     made = Checkout(folder)
     made.build()
@@ -210,6 +218,7 @@ CHECKS = [
     the_first_use_builds_and_shows_how_far_it_is,
     a_build_takes_none_of_the_input_and_none_of_the_output,
     a_change_of_any_source_builds_once,
+    a_change_of_tests_builds_nothing,
     a_source_that_is_saved_amid_a_build_is_built_by_the_next_use,
     a_build_that_fails_runs_no_program,
     a_program_that_is_not_there_is_built,
