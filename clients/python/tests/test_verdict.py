@@ -141,6 +141,7 @@ class CheckTest(StoreCase):
         before = self.bytes_of("a.store")
         self.assertEqual(Store.check(self.path), Sound())
         self.assertEqual((self.bytes_of("a.store"), self.ran(self.path, "check")), (before, ("sound\n", "", 0)))
+        os.remove(self.path)
         store = self.damaged()
         self.assertEqual(store.verdict(), Damaged(7))
         store.close()
