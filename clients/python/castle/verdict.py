@@ -121,8 +121,8 @@ class Damaged(Verdict):
 
 UNSOUND = re.compile(r"unsound ([a-m]) level (\d+) array (\d+)\n")
 DAMAGED = re.compile(r"damaged block (\d+)\n")
-STATUSES = {0: Sound, 9: Damaged, 11: Unsound}
-"""The exit statuses of a check that tells something, with what it tells."""
+STATUSES = 0, 9, 11
+"""The exit statuses of a check that has a verdict."""
 
 
 def read(text: str, status: int) -> Verdict:
