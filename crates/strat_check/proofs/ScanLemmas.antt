@@ -1,5 +1,5 @@
 -- Blocks of an array that are looked at one after another.
-use Rattle.std.proofs.Common.{◌≡◌, ◌<◌, ◌≤◌, ◌+◌, nat_lt, ℕ, Bool, true, false, cond, ◌&&◌, List, [], ◌∷◌, ◌++◌, length, take, get_or, Option, Some, None, refl, sym, ap, ◌∙◌, subst, arith, append_assoc, append-nil, length-append}
+use Rattle.std.proofs.Common.{◌≡◌, ◌<◌, ◌≤◌, ◌+◌, nat_lt, ℕ, true, false, cond, ◌&&◌, List, [], ◌∷◌, ◌++◌, length, take, get_or, Option, Some, None, refl, sym, ap, ◌∙◌, subst, arith, append_assoc, append-nil, length-append}
 use Rattle.std.specs.Prelude.{is_none, option_map}
 use Rattle.std.specs.List.{Contains}
 use Rattle.std.proofs.lemmas.List.Folds.{list_all-append, list_all_more, list_all_at}
@@ -123,13 +123,6 @@ scan_blames c all left rest b n last s scan next none =
 
 pub front_step : (all left rest : List ℕ) (b p q r : ℕ) → ReadsFront all left p q → left ≡ b ∷ rest → ReadsAtMost 1 q r → ReadsFront all rest p r
 front_step all left rest b p q r first next reads = front_trans all left rest p q r first (subst (λ (l : List ℕ). ReadsFront l rest q r) (sym next) (one_read b rest q r reads))
-
-pub front_at_most : (all left : List ℕ) (p q : ℕ) → ReadsFront all left p q → ReadsAtMost (length all) p q
-front_at_most all left p q first =
-    let size = ap (λ (l : List ℕ). length l) first.split in
-    let whole = length-append first.read left in
-    let most = first.most in
-    record { later = first.later; bound = omega (arith, size, whole, most) }
 
 pub front_has : (all left rest : List ℕ) (b d p q : ℕ) → ReadsFront all left p q → left ≡ b ∷ rest → d ≡ b → Contains all d
 front_has all left rest b d p q first next same =

@@ -17,7 +17,7 @@ use Rattle.def_state.specs.State.{State}
 use Rattle.strat_open.specs.declared.attach_fault.AttachFault.{AttachFault}
 use Rattle.strat_open.specs.declared.attach_fault.AttachFault.TheVariants as fault
 use Rattle.strat_check.specs.Places.{breach_of, place_of}
-use Rattle.strat_check.specs.Verdicts.{verdict_for, verdict_of_fault, verdict_told, IsRight, VerdictHasCause}
+use Rattle.strat_check.specs.Verdicts.{verdict_for, verdict_unread, verdict_told, IsRight, VerdictHasCause}
 use Rattle.strat_check.specs.declared.places.Broken.{Broken}
 use Rattle.strat_check.specs.declared.verdict.Verdict.{Verdict}
 use Rattle.strat_check.specs.declared.verdict.Verdict.TheVariants as verdict
@@ -26,13 +26,13 @@ use Rattle.strat_check.proofs.HeadLemmas.{read_as}
 -- where the store could not be read
 
 pub fault_right : (disk : DiskView) (e : AttachFault) → (e ≡ fault.NotAStore → (f : Image) → Exposes disk f → recover f ≡ Ok None) → ((b : ℕ) → e ≡ fault.Damaged b → (f : Image) → Exposes disk f → recover f ≡ Err b)
-    → IsRight disk (verdict_of_fault e)
+    → IsRight disk (verdict_unread e)
 fault_right disk fault.NotAStore none damaged = λ f exposed. inl (ap (λ (r : Read (Option Head)). verdict_for (and_then r (check_head f))) (sym (none refl f exposed)))
 fault_right disk fault.Device none damaged = λ f exposed. inr (inr refl)
 fault_right disk (fault.Damaged b) none damaged = λ f exposed. inl (ap (λ (r : Read (Option Head)). verdict_for (and_then r (check_head f))) (sym (damaged b refl f exposed)))
 fault_right disk fault.NoMemory none damaged = λ f exposed. inr (inl refl)
 
-pub fault_caused : {A : Type 0} (e : AttachFault) (before now : ℕ) → HasCause {T = A} fault.Device before now (Err e) → VerdictHasCause (verdict_of_fault e) before now
+pub fault_caused : {A : Type 0} (e : AttachFault) (before now : ℕ) → HasCause {T = A} fault.Device before now (Err e) → VerdictHasCause (verdict_unread e) before now
 fault_caused fault.NotAStore before now cause = record { later = cause.later; device = λ is. absurd (cc); other = λ no'. cause.other (λ is. absurd (cc)) }
 fault_caused fault.Device before now cause = record { later = cause.later; device = λ is. cause.device refl; other = λ no'. absurd (no' refl) }
 fault_caused (fault.Damaged b) before now cause = record { later = cause.later; device = λ is. absurd (cc); other = λ no'. cause.other (λ is. absurd (cc)) }

@@ -1,15 +1,15 @@
 -- What a check answers.
 use Rattle.std.specs.Prelude.{◌≡◌, ◌≢◌, ◌≤◌, ◌⊎◌, ℕ, List, [], ◌∷◌, Option, Some, None, Result, Ok, Err}
-use Rattle.def_bytes.specs.Damage.{Read}
-use Rattle.def_check.specs.Checked.{checked}
 use Rattle.def_crash.specs.Faults.{Rose}
 use Rattle.def_crash.specs.Image.{Image}
 use Rattle.def_crash.specs.Moments.{DiskView, Exposes}
+use Rattle.def_bytes.specs.Damage.{Read}
 use Rattle.def_state.specs.Breach.{Breach}
+use Rattle.def_check.specs.Checked.{checked}
 use Rattle.strat_base.specs.declared.failures.Trouble.{Trouble}
 use Rattle.strat_base.specs.declared.failures.Trouble.TheVariants as trouble
 use Rattle.strat_open.specs.declared.attach_fault.AttachFault.{AttachFault}
-use Rattle.strat_open.specs.declared.attach_fault.AttachFault.TheVariants as fault
+use Rattle.strat_open.specs.declared.attach_fault.AttachFault.TheVariants as attach
 use Rattle.strat_check.specs.declared.places.Broken.{Broken}
 use Rattle.strat_check.specs.declared.verdict.Verdict.{Verdict}
 use Rattle.strat_check.specs.declared.verdict.Verdict.TheVariants as verdict
@@ -21,14 +21,14 @@ verdict_for (Ok (Some (b ∷ breaches))) = verdict.Unsound b.rule b.level b.arra
 verdict_for (Ok None) = verdict.NotAStore
 verdict_for (Err block) = verdict.Damaged block
 
--- the answer where a store could not be read
-abbrev pub verdict_of_fault : AttachFault → Verdict
-verdict_of_fault fault.NotAStore = verdict.NotAStore
-verdict_of_fault fault.Device = verdict.Device
-verdict_of_fault (fault.Damaged block) = verdict.Damaged block
-verdict_of_fault fault.NoMemory = verdict.NoMemory
+-- the verdict on a store that could not be read
+abbrev pub verdict_unread : AttachFault → Verdict
+verdict_unread attach.NotAStore = verdict.NotAStore
+verdict_unread attach.Device = verdict.Device
+verdict_unread (attach.Damaged block) = verdict.Damaged block
+verdict_unread attach.NoMemory = verdict.NoMemory
 
--- the answer where it was read
+-- the verdict on a store whose arrays were gone through
 abbrev pub verdict_told : Result (Option Broken) Trouble → Verdict
 verdict_told (Ok None) = verdict.Sound
 verdict_told (Ok (Some b)) = verdict.Unsound b.rule b.level b.array

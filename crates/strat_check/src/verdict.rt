@@ -1,11 +1,11 @@
 //! What a check answers.
 
 ghost use Rattle.std.specs.Prelude.{◌≡◌, ◌⊎◌};
-ghost use Rattle.def_check.specs.Checked.{checked};
 ghost use Rattle.def_crash.specs.Faults.{ReadsAtMost, Rose};
 ghost use Rattle.def_crash.specs.Image.{Image};
 ghost use Rattle.def_crash.specs.Moments.{Exposes, OnlyReads};
-ghost use Rattle.strat_check.specs.Verdicts.{verdict_for, verdict_of_fault, verdict_told, IsRight, VerdictHasCause};
+ghost use Rattle.def_check.specs.Checked.{checked};
+ghost use Rattle.strat_check.specs.Verdicts.{verdict_for, verdict_unread, verdict_told, IsRight, VerdictHasCause};
 ghost use Rattle.strat_check.specs.declared.verdict.Verdict.TheVariants as verdict;
 
 use crate::places::Broken;
@@ -32,9 +32,9 @@ pub enum Verdict {
     NoMemory,
 }
 
-/// The answer where the store could not be read. O(1).
-fn of_fault(fault: AttachFault) -> Verdict
-    ensures ok { result ≡ verdict_of_fault fault }
+/// The verdict on a store that could not be read.
+fn of_unread(fault: AttachFault) -> Verdict
+    ensures ok { result ≡ verdict_unread fault }
 {
     match fault {
         AttachFault::NotAStore => Verdict::NotAStore,
@@ -44,27 +44,29 @@ fn of_fault(fault: AttachFault) -> Verdict
     }
 }
 
-/// The answer where it was read. O(1).
-fn of_result(told: Result<Option<Broken>, Trouble>) -> Verdict
+/// The verdict on a store whose arrays were gone through, by the first breach, if there is one, or by what stopped it.
+fn of_told(told: Result<Option<Broken>, Trouble>) -> Verdict
     ensures ok { result ≡ verdict_told told }
 {
     match told {
         Ok(None) => Verdict::Sound,
-        Ok(Some(broken)) => Verdict::Unsound {
-            rule: broken.rule,
-            level: broken.level,
-            array: broken.array,
-        },
+        Ok(Some(Broken { rule, level, array })) => Verdict::Unsound { rule, level, array },
         Err(Trouble::NoMemory) => Verdict::NoMemory,
         Err(Trouble::Device) => Verdict::Device,
         Err(Trouble::Damaged { block }) => Verdict::Damaged { block },
     }
 }
 
-/// Checks the store on a disk, and leaves the disk as it is: says whether its state is sound, or which rule is the first that is
-/// broken, in the order m, a to l, the shallowest level first and in a level its arrays in order. Each block of an array is
-/// read three times, beside what `read_store` reads. Takes what `read_store` takes, 84 bytes a version, 16 bytes an array,
-/// and for each array of a level a block and its extents.
+/// Checks the store on a disk, and leaves the disk as it is.
+///
+/// - Sound: the bytes read as a sound state. Unsound: as one that breaks this rule first, in the order m, a to l, the shallowest
+///   level first, its arrays in the manifest's order.
+/// - Damaged: the block that recovery refuses, or else the first block of an array that holds no entries.
+/// - NotAStore: no slot is open with the text of a store. Device: the disk counted a fault. NoMemory: it may come at any time.
+///
+/// It reads what `read_store` reads, and each block of an array three times at most. It takes the memory of `read_store`, 196 bytes for
+/// each version and 24 for each array, and one block, a key and the extents for each array of one level. The time is linear in
+/// the entries, times the logarithm of a level's arrays.
 pub fn check<D: Disk>(alloc: Global, disk: &mut D) -> Verdict
     ensures ok { IsRight (D.view disk.old) result }
     ensures found { ¬ Rose (D.faults disk.old) (D.faults disk.new)
@@ -74,8 +76,10 @@ pub fn check<D: Disk>(alloc: Global, disk: &mut D) -> Verdict
     ensures cause { VerdictHasCause result (D.faults disk.old) (D.faults disk.new) }
     ensures reads { ReadsAtMost 101715479 (D.reads disk.old) (D.reads disk.new) }
 {
-    match read_store(alloc, disk) {
-        Ok(store) => of_result(check_store(alloc, &store, disk)),
-        Err(fault) => of_fault(fault),
-    }
+    let store = match read_store(alloc, disk) {
+        Ok(store) => store,
+        Err(fault) => return of_unread(fault),
+    };
+    let told = check_store(alloc, &store, disk);
+    of_told(told)
 }

@@ -1,4 +1,4 @@
-use Rattle.std.proofs.Common.{◌≡◌, length, sym, arith}
+use Rattle.std.proofs.Common.{sym, arith}
 use Rattle.strat_base.specs.EntryView.{entry_of}
 use Rattle.strat_promote.specs.LeadRuns.{entries_at_hand}
 use Rattle.strat_check.proofs.ScanLemmas.{held_at, one_more_low, one_high}
