@@ -194,8 +194,8 @@ none_bad c h s b e ascend bad =
     let its = level_of c d.0 level.0 level.2 in
     let array = some_there (array_on c) d.0.arrays level.0.arrays bad.array its.arrays d.2 in
     let up = passed_none (has_ascending_entries array.0) (breach 109 level.0.number array.0.id)
-        (empty_each (λ (x : TaggedArray). breach_unless (has_ascending_entries x) (breach 109 level.0.number x.id)) level.0.arrays array.0
-        (empty_each (λ (l : Level). flat_map (λ (x : TaggedArray). breach_unless (has_ascending_entries x) (breach 109 l.number x.id)) l.arrays) s.levels level.0 ascend level.1) array.1) in
+    (empty_each (λ (x : TaggedArray). breach_unless (has_ascending_entries x) (breach 109 level.0.number x.id)) level.0.arrays array.0
+    (empty_each (λ (l : Level). flat_map (λ (x : TaggedArray). breach_unless (has_ascending_entries x) (breach 109 l.number x.id)) l.arrays) s.levels level.0 ascend level.1) array.1) in
     let none = (read_whole c None (blocks_of bad.array.extents) array.0.content (array_of c bad.array array.0 array.2).read up).1 in
     let both : None ≡ Some b = sym none ∙ bad.misfit in
     cc

@@ -236,7 +236,7 @@ reads_all descs i k p q first =
     let a = first.later in
     let b = first.bound in
     let parts = ap (λ (ds : List LevelDesc). blocks_listed (arrays_in ds)) (sym (take-append-drop i descs)) ∙ ap blocks_listed (flat_joined (λ (d : LevelDesc). d.arrays) (take i descs) (drop i descs))
-        ∙ flat_joined (λ (x : ArrayDesc). blocks_of x.extents) (arrays_in (take i descs)) (arrays_in (drop i descs)) in
+    ∙ flat_joined (λ (x : ArrayDesc). blocks_of x.extents) (arrays_in (take i descs)) (arrays_in (drop i descs)) in
     let whole = ap (λ (bs : List ℕ). length bs) parts in
     let both = length-append (blocks_listed (arrays_in (take i descs))) (blocks_listed (arrays_in (drop i descs))) in
     let le : length (blocks_listed (arrays_in (take i descs))) ≤ length (blocks_listed (arrays_in descs)) = omega (arith, whole, both) in

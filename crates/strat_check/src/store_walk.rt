@@ -180,7 +180,14 @@ fn begin(alloc: Global, store: &Reading) -> Result<(Tables, Findings), NoMemory>
         horizon: tree.count(),
         leads: 0,
     };
-    Ok((Tables { leads, array, first }, found))
+    Ok((
+        Tables {
+            leads,
+            array,
+            first,
+        },
+        found,
+    ))
 }
 
 /// Tells the rules of all levels: two reads of each block of their arrays. Errors as of `tell_level`.
