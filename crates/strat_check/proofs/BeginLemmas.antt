@@ -1,6 +1,6 @@
 -- What is found before any level, and what all levels together say.
-use Rattle.std.proofs.Common.{◌≡◌, ◌<◌, ◌≤◌, ◌-◌, ◌^◌, ◌&&◌, ℕ, Bool, true, false, leb, not, min, get_or, inl, inr, List, [], ◌∷◌, ◌++◌, length, map, reverse, drop, Option, None, Some, refl, sym, ap, ◌∙◌, subst, arith, append-nil, true≢false}
-use Rattle.std.specs.List.{list_all, sum_by, flat_map, find, fold, slice_get}
+use Rattle.std.proofs.Common.{◌≡◌, ◌<◌, ◌≤◌, ◌-◌, ◌^◌, ◌&&◌, ℕ, Bool, true, false, leb, not, min, get_or, inl, inr, List, [], ◌∷◌, length, map, reverse, drop, Option, None, Some, refl, sym, ap, ◌∙◌, subst, arith, append-nil, true≢false}
+use Rattle.std.specs.List.{list_all, find, fold, slice_get}
 use Rattle.std.specs.Option.{option_or, is_some}
 use Rattle.std.proofs.lemmas.Bool.{leb-true, le-leb}
 use Rattle.strat_arena.specs.declared.items.Item.{Item}
@@ -14,10 +14,9 @@ use Rattle.strat_base.proofs.ResultFacts.{option_cases}
 use Rattle.def_check.specs.Firsts.{by_rule, first_in}
 use Rattle.def_check.proofs.FirstLemmas.{first_of_rules}
 use Rattle.def_split.proofs.ListLemmas.{bool_same}
-use Rattle.def_state.specs.Breach.{Breach, breach, breaches, array_breaches}
-use Rattle.def_state.specs.Level.{Level, level_leads}
+use Rattle.def_state.specs.Breach.{Breach, breaches, array_breaches}
 use Rattle.def_state.specs.Setting.{set_all}
-use Rattle.def_state.specs.Sound.{has_child_below, has_ascending_entries, has_few_leads}
+use Rattle.def_state.specs.Sound.{has_child_below, has_ascending_entries}
 use Rattle.def_state.specs.State.{State, versions_of, is_living, journal_updates}
 use Rattle.def_state.proofs.UpdateLemmas.{all_among, all_found}
 use Rattle.strat_check.specs.Children.{first_from, lowered}

@@ -1,6 +1,6 @@
 -- Each manifest that recovery finds is fit for the passes over its arrays.
-use Rattle.std.proofs.Common.{◌≡◌, ◌<◌, ◌≤◌, ◌+◌, ◌*◌, ◌^◌, ◌&&◌, ℕ, suc, Bool, true, false, cond, eqb, leb, ltb, inl, inr, List, [], ◌∷◌, ◌++◌, length, Option, None, Some, Ok, Err, refl, sym, ap, ◌∙◌, subst, arith, length-append}
-use Rattle.std.specs.List.{list_all, flat_map, fold, sum_by, IsDistinct}
+use Rattle.std.proofs.Common.{◌≡◌, ◌<◌, ◌≤◌, ◌+◌, ◌*◌, ◌^◌, ◌&&◌, ℕ, true, false, eqb, leb, ltb, inl, inr, List, [], ◌∷◌, ◌++◌, length, Some, Ok, refl, sym, ap, ◌∙◌, subst, arith, length-append}
+use Rattle.std.specs.List.{list_all, flat_map, sum_by, IsDistinct}
 use Rattle.std.proofs.lemmas.Bool.{and_parts, and_from, eqb-true, leb-true, le-leb, ltb-true, false_from_ne_true}
 use Rattle.std.proofs.lemmas.List.Sums.{sum_by-cons}
 use Rattle.std.proofs.lemmas.Map.Steps.{length-le_from_distinct_below}
@@ -8,18 +8,17 @@ use Rattle.std.proofs.Math.ListN.{length-map}
 use Rattle.strat_base.specs.declared.descriptors.ArrayDesc.{ArrayDesc}
 use Rattle.strat_base.specs.declared.descriptors.Extent.{Extent}
 use Rattle.strat_base.specs.declared.descriptors.LevelDesc.{LevelDesc}
-use Rattle.strat_base.specs.declared.limits.TheConstants.{LEVELS, VERSIONS_MAX}
+use Rattle.strat_base.specs.declared.limits.TheConstants.{VERSIONS_MAX}
 use Rattle.strat_base.proofs.ListFacts.{Among, all_at, all_from, any_among, each_from, among_in_flat}
-use Rattle.def_bytes.proofs.DamageLemmas.{and_then_ok}
 use Rattle.def_bytes.proofs.ManifestLemmas.{pass_at}
-use Rattle.def_bytes.specs.Manifest.{Manifest, versions_in, is_counted, is_lawful_extent, is_lawful_array, is_lawful_level}
+use Rattle.def_bytes.specs.Manifest.{Manifest, versions_in, is_lawful_extent, is_lawful_array, is_lawful_level}
 use Rattle.def_crash.specs.Image.{Image}
 use Rattle.def_publish.specs.Occupied.{arrays_in}
 use Rattle.def_recovery.proofs.OpeningLemmas.{manifest_tests, level_tests}
 use Rattle.def_recovery.proofs.PassedLemmas.{array_tests, belonging_tests}
 use Rattle.def_recovery.specs.Head.{Head, head_versions, descriptors}
 use Rattle.def_recovery.specs.Opened.{parents_in}
-use Rattle.def_recovery.specs.Opening.{recover, recover_slot, belongs, has_own_versions, is_filled, array_blocks}
+use Rattle.def_recovery.specs.Opening.{recover, has_own_versions, is_filled, array_blocks}
 use Rattle.def_split.proofs.ListLemmas.{distinct_head, distinct_tail}
 use Rattle.def_state.specs.Level.{is_distinct}
 use Rattle.def_state.proofs.AppendedLemmas.{length-grown}
@@ -102,7 +101,7 @@ module _ (c : Image) (h : Head) (found : recover c ≡ Ok (Some h)) where
       let apart = and_parts (is_distinct tags) (list_all (λ v. ltb v d.horizon) tags) (all_at has_own_versions d m.levels own among) in
       let few = distinct_few tags d.horizon apart.0 (λ v there. ltb-true v d.horizon (all_at (λ u. ltb u d.horizon) v tags apart.1 there)) in
       let some = arrays_few d.arrays (λ a here.
-          leb-true 1 (length a.versions) (and_parts (leb 1 (length a.versions)) (ltb (length a.versions) (2 ^ 32)) (pass_at (array_tests m.next_array a) 9 (all_at (is_lawful_array m.next_array) a d.arrays arrays here))).0) in
+      leb-true 1 (length a.versions) (and_parts (leb 1 (length a.versions)) (ltb (length a.versions) (2 ^ 32)) (pass_at (array_tests m.next_array a) 9 (all_at (is_lawful_array m.next_array) a d.arrays arrays here))).0) in
       and_from (leb d.number 22 && leb d.horizon (length (head_versions h)) && leb (length d.arrays) 16384) (list_all (is_fit_array d.horizon) d.arrays)
       (and_from (leb d.number 22 && leb d.horizon (length (head_versions h))) (leb (length d.arrays) 16384)
       (and_from (leb d.number 22) (leb d.horizon (length (head_versions h)))

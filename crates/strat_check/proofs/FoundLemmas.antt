@@ -1,20 +1,20 @@
 -- What was found of levels, and of one more.
-use Rattle.std.proofs.Common.{◌≡◌, ◌<◌, ◌≤◌, ◌+◌, ◌-◌, ◌^◌, ◌&&◌, ℕ, Bool, true, false, leb, not, min, get_or, inl, inr, List, [], ◌∷◌, ◌++◌, length, map, filter, Option, None, Some, refl, sym, ap, ◌∙◌, subst, arith, append_assoc, append-nil}
-use Rattle.std.specs.List.{list_all, sum_by, flat_map, fold, slice_get, range_with_len, Contains}
+use Rattle.std.proofs.Common.{◌≡◌, ◌≤◌, ◌+◌, ◌-◌, ◌^◌, ◌&&◌, ℕ, Bool, true, false, leb, not, min, inl, List, [], ◌∷◌, ◌++◌, length, filter, Option, refl, sym, ap, ◌∙◌, subst, arith, append_assoc, append-nil}
+use Rattle.std.specs.List.{list_all, sum_by, flat_map, fold, range_with_len, Contains}
 use Rattle.std.specs.Option.{option_or}
 use Rattle.std.proofs.lemmas.Bool.{and_parts, and_from, leb-true, le-leb}
 use Rattle.std.proofs.lemmas.List.Concat.{length-flat_map}
 use Rattle.std.proofs.lemmas.List.Folds.{list_all-append}
 use Rattle.std.proofs.lemmas.List.Sums.{fold_push, sum_by-cons, length-filter, count_by-le-length}
 use Rattle.strat_base.specs.Entries.{Entry, is_tagged}
-use Rattle.strat_base.specs.Tree.{Parents, IsTree}
+use Rattle.strat_base.specs.Tree.{IsTree}
 use Rattle.strat_base.specs.declared.descriptors.LevelDesc.{LevelDesc}
 use Rattle.strat_base.proofs.ListFacts.{Among, among_right}
 use Rattle.def_check.proofs.CheckedLemmas.{among_contained}
 use Rattle.def_check.proofs.FirstLemmas.{first_grown}
 use Rattle.def_crash.specs.Image.{Image}
 use Rattle.def_split.proofs.ListLemmas.{bool_same}
-use Rattle.def_state.specs.Breach.{Breach, breach, breach_unless}
+use Rattle.def_state.specs.Breach.{breach, breach_unless}
 use Rattle.def_state.specs.Level.{TaggedArray, Level, own_leads, level_leads, has_live_tagged, agrees, is_dense, is_led, is_drawn}
 use Rattle.def_state.specs.Sound.{has_child_below, shallower, has_room, has_old_horizon, is_above_frozen, is_described}
 use Rattle.def_state.specs.State.{State, versions_of, journal_updates}
@@ -24,7 +24,7 @@ use Rattle.strat_check.specs.LevelNumbers.{IsLevelToldFrom}
 use Rattle.strat_check.specs.Places.{place_of, first_unless, array_list, first_array, first_in_arrays, first_in_levels, after_array, KeepsLevel}
 use Rattle.strat_check.specs.Sightings.{Sightings}
 use Rattle.strat_check.specs.Strays.{IsCountedLevel}
-use Rattle.strat_check.specs.Walked.{scan_of, AreArraysLooked, leads_of_arrays, AreArraysTold, AreFirstChildren, MayBeTold, IsNextLevel, IsFound}
+use Rattle.strat_check.specs.Walked.{AreArraysLooked, leads_of_arrays, AreArraysTold, AreFirstChildren, IsNextLevel, IsFound}
 use Rattle.strat_check.specs.declared.strays.Strays.{Strays}
 use Rattle.strat_check.specs.declared.level_walk.ArraysTold.{ArraysTold}
 use Rattle.strat_check.specs.declared.level_walk.Findings.{Findings}

@@ -1,43 +1,36 @@
 -- What recovery gives of a state, and what a check of it finds.
-use Rattle.std.proofs.Common.{◌≡◌, ◌<◌, ◌≤◌, ◌+◌, ◌-◌, ◌*◌, ◌^◌, ◌&&◌, ◌||◌, ℕ, suc, Bool, true, false, cond, leb, ltb, not, min, get_or, inl, inr, List, [], ◌∷◌, ◌++◌, length, map, Option, None, Some, Ok, Err, refl, sym, ap, ◌∙◌, subst, arith, append-nil, true≢false, length-append}
-use Rattle.std.specs.List.{list_all, sum_by, flat_map, filter_map, find, fold, slice_get, Contains}
-use Rattle.std.specs.Option.{option_or, option_map, option_and_then, unwrap_or}
-use Rattle.std.proofs.lemmas.Bool.{and_parts, and_from, leb-true, le-leb, ltb-true, lt-ltb}
+use Rattle.std.proofs.Common.{◌≡◌, ◌≤◌, ◌^◌, ◌&&◌, ℕ, Bool, true, false, cond, ltb, inl, inr, List, [], ◌∷◌, ◌++◌, length, Option, None, Some, Ok, Err, refl, sym, ap, ◌∙◌, subst, arith, append-nil}
+use Rattle.std.specs.List.{list_all, sum_by, flat_map, find, Contains}
+use Rattle.std.specs.Option.{option_map, option_and_then, unwrap_or}
+use Rattle.std.proofs.lemmas.Bool.{and_parts, leb-true}
 use Rattle.std.proofs.Math.ListN.{length-map}
 use Rattle.strat_base.specs.declared.descriptors.ArrayDesc.{ArrayDesc}
 use Rattle.strat_base.specs.declared.descriptors.LevelDesc.{LevelDesc}
-use Rattle.strat_base.specs.declared.descriptors.Extent.{Extent}
-use Rattle.strat_base.specs.Entries.{Entry, is_at}
-use Rattle.strat_base.specs.Tree.{Parents, IsTree}
-use Rattle.strat_base.proofs.EntryLemmas.{is_at_version, at_key_version}
-use Rattle.strat_base.proofs.ListFacts.{Among, all_at, all_from, among_flat, among_in_flat, among_reverse, find_some, find_none, flat_empty, empty_each}
-use Rattle.strat_base.proofs.ResultFacts.{option_cases}
+use Rattle.strat_base.specs.Tree.{Parents}
+use Rattle.strat_base.proofs.ListFacts.{Among, all_at, all_from, among_flat, empty_each}
 use Rattle.def_bytes.proofs.DamageLemmas.{and_then_ok, passed_ok}
 use Rattle.def_bytes.proofs.ManifestLemmas.{pass_at}
-use Rattle.def_bytes.specs.Arrays.{all_some, blocks_of, entries_on}
+use Rattle.def_bytes.specs.Arrays.{all_some, blocks_of}
 use Rattle.def_bytes.specs.Chained.{Chained, manifest_at}
 use Rattle.def_bytes.specs.Damage.{Read, and_then, passed_or, found_or}
 use Rattle.def_bytes.specs.Manifest.{Manifest, versions_in, is_lawful_level, is_lawful_manifest}
 use Rattle.def_bytes.specs.SuperBlock.{Super, in_range, verdict, chosen_in, newest_in}
-use Rattle.def_check.specs.Checked.{is_unread, listed_blocks, read_state, check_head}
-use Rattle.def_check.specs.Told.{MayBeCounted}
+use Rattle.def_check.specs.Checked.{is_unread, listed_blocks, check_head}
 use Rattle.def_recovery.proofs.BadLemmas.{contained_at}
 use Rattle.strat_promote.specs.Job.{blocks_listed, IsBadInput}
 use Rattle.strat_promote.proofs.LeadLemmas.{read_whole}
 use Rattle.strat_check.proofs.StoreLemmas.{passed_levels}
 use Rattle.def_crash.specs.Image.{Image}
 use Rattle.def_publish.specs.Occupied.{arrays_in}
-use Rattle.def_publish.proofs.DescribedLemmas.{blocks_counted}
-use Rattle.def_recovery.proofs.HeadLemmas.{counts_said}
 use Rattle.def_recovery.proofs.OpeningLemmas.{map_some, each_some, manifest_tests, level_tests, lawful_found, read_openable}
-use Rattle.def_recovery.proofs.PassedLemmas.{belonging_tests, array_tests, read_passes}
-use Rattle.def_recovery.specs.Head.{Head, head_versions, descriptors}
+use Rattle.def_recovery.proofs.PassedLemmas.{belonging_tests, read_passes}
+use Rattle.def_recovery.specs.Head.{Head, descriptors}
 use Rattle.def_recovery.specs.Opened.{array_on, level_on, parents_in}
-use Rattle.def_recovery.specs.Opening.{recover, recover_slot, recover_head, recover_manifest, recover_journal, opened, state_of, reads_as, belongs, has_own_versions, is_filled, array_blocks}
+use Rattle.def_recovery.specs.Opening.{recover, recover_slot, recover_head, recover_manifest, recover_journal, opened, state_of, reads_as, belongs, has_own_versions}
 use Rattle.def_state.specs.Breach.{Breach, breach, breach_unless, breaches, array_breaches}
-use Rattle.def_state.specs.Level.{TaggedArray, Level, has_disjoint_tags, tagged_versions, is_distinct}
+use Rattle.def_state.specs.Level.{TaggedArray, Level, has_disjoint_tags, is_distinct}
 use Rattle.def_state.specs.Sound.{has_ascending_entries, IsWellFormed}
-use Rattle.def_state.specs.State.{State, versions_of, is_living}
+use Rattle.def_state.specs.State.{State, is_living}
 use Rattle.def_state.proofs.AppendedLemmas.{length-grown}
 use Rattle.def_state.proofs.UndroppedLemmas.{all_living}
 use Rattle.strat_check.specs.StoreScans.{content_of}

@@ -1,17 +1,17 @@
 -- The first breach of a state is in the first place that has one.
-use Rattle.std.proofs.Common.{◌≡◌, ℕ, Bool, true, false, List, [], ◌∷◌, ◌++◌, Option, None, Some, refl, sym, ap, ◌∙◌, leb}
-use Rattle.std.specs.List.{flat_map, slice_get, list_all}
-use Rattle.std.specs.Option.{option_or, option_map}
-use Rattle.strat_base.proofs.ListFacts.{Among, all_at, flat_empty}
+use Rattle.std.proofs.Common.{◌≡◌, Bool, true, false, [], Option, None, Some, refl, sym, ◌∙◌}
+use Rattle.std.specs.List.{slice_get}
+use Rattle.std.specs.Option.{option_or}
+use Rattle.strat_base.proofs.ListFacts.{Among, flat_empty}
 use Rattle.def_state.specs.Breach.{Breach, breach, breach_unless, breaches, level_breaches, array_breaches}
-use Rattle.def_state.specs.Level.{TaggedArray, Level, has_disjoint_tags, has_single_leads, has_live_tagged, agrees, is_dense, is_led, is_drawn}
+use Rattle.def_state.specs.Level.{Level, has_disjoint_tags, has_single_leads, has_live_tagged, agrees, is_dense, is_led, is_drawn}
 use Rattle.def_state.specs.Sound.{has_ascending_entries, has_room, has_old_horizon, is_above_frozen, is_described, has_few_leads}
 use Rattle.def_state.specs.State.{State, versions_of}
 use Rattle.def_state.proofs.LevelLemmas.{ordered_single}
 use Rattle.def_check.specs.Firsts.{by_rule, first_in}
 use Rattle.def_check.specs.Told.{MayBeCounted}
 use Rattle.def_check.proofs.FirstLemmas.{first_of_rules}
-use Rattle.strat_check.specs.Places.{place_of, first_unless, first_place, first_in_levels, first_in_arrays}
+use Rattle.strat_check.specs.Places.{first_unless, first_place}
 use Rattle.strat_check.specs.Walked.{AreFirsts}
 use Rattle.strat_check.specs.declared.places.Places.{Places}
 

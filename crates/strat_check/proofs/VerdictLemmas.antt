@@ -1,7 +1,6 @@
 -- The answer of a check.
-use Rattle.std.proofs.Common.{◌≡◌, ◌≢◌, ◌≤◌, ◌⊎◌, ℕ, inl, inr, List, [], ◌∷◌, Option, None, Some, Result, Ok, Err, IfOk, IsErrOf, refl, sym, ap, ◌∙◌, subst, arith}
+use Rattle.std.proofs.Common.{◌≡◌, ◌⊎◌, ℕ, inl, inr, List, [], ◌∷◌, Option, None, Some, Result, Ok, Err, IfOk, IsErrOf, refl, sym, ap, ◌∙◌}
 use Rattle.std.specs.List.{slice_get}
-use Rattle.std.specs.Option.{option_map}
 use Rattle.strat_base.specs.declared.failures.Trouble.{Trouble}
 use Rattle.strat_base.specs.declared.failures.Trouble.TheVariants as trouble
 use Rattle.def_bytes.specs.Damage.{Read, and_then}
@@ -12,7 +11,7 @@ use Rattle.def_crash.specs.Image.{Image}
 use Rattle.def_crash.specs.Moments.{DiskView, Exposes}
 use Rattle.def_recovery.specs.Head.{Head}
 use Rattle.def_recovery.specs.Opening.{recover, state_of}
-use Rattle.def_state.specs.Breach.{Breach, breach, breaches}
+use Rattle.def_state.specs.Breach.{Breach, breaches}
 use Rattle.def_state.specs.State.{State}
 use Rattle.strat_open.specs.declared.attach_fault.AttachFault.{AttachFault}
 use Rattle.strat_open.specs.declared.attach_fault.AttachFault.TheVariants as fault

@@ -1,8 +1,8 @@
 -- The rules of an array, as they are told from numbers.
-use Rattle.std.specs.Prelude.{◌≡◌, ◌≤◌, ◌<◌, ℕ, ◌*◌, ◌-◌, ◌^◌, not, ◌==◌, ◌&&◌, nat_lt, nat_le, min, Bool, List, [], ◌∷◌, length, map, sum_by, slice_index, Option, Some, None}
+use Rattle.std.specs.Prelude.{◌≡◌, ◌≤◌, ℕ, ◌*◌, ◌-◌, ◌^◌, not, ◌==◌, ◌&&◌, nat_le, min, Bool, List, [], ◌∷◌, length, map, sum_by, slice_index, Option, Some, None}
 use Rattle.std.specs.List.{list_all, Contains}
 use Rattle.strat_base.specs.declared.descriptors.ArrayDesc.{ArrayDesc}
-use Rattle.strat_base.specs.Entries.{Entry, is_ascending}
+use Rattle.strat_base.specs.Entries.{Entry}
 use Rattle.strat_base.specs.Tree.{IsTree}
 use Rattle.def_check.specs.Told.{MayBeCounted, AreLeadsOf}
 use Rattle.def_split.specs.Groups.{grouped_entries, group_versions}

@@ -1,5 +1,5 @@
 -- What was found of levels and their arrays, one after the other.
-use Rattle.std.specs.Prelude.{◌≡◌, ◌≤◌, ◌<◌, ℕ, ◌+◌, ◌-◌, ◌^◌, ◌&&◌, nat_le, not, min, true, List, [], ◌∷◌, ◌++◌, length, map, flat_map, sum_by, slice_get, slice_index_or, Some}
+use Rattle.std.specs.Prelude.{◌≡◌, ◌≤◌, ◌<◌, ℕ, ◌-◌, ◌^◌, ◌&&◌, nat_le, not, min, true, List, ◌∷◌, ◌++◌, length, map, flat_map, sum_by, slice_get, slice_index_or, Some}
 use Rattle.std.specs.List.{list_all, Contains}
 use Rattle.strat_base.specs.Entries.{Entry, is_ascending}
 use Rattle.def_check.specs.Told.{MayBeCounted}

@@ -1,5 +1,4 @@
-use Rattle.std.proofs.Common.{◌≡◌, false, true, sym, ap, ◌∙◌, arith}
-use Rattle.std.proofs.lemmas.Bool.{not-true, not-false}
+use Rattle.std.proofs.Common.{sym, ◌∙◌, arith}
 use Rattle.strat_check.specs.LevelNumbers.{is_quiet}
 use Rattle.strat_check.proofs.RangeLemmas.{tests_on}
 use Rattle.strat_check.proofs.level_rules.are_quiet.Goals as goal

@@ -1,11 +1,9 @@
-use Rattle.std.proofs.Common.{◌≡◌, ◌≤◌, ℕ, length, List, Some, sym, ap, ◌∙◌, subst, arith}
+use Rattle.std.proofs.Common.{length, List, sym, ap, ◌∙◌, subst, arith}
 use Rattle.strat_base.specs.Tree.{Parents, IsTree}
-use Rattle.def_crash.specs.Moments.{OnlyReads}
 use Rattle.def_crash.proofs.MomentLemmas.{reads_trans}
 use Rattle.std.specs.List.{fold, range_with_len}
 use Rattle.strat_check.specs.Children.{lowered_by_own}
 use Rattle.def_state.specs.State.{versions_of}
-use Rattle.strat_check.specs.ArrayNumbers.{IsLevelSeen}
 use Rattle.strat_check.specs.Strays.{IsCountedLevel}
 use Rattle.strat_check.specs.declared.strays.Strays.{Strays}
 use Rattle.strat_check.proofs.WalkLemmas.{level_of}

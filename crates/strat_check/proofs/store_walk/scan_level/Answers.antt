@@ -1,13 +1,13 @@
-use Rattle.std.proofs.Common.{◌≡◌, ◌+◌, length, List, ◌∷◌, [], Some, refl, sym, ap, ◌∙◌, subst, arith, length-append}
+use Rattle.std.proofs.Common.{◌≡◌, length, List, ◌∷◌, [], Some, ap, ◌∙◌, subst, arith, length-append}
 use Rattle.std.specs.List.{slice_get}
 use Rattle.std.proofs.lemmas.List.{take_all}
 use Rattle.strat_base.proofs.ResultFacts.{err_of}
 use Rattle.strat_base.specs.declared.descriptors.ArrayDesc.{ArrayDesc}
 use Rattle.strat_base.specs.declared.failures.Trouble.TheVariants as trouble
-use Rattle.def_crash.proofs.MomentLemmas.{reads_trans, reads_refl}
+use Rattle.def_crash.proofs.MomentLemmas.{reads_trans}
 use Rattle.strat_check.specs.declared.scan.Scan.{Scan}
 use Rattle.strat_check.proofs.WalkLemmas.{slice_at, contained_in, reads_more, reads_front}
-use Rattle.strat_check.proofs.StoreLemmas.{AreScannedArrays, no_arrays_scanned, array_scanned, level_scanned, blamed_array}
+use Rattle.strat_check.proofs.StoreLemmas.{AreScannedArrays, array_scanned, level_scanned, blamed_array}
 use Rattle.strat_check.proofs.store_walk.scan_level.Given.{Over}
 use Rattle.strat_check.proofs.store_walk.scan_level.Goals as goal
 use Rattle.strat_check.proofs.store_walk.scan_level.Goals.{After-scan_array}

@@ -1,4 +1,4 @@
-use Rattle.std.proofs.Common.{◌≡◌, ◌+◌, ℕ, length, List, take, drop, map, Some, refl, sym, ap, ◌∙◌, subst, arith}
+use Rattle.std.proofs.Common.{◌≡◌, ◌+◌, ℕ, length, List, take, drop, Some, refl, sym, ap, ◌∙◌, subst, arith}
 use Rattle.std.specs.List.{slice_get}
 use Rattle.std.specs.Global.{Vec}
 use Rattle.def_state.specs.State.{versions_of}
@@ -6,15 +6,12 @@ use Rattle.std.proofs.lemmas.List.{take_all}
 use Rattle.std.proofs.lemmas.Option.{slice_get_read}
 use Rattle.strat_base.proofs.ListFacts.{all_at, get_among}
 use Rattle.strat_base.proofs.ResultFacts.{err_of}
-use Rattle.strat_base.specs.declared.descriptors.LevelDesc.{LevelDesc}
 use Rattle.strat_base.specs.declared.failures.Trouble.TheVariants as trouble
-use Rattle.def_bytes.specs.Arrays.{all_some}
-use Rattle.def_crash.proofs.MomentLemmas.{reads_trans, reads_refl}
+use Rattle.def_crash.proofs.MomentLemmas.{reads_trans}
 use Rattle.def_recovery.proofs.OpeningLemmas.{length-all_some}
 use Rattle.def_recovery.specs.Opened.{level_on}
 use Rattle.def_state.specs.Level.{Level}
 use Rattle.strat_check.specs.Fit.{is_fit_level}
-use Rattle.strat_check.specs.StoreScans.{HaveScans, scans_of}
 use Rattle.strat_check.specs.Walked.{IsFound, AreFirstChildren}
 use Rattle.strat_check.specs.declared.level_walk.Findings.{Findings}
 use Rattle.strat_check.specs.declared.scan.Scan.{Scan}

@@ -1,4 +1,4 @@
-use Rattle.std.proofs.Common.{◌≡◌, ◌≤◌, ◌^◌, ℕ, leb, length, List, Some, sym, ap, ◌∙◌, subst, arith}
+use Rattle.std.proofs.Common.{◌≡◌, ◌≤◌, ◌^◌, leb, length, List, sym, ap, ◌∙◌, subst, arith}
 use Rattle.std.specs.List.{Contains, sum_by}
 use Rattle.strat_array.specs.Within.{AreWithin}
 use Rattle.strat_base.specs.declared.descriptors.ArrayDesc.{ArrayDesc}
@@ -12,8 +12,6 @@ use Rattle.def_recovery.proofs.HeadLemmas.{counts_said}
 use Rattle.def_recovery.proofs.PassedLemmas.{read_passes}
 use Rattle.def_recovery.specs.Opened.{level_on}
 use Rattle.def_state.specs.Level.{Level, level_leads}
-use Rattle.def_state.specs.Sound.{has_few_leads}
-use Rattle.def_state.specs.State.{versions_of}
 use Rattle.strat_check.proofs.BeginLemmas.{few_told}
 use Rattle.strat_check.proofs.HeadLemmas.{levels_of, parts_of, read_as}
 use Rattle.strat_check.proofs.PlaceLemmas.{first_found}

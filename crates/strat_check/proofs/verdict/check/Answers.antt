@@ -1,8 +1,8 @@
-use Rattle.std.proofs.Common.{◌≡◌, ℕ, Option, Err, sym, ap, ◌∙◌, subst}
+use Rattle.std.proofs.Common.{ℕ, Err, sym, ap, ◌∙◌, subst}
 use Rattle.strat_base.proofs.ResultFacts.{if_ok_then}
 use Rattle.def_crash.proofs.MomentLemmas.{reads_trans}
 use Rattle.strat_open.specs.declared.attach_fault.AttachFault.{AttachFault}
-use Rattle.strat_check.specs.Verdicts.{verdict_unread, verdict_told, IsRight, VerdictHasCause}
+use Rattle.strat_check.specs.Verdicts.{verdict_told, IsRight, VerdictHasCause}
 use Rattle.strat_check.specs.declared.verdict.Verdict.{Verdict}
 use Rattle.strat_check.proofs.VerdictLemmas.{fault_right, fault_caused, told_right, told_caused, found_from}
 use Rattle.strat_check.proofs.verdict.check.Given.{Over}
