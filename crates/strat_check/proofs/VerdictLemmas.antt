@@ -73,5 +73,5 @@ pub found_from : (disk : DiskView) (answer : Verdict) (before now : ℕ) → IsR
 found_from disk answer before now right cause calm f exposed =
     elim (right f exposed) [
       | inl is ↦ inl is
-      | inr other ↦ elim other [ | inl short ↦ inr short | inr device ↦ absurd (calm (cause.device device)) ]
+      | inr other ↦ elim other [ inl short ↦ inr short | inr device ↦ absurd (calm (cause.device device)) ]
     ]
