@@ -11,6 +11,7 @@ ghost use Rattle.def_pins.specs.Openings.{filled_chain, chain_with, chained_arra
 /// version was dropped; the change and the versions of the journal count, and its keys have lawful sizes.
 pub fn states_open_up_to_their_bounds()
     ensures ok { PassesOpening filled_chain }
+    ensures limits { ¬ PassesOpening (record filled_chain { mem = 3 }) }
     ensures updates { ¬ PassesOpening (record filled_chain { updates = 5 }) }
     ensures changes { ¬ PassesOpening (record filled_chain { changes_max = 4 }) }
     ensures versions { ¬ PassesOpening (record filled_chain { versions_max = 3 }) }
