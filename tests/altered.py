@@ -28,7 +28,7 @@ import words
 FIELD = re.compile(r"^  (?:pub )?([\w'-]+) :", re.M)
 TURNED = {" < ": " ≤ ", " ≤ ": " < ", "nat_lt ": "nat_le ", "nat_le ": "nat_lt "}
 JOINED = ("&&", "×", "⊎", "++", "+")
-STOPS = ("→", "=", "≡", "≤", "<", "then", "else", "in", ":", ",", ";", "∷")
+STOPS = ("→", "=", "≡", "≤", "<", "then", "else", "in", ":", "∷")
 PAIRED = {"before": "now", "now": "before", "old": "new", "new": "old", "take": "drop", "drop": "take"}
 
 
@@ -84,10 +84,8 @@ def depth_ends(text, at, step, start, end):
             if depth == 0:
                 return i if step > 0 else i + 1
             depth -= 1
-        elif depth == 0:
-            word = next((w for w in (*STOPS, *JOINED) if is_word(text, i, w, step)), None)
-            if word:
-                return i if step > 0 else i + 1
+        elif depth == 0 and (c in ",;" or any(is_word(text, i, w, step) for w in (*STOPS, *JOINED))):
+            return i if step > 0 else i + 1
         i += step
     return end if step > 0 else start
 
