@@ -53,6 +53,12 @@ pub fn arrays_open_up_to_their_bounds()
         (record chained_array { tag = 1 ∷ [] } ∷ record chained_array { tag = 2 ∷ [] } ∷ [])) }
 {}
 
+/// The arrays of a level stand in the order of their first versions, whichever come behind these.
+pub fn arrays_are_ordered_by_their_first_versions()
+    ensures ok { PassesOpening (chain_with 4 (record chained_array { tag = 1 ∷ 3 ∷ [] }
+        ∷ record chained_array { id = 2; tag = 2 ∷ [] } ∷ [])) }
+{}
+
 /// A key has a byte at least; a value has up to 1,024 bytes, and need not be there.
 pub fn keys_and_values_are_sized()
     ensures none { is_sized (record { key = 97 ∷ []; version = 0; value = None }) ≡ true }
