@@ -1,5 +1,5 @@
 -- What recovery gives of a state, and what a check of it finds.
-use Rattle.std.proofs.Common.{◌≡◌, ◌<◌, ◌≤◌, ◌+◌, ◌-◌, ◌*◌, ◌^◌, ◌&&◌, ◌||◌, ℕ, suc, Bool, true, false, leb, ltb, not, min, get_or, inl, inr, List, [], ◌∷◌, ◌++◌, length, map, Option, None, Some, Ok, Err, refl, sym, ap, ◌∙◌, subst, arith, append-nil, true≢false, length-append}
+use Rattle.std.proofs.Common.{◌≡◌, ◌<◌, ◌≤◌, ◌+◌, ◌-◌, ◌*◌, ◌^◌, ◌&&◌, ◌||◌, ℕ, suc, Bool, true, false, cond, leb, ltb, not, min, get_or, inl, inr, List, [], ◌∷◌, ◌++◌, length, map, Option, None, Some, Ok, Err, refl, sym, ap, ◌∙◌, subst, arith, append-nil, true≢false, length-append}
 use Rattle.std.specs.List.{list_all, sum_by, flat_map, filter_map, find, fold, slice_get, Contains}
 use Rattle.std.specs.Option.{option_or, option_map, option_and_then, unwrap_or}
 use Rattle.std.proofs.lemmas.Bool.{and_parts, and_from, leb-true, le-leb, ltb-true, lt-ltb}
@@ -18,7 +18,7 @@ use Rattle.def_bytes.specs.Arrays.{all_some, blocks_of, entries_on}
 use Rattle.def_bytes.specs.Chained.{Chained, manifest_at}
 use Rattle.def_bytes.specs.Damage.{Read, and_then, passed_or, found_or}
 use Rattle.def_bytes.specs.Manifest.{Manifest, versions_in, is_lawful_level, is_lawful_manifest}
-use Rattle.def_bytes.specs.SuperBlock.{Super, newest_in}
+use Rattle.def_bytes.specs.SuperBlock.{Super, in_range, verdict, chosen_in, newest_in}
 use Rattle.def_check.specs.Checked.{is_unread, listed_blocks, read_state, check_head}
 use Rattle.def_check.specs.Told.{MayBeCounted}
 use Rattle.def_recovery.proofs.BadLemmas.{contained_at}
@@ -46,9 +46,29 @@ use Rattle.strat_check.proofs.WalkLemmas.{array_of, level_of, part_few}
 
 -- where a head was found: its manifest belongs to its superblock, and has a spelling
 
+-- the limit of changes in a superblock that was chosen
+
+range_most : (s : Super) → in_range s ≡ true → s.changes_max ≤ 16777216
+range_most s e =
+    let v_most = and_parts _ _ e in
+    let v_least = and_parts _ _ v_most.0 in
+    let c_most = and_parts _ _ v_least.0 in
+    leb-true s.changes_max 16777216 c_most.1
+
+chosen_most : (o : Option (ℕ × Super)) (slot : ℕ × Super) → verdict o ≡ Ok (Some slot) → slot.1.changes_max ≤ 16777216
+chosen_most None slot e = absurd (cc)
+chosen_most (Some x) slot e = by_range (in_range x.1) refl e
+  where
+    by_range : (b : Bool) → in_range x.1 ≡ b → cond b (Ok (Some (x.0, x.1))) (Err x.0) ≡ Ok (Some slot) → slot.1.changes_max ≤ 16777216
+    by_range true is e =
+        let same : (x.0, x.1) ≡ slot = cc in
+        subst (λ (y : ℕ × Super). y.1.changes_max ≤ 16777216) same (range_most x.1 is)
+    by_range false is e = absurd (cc)
+
 pub record IsFoundHead (c : Image) (h : Head) : Type 0 where
   pub belonging : (x : Chained) × (belongs h.sb x ≡ true) × (x.manifest ≡ h.manifest)
   pub spelled : (format : ℕ) × (is_lawful_manifest format h.manifest ≡ true)
+  pub limit : h.sb.changes_max ≤ 16777216
 
 slot_found : (c : Image) (slot : Option (ℕ × Super)) (h : Head) → recover_slot c slot ≡ Ok (Some h) → (x : ℕ × Super) × (slot ≡ Some x) × (recover_head c x.1 ≡ Ok h)
 slot_found c None h e = absurd (cc)
@@ -72,6 +92,7 @@ head_found c h e =
     subst (IsFoundHead c) same (record {
       belonging = (chained.0, here.0, here.1);
       spelled = (sb.format, lawful_found c sb manifest.0 journal.0 manifest.1 journal.1);
+      limit = chosen_most (chosen_in c) behind.0 (slot.1 ∙ ap (λ (o : Option (ℕ × Super)). Ok o) behind.1);
     })
 
 -- a state is read from the levels of a head

@@ -4,6 +4,7 @@ pub mod BareLemmas
 pub mod BeginLemmas
 pub mod ChildLemmas
 pub mod CountedArrayLemmas
+pub mod FitFound
 pub mod FitLemmas
 pub mod FoundLemmas
 pub mod GroupingLemmas

@@ -309,7 +309,9 @@ pub fn check_store<D: Disk>(
     let levels = store.manifest().levels.as_slice();
     if !are_fit(levels, store.versions()) {
         // No manifest that recovery finds is so.
-        return Err(Trouble::NoMemory);
+        return Err(Trouble::Damaged {
+            block: store.superblock().manifest,
+        });
     }
     let scanned = scan_levels(alloc, levels, store.versions(), disk)?;
     if scanned.unordered.is_some() {

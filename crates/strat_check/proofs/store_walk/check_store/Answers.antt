@@ -1,4 +1,4 @@
-use Rattle.std.proofs.Common.{◌≡◌, ◌≤◌, ◌*◌, ◌^◌, ℕ, true, false, length, List, map, Option, Some, sym, ap, ◌∙◌, subst, arith}
+use Rattle.std.proofs.Common.{◌≡◌, ◌≤◌, ◌*◌, ◌^◌, ℕ, true, false, length, List, map, Option, Some, sym, ap, ◌∙◌, subst, arith, true≢false}
 use Rattle.std.specs.List.{find, sum_by}
 use Rattle.std.specs.Option.{is_some}
 use Rattle.strat_base.proofs.ResultFacts.{err_of, if_ok_then}
@@ -22,6 +22,8 @@ use Rattle.strat_check.specs.Places.{place_of, first_in_arrays}
 use Rattle.strat_check.specs.StoreScans.{scans_of, content_scanned}
 use Rattle.strat_check.specs.declared.store_walk.StoreScans.{StoreScans}
 use Rattle.strat_check.proofs.BeginLemmas.{all_ascend, unordered_first}
+use Rattle.def_recovery.specs.Head.{head_versions}
+use Rattle.strat_check.proofs.FitFound.{found_fit}
 use Rattle.strat_check.proofs.FitLemmas.{all_within, blocks_few}
 use Rattle.strat_check.proofs.HeadLemmas.{state_made, may_be_told, none_bad, blamed_head}
 use Rattle.strat_check.proofs.StoreLemmas.{reads_few, reads_thrice}
@@ -37,6 +39,13 @@ fit g c = sym c.are_fit.ensures.ok ∙ c.if-not-are_fit.false
 
 pub scan_levels-requires : goal.scan_levels-requires
 scan_levels-requires g c = record { fits = all_within c.versions.result c.as_slice-levels.result.now (sym c.are_fit.ensures.ok ∙ c.if-not-are_fit.false) }
+
+pub returns-then-not-are_fit-clause-damaged : goal.returns-then-not-are_fit-clause-damaged
+returns-then-not-are_fit-clause-damaged g c = λ b torn f exposed found.
+    let sound : are_fit (length (head_versions c.args.store.now)) c.args.store.now.manifest.levels ≡ true = found_fit f c.args.store.now found in
+    let here : c.are_fit.result ≡ true =
+    c.are_fit.ensures.ok ∙ (λ i. are_fit (c.versions.ensures.ok i) ((c.as_slice-levels.ensures.ok ∙ ap (λ (m : Manifest). m.levels) c.manifest.ensures.ok) i)) ∙ sound in
+    absurd (true≢false (sym here ∙ c.if-not-are_fit.true))
 
 pub tell_store-requires-clause-fits : goal.tell_store-requires-clause-fits
 tell_store-requires-clause-fits g c =
