@@ -11,6 +11,7 @@ ghost use Rattle.def_pins.specs.Openings.{filled_chain, chain_with, chained_arra
 /// version was dropped; the change and the versions of the journal count, and its keys have lawful sizes.
 pub fn states_open_up_to_their_bounds()
     ensures ok { PassesOpening filled_chain }
+    ensures limits { ¬ PassesOpening (record filled_chain { mem = 3 }) }
     ensures updates { ¬ PassesOpening (record filled_chain { updates = 5 }) }
     ensures changes { ¬ PassesOpening (record filled_chain { changes_max = 4 }) }
     ensures versions { ¬ PassesOpening (record filled_chain { versions_max = 3 }) }
@@ -50,6 +51,12 @@ pub fn arrays_open_up_to_their_bounds()
         ∷ [])) }
     ensures distinct { ¬ PassesOpening (chain_with 4
         (record chained_array { tag = 1 ∷ [] } ∷ record chained_array { tag = 2 ∷ [] } ∷ [])) }
+{}
+
+/// The arrays of a level stand in the order of their first versions, whichever come behind these.
+pub fn arrays_are_ordered_by_their_first_versions()
+    ensures ok { PassesOpening (chain_with 4 (record chained_array { tag = 1 ∷ 3 ∷ [] }
+        ∷ record chained_array { id = 2; tag = 2 ∷ [] } ∷ [])) }
 {}
 
 /// A key has a byte at least; a value has up to 1,024 bytes, and need not be there.

@@ -22,7 +22,7 @@ use Rattle.def_recovery.specs.Opening.{recover, has_own_versions, is_filled, arr
 use Rattle.def_split.proofs.ListLemmas.{distinct_head, distinct_tail}
 use Rattle.def_state.specs.Level.{is_distinct}
 use Rattle.def_state.proofs.AppendedLemmas.{length-grown}
-use Rattle.strat_check.specs.Fit.{ends_within, is_fit_array, is_fit_level, blocks_in, are_fit}
+use Rattle.strat_check.specs.Fit.{ends_within, is_fit_array, is_fit_level, blocks_of_levels, are_fit}
 use Rattle.strat_check.proofs.HeadLemmas.{IsFoundHead, head_found}
 
 -- numbers below another, none of which stands twice, are no more than that
@@ -71,7 +71,7 @@ sum_joined g (x ∷ xs) ys =
     let right = sum_by-cons g x xs in
     omega (arith, rest, left, right)
 
-blocks_all : (levels : List LevelDesc) → blocks_in levels ≡ sum_by (λ (a : ArrayDesc). sum_by (λ (x : Extent). x.len) a.extents) (arrays_in levels)
+blocks_all : (levels : List LevelDesc) → blocks_of_levels levels ≡ sum_by (λ (a : ArrayDesc). sum_by (λ (x : Extent). x.len) a.extents) (arrays_in levels)
 blocks_all [] = refl
 blocks_all (level ∷ levels) =
     let rest = blocks_all levels in
@@ -126,6 +126,6 @@ module _ (c : Image) (h : Head) (found : recover c ≡ Ok (Some h)) where
       let blocks = blocks_filled (descriptors m) filled in
       let all = blocks_all m.levels in
       let most = head.limit in
-      and_from (list_all (is_fit_level (length (head_versions h))) m.levels) (leb (blocks_in m.levels) 33554432)
+      and_from (list_all (is_fit_level (length (head_versions h))) m.levels) (leb (blocks_of_levels m.levels) 33554432)
       (all_from (is_fit_level (length (head_versions h))) m.levels level_fit)
-      (le-leb (blocks_in m.levels) 33554432 (omega (arith, led, changes, updates, blocks, all, most)))
+      (le-leb (blocks_of_levels m.levels) 33554432 (omega (arith, led, changes, updates, blocks, all, most)))

@@ -33,7 +33,7 @@ use Rattle.def_state.specs.Sound.{has_ascending_entries, IsWellFormed}
 use Rattle.def_state.specs.State.{State, is_living}
 use Rattle.def_state.proofs.AppendedLemmas.{length-grown}
 use Rattle.def_state.proofs.UndroppedLemmas.{all_living}
-use Rattle.strat_check.specs.StoreScans.{content_of}
+use Rattle.strat_check.specs.StoreScans.{content_scanned}
 use Rattle.strat_check.specs.Walked.{MayBeTold}
 use Rattle.strat_check.proofs.WalkLemmas.{array_of, level_of, part_few}
 
@@ -180,7 +180,7 @@ module _ (c : Image) (h : Head) (s : State) (found : recover c ≡ Ok (Some h)) 
       let count = length-map m.parents (λ (p : ℕ). Some p) in
       omega (arith, le, same, parents, count)
 
-  pub may_be_told : array_breaches s 109 (λ level a. has_ascending_entries a) ≡ [] → sum_by content_of s.levels ≤ 2 ^ 48 → MayBeTold s
+  pub may_be_told : array_breaches s 109 (λ level a. has_ascending_entries a) ≡ [] → sum_by content_scanned s.levels ≤ 2 ^ 48 → MayBeTold s
   may_be_told ascend few = record {
     formed = formed;
     living = living;
@@ -195,7 +195,7 @@ module _ (c : Image) (h : Head) (s : State) (found : recover c ≡ Ok (Some h)) 
           disjoint = disjoint level among;
         };
     old = λ level has. old level (contained_among s.levels level has);
-    few = λ level has. let part = part_few content_of s.levels level (contained_among s.levels level has) in omega (arith, part, few);
+    few = λ level has. let part = part_few content_scanned s.levels level (contained_among s.levels level has) in omega (arith, part, few);
   }
 
 -- a block of entries that ascend is no bad one

@@ -1,13 +1,14 @@
 -- Levels that are scanned one after the other, and what recovery gives of them.
-use Rattle.std.proofs.Common.{◌≡◌, ◌≤◌, ◌+◌, ◌*◌, ℕ, Bool, true, false, cond, List, [], ◌∷◌, ◌++◌, length, map, take, drop, Option, None, Some, refl, sym, ap, ◌∙◌, arith, append_assoc, append-nil, length-append}
-use Rattle.std.specs.List.{sum_by, flat_map, find, slice_get, Contains}
+use Rattle.std.proofs.Common.{◌≡◌, ◌<◌, ◌≤◌, ◌+◌, ◌-◌, ◌*◌, ◌^◌, ◌&&◌, ◌||◌, ℕ, zero, suc, Bool, true, false, cond, leb, ltb, not, min, get_or, inl, inr, List, [], ◌∷◌, ◌++◌, length, map, take, drop, Option, None, Some, Ok, Err, refl, sym, ap, ◌∙◌, subst, arith, append_assoc, append-nil, length-append, true≢false}
+use Rattle.std.specs.List.{list_all, sum_by, flat_map, find, fold, slice_get, range_with_len, Contains}
 use Rattle.std.proofs.lemmas.List.{map-append, take-append-drop}
 use Rattle.std.proofs.lemmas.List.Sums.{fold_push}
 use Rattle.std.specs.Option.{option_or, option_map, option_and_then, is_none}
+use Rattle.std.proofs.lemmas.Bool.{and_parts, and_from, leb-true, le-leb, ltb-true, lt-ltb}
 use Rattle.strat_base.specs.Entries.{Entry, is_ascending}
 use Rattle.strat_base.specs.declared.descriptors.ArrayDesc.{ArrayDesc}
 use Rattle.strat_base.specs.declared.descriptors.LevelDesc.{LevelDesc}
-use Rattle.strat_base.proofs.ListFacts.{get_among, among_in_flat}
+use Rattle.strat_base.proofs.ListFacts.{Among, get_is, get_among, among_in_flat}
 use Rattle.std.proofs.Math.ListN.{length-map}
 use Rattle.std.proofs.lemmas.Option.{slice_get-map}
 use Rattle.def_check.proofs.CheckedLemmas.{among_contained}
@@ -24,15 +25,15 @@ use Rattle.def_state.specs.Breach.{Breach, breach, breach_unless}
 use Rattle.def_state.specs.Level.{TaggedArray, Level}
 use Rattle.def_state.specs.Sound.{has_ascending_entries}
 use Rattle.strat_promote.specs.Job.{blocks_listed, IsBadInput}
-use Rattle.strat_check.specs.Places.{place_of, first_unless, array_list, first_array}
-use Rattle.strat_check.specs.Scanned.{IsScanned}
-use Rattle.strat_check.specs.StoreScans.{scans_of, content_of, IsScannedLevel, AreScannedLevels, HaveScans}
+use Rattle.strat_check.specs.Places.{breach_of, place_of, first_unless, array_list, first_array_breach, first_in_arrays}
+use Rattle.strat_check.specs.Scanned.{IsScanned, have_low_versions, first_empty}
+use Rattle.strat_check.specs.StoreScans.{scans_of, content_scanned, IsScannedLevel, AreScannedLevels, HaveScans}
 use Rattle.strat_check.specs.Walked.{scan_of}
 use Rattle.strat_check.specs.declared.places.Broken.{Broken}
 use Rattle.strat_check.specs.declared.scan.Scan.{Scan}
 use Rattle.strat_check.specs.declared.store_walk.LevelScans.{LevelScans}
 use Rattle.strat_check.specs.declared.store_walk.StoreScans.{StoreScans}
-use Rattle.strat_check.proofs.WalkLemmas.{array_of, level_of, take_at}
+use Rattle.strat_check.proofs.WalkLemmas.{IsArrayOf, array_of, IsLevelOf, level_of, take_at, get_within}
 
 -- lists
 
@@ -97,7 +98,7 @@ pub record AreScannedArrays (f : Image) (n level : ℕ) (descs : List ArrayDesc)
   pub arrays : List TaggedArray
   pub on_disk : all_some (array_on f) descs ≡ Some arrays
   pub scanned : r.scans ≡ map (scan_of n) arrays
-  pub first : place_of r.unordered ≡ option_or (place_of before) (first_array 109 level has_ascending_entries arrays)
+  pub first : place_of r.unordered ≡ option_or (place_of before) (first_array_breach 109 level has_ascending_entries arrays)
   pub few : sum_by (λ (a : TaggedArray). length a.content) arrays ≤ 454 * length (blocks_listed descs)
 
 or_none : {A : Type 0} (o : Option A) → option_or o None ≡ o
@@ -137,7 +138,7 @@ array_scanned f n level descs i desc before was now scan at are s small scans pl
   scanned = scans ∙ (λ j. are.scanned j ++ scan_is j ∷ []) ∙ sym (map-append (scan_of n) are.arrays (a ∷ []));
   first =
       place ∙ (λ j. option_or (are.first j) (first_unless (s.ascends j) (breach 109 level desc.id)))
-      ∙ or_assoc (place_of before) (first_array 109 level has_ascending_entries are.arrays) (first_unless (is_ascending a.content) (breach 109 level a.id))
+      ∙ or_assoc (place_of before) (first_array_breach 109 level has_ascending_entries are.arrays) (first_unless (is_ascending a.content) (breach 109 level a.id))
       ∙ ap (option_or (place_of before)) (sym (first_grown (λ (b : TaggedArray). breach_unless (has_ascending_entries b) (breach 109 level b.id)) are.arrays a));
   few =
       let sum = sum_pushed (λ (b : TaggedArray). length b.content) are.arrays a in
@@ -184,10 +185,10 @@ levels_scanned f n descs i desc was now next at are one scans same = record {
   on_disk = some_more (level_on f) descs i desc are.levels one.level at are.on_disk one.on_disk;
   scanned = scans ∙ (λ j. are.scanned j ++ one.scanned j ∷ []) ∙ sym (map-append (scans_of n) are.levels (one.level ∷ []));
   first =
-      ap place_of same ∙ one.first ∙ ap (λ (o : Option Breach). option_or o (first_array 109 one.level.number has_ascending_entries one.level.arrays)) are.first
+      ap place_of same ∙ one.first ∙ ap (λ (o : Option Breach). option_or o (first_array_breach 109 one.level.number has_ascending_entries one.level.arrays)) are.first
       ∙ sym (first_grown (λ (level : Level). array_list 109 level.number has_ascending_entries level.arrays) are.levels one.level);
   few =
-      let sum = sum_pushed content_of are.levels one.level in
+      let sum = sum_pushed content_scanned are.levels one.level in
       let listed = ap (λ (bs : List ℕ). length bs) (arrays_more descs i desc at) in
       let both = length-append (blocks_listed (arrays_in (take i descs))) (blocks_listed desc.arrays) in
       let before' = are.few in

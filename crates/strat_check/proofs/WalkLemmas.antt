@@ -1,6 +1,6 @@
 -- Arrays and levels that are gone through one after the other.
-use Rattle.std.proofs.Common.{◌≡◌, ◌<◌, ◌≤◌, ◌+◌, ◌-◌, ◌^◌, ℕ, zero, suc, Bool, true, min, get_or, inl, inr, List, [], ◌∷◌, ◌++◌, length, take, Option, Some, refl, sym, ap, ◌∙◌, arith, length-append}
-use Rattle.std.specs.List.{sum_by, slice_get, Contains}
+use Rattle.std.proofs.Common.{◌≡◌, ◌<◌, ◌≤◌, ◌+◌, ◌-◌, ◌^◌, ℕ, zero, suc, Bool, true, min, get_or, inl, inr, List, [], ◌∷◌, ◌++◌, length, map, take, Option, None, Some, refl, sym, ap, ◌∙◌, subst, arith, length-append}
+use Rattle.std.specs.List.{list_all, sum_by, flat_map, slice_get, Contains}
 use Rattle.std.specs.Option.{option_or, option_map}
 use Rattle.std.proofs.lemmas.List.{take_more}
 use Rattle.std.proofs.lemmas.List.Sums.{fold_push, sum_by-cons}
@@ -8,6 +8,7 @@ use Rattle.std.proofs.lemmas.Option.{slice_get-map, slice_get_read}
 use Rattle.strat_base.specs.Entries.{Entry, is_ascending}
 use Rattle.strat_base.specs.declared.descriptors.ArrayDesc.{ArrayDesc}
 use Rattle.strat_base.specs.declared.descriptors.LevelDesc.{LevelDesc}
+use Rattle.strat_base.specs.Tree.{Parents}
 use Rattle.strat_base.proofs.ListFacts.{Among, all_at, get_is, get_among}
 use Rattle.def_bytes.specs.Arrays.{all_some, blocks_of, entries_on}
 use Rattle.def_check.proofs.FirstLemmas.{first_grown}
@@ -17,17 +18,19 @@ use Rattle.strat_promote.specs.Job.{blocks_listed}
 use Rattle.def_recovery.proofs.BadLemmas.{contained_at}
 use Rattle.def_recovery.proofs.OpeningLemmas.{map_some, each_some, length-all_some}
 use Rattle.def_recovery.specs.Opened.{array_on, level_on}
-use Rattle.def_state.specs.Breach.{breach, breach_unless}
+use Rattle.def_split.specs.Groups.{grouped_entries}
+use Rattle.def_state.specs.Breach.{Breach, breach, breach_unless}
 use Rattle.def_state.specs.Level.{TaggedArray, Level, own_leads, agrees, is_dense, is_led, is_drawn}
 use Rattle.def_state.specs.Sound.{has_ascending_entries, is_described}
 use Rattle.def_state.specs.State.{State, versions_of}
 use Rattle.strat_check.specs.ArrayCounts.{IsSightOf}
-use Rattle.strat_check.specs.ArrayNumbers.{IsToldFrom, IsArrayTold}
-use Rattle.strat_check.specs.Places.{place_of, first_unless, first_array, after_array, NoArrayPlaces, KeepsArray}
+use Rattle.strat_check.specs.ArrayNumbers.{IsToldFrom, IsArrayCounted, IsArrayTold}
+use Rattle.strat_check.specs.Places.{place_of, first_unless, array_list, first_array_breach, after_array, NoArrayPlaces, KeepsArray}
 use Rattle.strat_check.specs.Sightings.{Sightings}
-use Rattle.strat_check.specs.Walked.{scan_of, IsArrayLooked, AreArraysLooked, leads_of_arrays, AreArraysTold}
+use Rattle.strat_check.specs.Walked.{scan_of, IsArrayLooked, AreArraysLooked, ArePlacesOf, leads_of_arrays, AreArraysTold}
 use Rattle.strat_check.specs.declared.strays.Strays.{Strays}
 use Rattle.strat_check.specs.declared.level_walk.ArraysTold.{ArraysTold}
+use Rattle.strat_check.specs.declared.places.ArrayPlaces.{ArrayPlaces}
 use Rattle.strat_check.specs.declared.places.ArrayTold.{ArrayTold}
 use Rattle.strat_check.specs.declared.places.Broken.{Broken}
 use Rattle.strat_check.specs.declared.scan.Scan.{Scan}
@@ -129,12 +132,12 @@ part_few f (y ∷ xs) x (inr there) = let cons = sum_by-cons f y xs in let rest 
 
 module _ (s : State) (on : Level) (before now : ArraysTold) (i : ℕ) (a : TaggedArray) (level id : ℕ) (one : ArrayTold) where
   place_grown : (rule : ℕ) (test : TaggedArray → Bool) (old new : Option Broken) (passes : Bool) → level ≡ on.number → id ≡ a.id → slice_get on.arrays i ≡ Some a
-      → place_of old ≡ first_array rule on.number test (take i on.arrays) → passes ≡ test a → place_of new ≡ after_array old passes rule level id
-      → place_of new ≡ first_array rule on.number test (take (i + 1) on.arrays)
+      → place_of old ≡ first_array_breach rule on.number test (take i on.arrays) → passes ≡ test a → place_of new ≡ after_array old passes rule level id
+      → place_of new ≡ first_array_breach rule on.number test (take (i + 1) on.arrays)
   place_grown rule test old new passes number same at was told is =
       is ∙ (λ j. option_or (was j) (first_unless (told j) (breach rule (number j) (same j))))
       ∙ sym (first_grown (λ (b : TaggedArray). breach_unless (test b) (breach rule on.number b.id)) (take i on.arrays) a)
-      ∙ ap (λ (xs : List TaggedArray). first_array rule on.number test xs) (sym (take_at on.arrays i a at))
+      ∙ ap (λ (xs : List TaggedArray). first_array_breach rule on.number test xs) (sym (take_at on.arrays i a at))
 
   pub arrays_more : level ≡ on.number → id ≡ a.id → slice_get on.arrays i ≡ Some a → AreArraysTold s on (take i on.arrays) before → IsArrayTold s on a one
       → KeepsArray before.places now.places level id one → now.leads ≡ min (before.leads + one.leads) (2 ^ 64 - 1) → AreArraysTold s on (take (i + 1) on.arrays) now

@@ -1,2 +1,3 @@
 mod AskingLemmas
+mod OpeningLemmas
 mod PublicationLemmas

@@ -1,12 +1,15 @@
 -- Arrays, cursors, memory and a store of which little matters but what an example asks.
-use Rattle.std.specs.Prelude.{ℕ, false, List, [], ◌∷◌, Option, None, Some}
+use Rattle.std.specs.Prelude.{◌≡◌, ◌⊎◌, ℕ, false, List, [], ◌∷◌, Option, None, Some, replicate}
+use Rattle.strat_base.specs.Change.{Clone}
 use Rattle.strat_base.specs.Entries.{Entry}
 use Rattle.strat_base.specs.declared.descriptors.ArrayDesc.{ArrayDesc}
 use Rattle.strat_base.specs.declared.descriptors.LevelDesc.{LevelDesc}
 use Rattle.strat_cursor.specs.Held.{HeldCursor, HeldCursors}
 use Rattle.def_crash.specs.Image.{Image, patch}
+use Rattle.def_crash.specs.Moments.{DiskView}
 use Rattle.def_bytes.specs.Manifest.{new_manifest}
 use Rattle.def_recovery.specs.Disks.{array_block, new_super}
+use Rattle.strat_journal.specs.Log.{Log}
 use Rattle.strat_memory.specs.Held.{Held}
 use Rattle.strat_memory.specs.Memory.{Memory, fresh_memory}
 
@@ -72,3 +75,17 @@ one_block = patch (λ i. 0) 28672 array_block
 -- the same store with the first block of an array of a number cached, which has no entry there
 abbrev pub with_cached : ℕ → Held → Held
 with_cached id s = record s { cached = record { entries = ((id, 0), []) ∷ []; cap = 256 } }
+
+-- a journal whose regions take so many changes, with some clones in its list and some in its batch
+abbrev pub log_of : ℕ → ℕ → ℕ → Log
+log_of mem list batch = record {
+  mem = mem;
+  active = 0;
+  stale = false;
+  list = replicate list (Clone 0);
+  batch = replicate batch (Clone 0);
+}
+
+-- a disk that exposes the second of two images, either of which a crash may leave
+abbrev pub between : Image → Image → DiskView
+between f g = record { content = Some g; moment = 0; images_at = λ m c. (c ≡ f) ⊎ (c ≡ g) }

@@ -2,7 +2,8 @@
 //! reply. Each is the contract of a function that does nothing.
 
 ghost use Rattle.std.specs.List.{flat_map, list_all};
-ghost use Rattle.std.specs.Prelude.{◌≡◌, ◌≤◌, ◌<◌, ◌⊎◌, ◌+◌, ◌*◌, ◌++◌, ℕ, List, Option, true, false, length, take, Some, Err, IsTrue};
+ghost use Rattle.std.specs.Prelude.{◌≡◌, ◌≤◌, ◌<◌, ◌⊎◌, ◌+◌, ◌*◌, ◌++◌, ℕ, List, Option, true, false, length, take, Contains, Some, Ok, Err, IsTrue};
+ghost use Rattle.strat_base.specs.declared.descriptors.ArrayDesc.{ArrayDesc};
 ghost use Rattle.def_crash.specs.Image.{Image};
 ghost use Rattle.def_crash.specs.Moments.{Exposes, Images, Since};
 ghost use Rattle.def_crash.specs.Trail.{At, Trail};
@@ -12,8 +13,11 @@ ghost use Rattle.strat_model.specs.Run.{Position, Response, Transcript, bodies_o
 ghost use Rattle.strat_model.specs.Spelling.{Spells};
 ghost use Rattle.strat_model.specs.Stream.{frame, is_partial};
 ghost use Rattle.strat_model.specs.declared.ended.Ended.TheVariants as ended;
+ghost use Rattle.def_bytes.specs.Chained.{manifest_at};
+ghost use Rattle.def_bytes.specs.SuperBlock.{newest_in};
+ghost use Rattle.def_recovery.specs.Head.{descriptors};
 ghost use Rattle.def_recovery.specs.Opening.{recover, reads_as};
-ghost use Rattle.strat_serve.specs.Session.{ExposesDamage, IsAtEnd, SendsPrefix, WaitsForNone, WritesNothing};
+ghost use Rattle.strat_serve.specs.Session.{ExposesDamage, IsAtEnd, SendsPrefix, WaitsForNone, WasPublished, WritesNothing};
 ghost use Rattle.strat_serve.specs.Tables.{AnswersUntil, AnswersUntilCut, AnswersUntilFault, EndsAtTables, GoesThroughTables, KeepsSpace};
 ghost use Rattle.def_publish.specs.Standing.{ShowsTable};
 ghost use Rattle.def_state.specs.Level.{is_dense};
@@ -92,6 +96,16 @@ pub fn images_go_through_the_tables_of_a_run<D: Viewed>()
 pub fn damage_that_recovery_finds_is_exposed<D: Viewed>()
     ensures damaged { (d : D) (f : Image) (block : ℕ) → Exposes (D.view d) f
         → recover f ≡ Err block → ExposesDamage (D.view d) }
+{}
+
+/// An array that was published was named by a manifest: a crash in the run might have left an image whose newest superblock leads
+/// to it.
+pub fn an_array_that_was_published_was_named<D: Viewed>()
+    ensures found { (d e : D) (a : ArrayDesc) (was : WasPublished (D.view d) (D.view e) a)
+        → Since (D.view e) (D.view d).moment was.image
+        × (newest_in was.image ≡ Ok (Some (was.slot, was.sb)))
+        × (manifest_at was.sb.format was.image was.sb.manifest was.sb.length ≡ Ok was.chained)
+        × Contains (descriptors was.chained.manifest) a }
 {}
 
 /// A command that asks for no change writes nothing, whatever its reply, and nor does any body with a reply after which a store has

@@ -31,6 +31,7 @@ returns c = record {
     );
     sized = refl;
   };
+  limits = λ p. let le : 4 ≤ 3 = p.limits.mem_least in omega (arith, le);
   updates = λ p. let le : 5 ≤ 4 = p.few_updates in omega (arith, le);
   changes = λ p. let le : 5 ≤ 4 = p.few_changes in omega (arith, le);
   versions = λ p. let le : 4 ≤ 3 = p.few_versions in omega (arith, le);

@@ -1,5 +1,6 @@
-use Rattle.std.proofs.Common.{◌≡◌, ◌≤◌, ◌^◌, true, length, List, map, sym, ap, ◌∙◌, subst, arith, true≢false}
+use Rattle.std.proofs.Common.{◌≡◌, ◌≤◌, ◌*◌, ◌^◌, ℕ, true, false, length, List, map, Option, Some, sym, ap, ◌∙◌, subst, arith, true≢false}
 use Rattle.std.specs.List.{find, sum_by}
+use Rattle.std.specs.Option.{is_some}
 use Rattle.strat_base.proofs.ResultFacts.{err_of, if_ok_then}
 use Rattle.strat_base.specs.Tree.{Parents}
 use Rattle.strat_base.specs.declared.descriptors.LevelDesc.{LevelDesc}
@@ -7,16 +8,18 @@ use Rattle.strat_base.specs.declared.failures.Trouble.TheVariants as trouble
 use Rattle.def_bytes.specs.Arrays.{all_some}
 use Rattle.def_bytes.specs.Manifest.{Manifest}
 use Rattle.def_check.specs.Checked.{is_unread}
+use Rattle.def_crash.specs.Faults.{ReadsAtMost}
 use Rattle.def_crash.proofs.MomentLemmas.{reads_trans}
 use Rattle.def_publish.specs.Occupied.{arrays_in}
 use Rattle.def_recovery.proofs.HeadLemmas.{counts_said}
 use Rattle.def_recovery.specs.Opened.{level_on}
 use Rattle.def_state.specs.Level.{Level}
 use Rattle.def_state.specs.Sound.{has_ascending_entries}
+use Rattle.def_state.specs.State.{versions_of}
 use Rattle.strat_promote.specs.Job.{blocks_listed}
 use Rattle.strat_check.specs.Fit.{are_fit}
-use Rattle.strat_check.specs.Places.{first_in_arrays}
-use Rattle.strat_check.specs.StoreScans.{scans_of, content_of}
+use Rattle.strat_check.specs.Places.{place_of, first_in_arrays}
+use Rattle.strat_check.specs.StoreScans.{scans_of, content_scanned}
 use Rattle.strat_check.specs.declared.store_walk.StoreScans.{StoreScans}
 use Rattle.strat_check.proofs.BeginLemmas.{all_ascend, unordered_first}
 use Rattle.def_recovery.specs.Head.{head_versions}
@@ -82,8 +85,8 @@ returns-clause-ok g c =
     let ascend = all_ascend made.0 c.in_ok-scanned.scanned.unordered (are.first ∙ ap (first_in_arrays 109 (λ level. has_ascending_entries)) (sym made.2)) (sym c.is_some.ensures ∙ c.if-is_some.false) in
     let most = blocks_few c.versions.result c.as_slice-levels.result.now (fit g after) in
     let content = are.few in
-    let there = ap (λ (ls : List Level). sum_by content_of ls) made.2 in
-    let few : sum_by content_of made.0.levels ≤ 2 ^ 48 = omega (arith, most, content, there) in
+    let there = ap (λ (ls : List Level). sum_by content_scanned ls) made.2 in
+    let few : sum_by content_scanned made.0.levels ≤ 2 ^ 48 = omega (arith, most, content, there) in
     let may = may_be_told f c.args.store.now made.0 found made.1 ascend few in
     let n = c.versions-2.ensures.ok ∙ ap (λ (ps : Parents). length ps) (counts_said f c.args.store.now made.0 made.1).0 in
     (made.0, made.1, told f made.0 (c.scan_levels.ensures.same.same ∙ exposed) found made.1 may ascend (c.deref.ensures.value ∙ are.scanned ∙ (λ i. map (scans_of (n i)) (sym made.2 i)))))
