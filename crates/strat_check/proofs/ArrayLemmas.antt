@@ -1,26 +1,26 @@
 -- The rules of an array are told from what was counted.
-use Rattle.std.proofs.Common.{◌≡◌, ◌≤◌, ◌<◌, ◌*◌, ◌-◌, ◌^◌, ◌||◌, arith, ℕ, suc, Bool, true, false, cond, eqb, leb, ltb, min, get_or, ◌&&◌, not, inl, inr, List, [], ◌∷◌, ◌++◌, length, map, filter, Option, None, Some, refl, sym, ap, ◌∙◌, subst}
-use Rattle.std.specs.List.{list_all, sum_by, flat_map}
+use Rattle.std.proofs.Common.{◌≡◌, ◌≤◌, ◌<◌, ◌*◌, ◌-◌, ◌^◌, ◌||◌, arith, ℕ, suc, Bool, true, false, cond, eqb, leb, ltb, min, get_or, ◌&&◌, not, inl, inr, List, [], ◌∷◌, ◌++◌, length, map, filter, refl, sym, ap, ◌∙◌, subst}
+use Rattle.std.specs.List.{list_all, flat_map}
 use Rattle.std.proofs.lemmas.Bool.{and_parts, and_from, ltb-true, lt-ltb, eqb-true}
-use Rattle.strat_base.specs.Tree.{Parents, IsTree}
-use Rattle.strat_base.specs.Entries.{Entry, holds_entry, is_tagged, lead_entries}
+use Rattle.strat_base.specs.Tree.{Parents}
+use Rattle.strat_base.specs.Entries.{Entry, holds_entry, is_tagged}
 use Rattle.strat_base.specs.declared.descriptors.ArrayDesc.{ArrayDesc}
 use Rattle.strat_base.proofs.ListFacts.{Among, any_among, all_at, all_from, all_same, map_same, among_filter, filter_among, among_flat, among_in_flat}
 use Rattle.strat_base.proofs.EntryLemmas.{held_among}
 use Rattle.def_recovery.proofs.BadLemmas.{contained_at}
-use Rattle.def_split.specs.Groups.{grouped_entries, AreGroups, group_versions, own_of}
+use Rattle.def_split.specs.Groups.{grouped_entries, own_of}
 use Rattle.def_split.proofs.ListLemmas.{bool_same}
 use Rattle.def_split.proofs.CountedLemmas.{own_groups, sum_own, sum_same}
 use Rattle.def_state.specs.Level.{TaggedArray, Level, own_leads, level_leads, tagged_versions, is_distinct, agrees, is_dense, is_led, is_drawn, least, least_live}
 use Rattle.def_state.specs.Live.{live}
 use Rattle.def_state.specs.Sound.{is_described}
 use Rattle.def_state.specs.State.{State, versions_of}
-use Rattle.def_check.specs.Told.{seen_by, MayBeCounted, AreLeadsOf, AreContentOf, weighs_as}
+use Rattle.def_check.specs.Told.{seen_by, MayBeCounted, AreContentOf}
 use Rattle.def_check.specs.Weights.{weight_of, weights_seen}
 use Rattle.def_check.proofs.ToldLemmas.{told_agreement, told_density, told_drawn, told_least}
 use Rattle.def_check.proofs.WeightLemmas.{versions_weigh, versions_count}
 use Rattle.strat_check.specs.ArrayNumbers.{own_sum, sees_same, sees_enough, leads_owned, IsToldFrom, IsArrayCounted, IsArrayTold}
-use Rattle.strat_check.specs.Sightings.{Sightings, IsSighted}
+use Rattle.strat_check.specs.Sightings.{Sightings}
 use Rattle.strat_check.specs.declared.strays.Strays.{Strays}
 use Rattle.strat_check.specs.declared.places.ArrayTold.{ArrayTold}
 use Rattle.strat_check.specs.declared.scan.Scan.{Scan}

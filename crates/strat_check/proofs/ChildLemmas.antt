@@ -1,12 +1,12 @@
 -- The least children of versions.
-use Rattle.std.proofs.Common.{◌≡◌, ◌<◌, ◌≤◌, ◌-◌, ◌+◌, ℕ, suc, Bool, true, false, cond, eqb, leb, ltb, ◌&&◌, not, min, get_or, set, inl, inr, List, [], ◌∷◌, ◌++◌, length, Option, None, Some, refl, sym, ap, ◌∙◌, subst, arith, true≢false}
-use Rattle.std.specs.List.{list_all, find, fold, slice_get, range_with_len}
+use Rattle.std.proofs.Common.{◌≡◌, ◌<◌, ◌≤◌, ◌-◌, ◌+◌, ℕ, Bool, true, false, cond, eqb, get_or, set, List, length, Option, None, Some, refl, sym, ap, ◌∙◌, arith, true≢false}
+use Rattle.std.specs.List.{find, range_with_len}
 use Rattle.std.specs.Option.{option_map_or, unwrap_or, option_and_then}
-use Rattle.std.proofs.lemmas.Bool.{eqb-true, eq-eqb, cases_Bool}
+use Rattle.std.proofs.lemmas.Bool.{eqb-true, eq-eqb}
 use Rattle.std.proofs.lemmas.List.{get_or-set_same, get_or-set_other}
 use Rattle.std.proofs.lemmas.Option.{slice_get-get_or}
 use Rattle.strat_base.specs.Tree.{Parents, parent_of}
-use Rattle.strat_check.specs.Children.{is_child_of, first_from, lowered_to_child, lowered_by_own}
+use Rattle.strat_check.specs.Children.{is_child_of, first_from}
 use Rattle.strat_check.proofs.RangeLemmas.{range_step}
 
 parent_is : (parents : Parents) (k : ℕ) (o : Option ℕ) → k < length parents → get_or parents k None ≡ o → parent_of parents k ≡ o

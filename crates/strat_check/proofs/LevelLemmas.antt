@@ -1,24 +1,22 @@
 -- The rules of a level are told from what was counted of its leads and from descriptors.
-use Rattle.std.proofs.Common.{◌≡◌, ◌<◌, ◌≤◌, ◌+◌, ◌-◌, ◌*◌, ◌^◌, ◌||◌, ◌&&◌, ◌⊎◌, ℕ, zero, suc, Bool, true, false, cond, eqb, leb, ltb, not, min, get_or, set, inl, inr, List, [], ◌∷◌, ◌++◌, length, map, filter, replicate, Option, None, Some, refl, sym, ap, ◌∙◌, subst, arith, true≢false, append_assoc, append-nil}
-use Rattle.std.specs.List.{list_all, list_any, sum_by, flat_map, find, fold, slice_get, range_with_len}
-use Rattle.std.specs.Option.{option_map_or, unwrap_or, option_and_then}
+use Rattle.std.proofs.Common.{◌≡◌, ◌<◌, ◌≤◌, ◌-◌, ◌*◌, ◌^◌, ◌||◌, ◌&&◌, ◌⊎◌, ℕ, zero, suc, Bool, true, false, cond, eqb, leb, ltb, not, min, get_or, set, inl, inr, List, [], ◌∷◌, ◌++◌, length, filter, replicate, Option, None, Some, refl, sym, ap, ◌∙◌, arith, true≢false, append_assoc, append-nil}
+use Rattle.std.specs.List.{list_all, flat_map, find, fold, range_with_len}
+use Rattle.std.specs.Option.{option_map_or, unwrap_or}
 use Rattle.std.proofs.lemmas.Bool.{and_parts, and_from, ltb-true, lt-ltb, leb-true, le-leb, eqb-true, eq-eqb, cases_Bool, cases_lt}
 use Rattle.std.proofs.lemmas.Bool.Decides.{nat_tests}
 use Rattle.std.proofs.lemmas.List.{get_or-set_same, get_or-set_other, get_or-replicate, get_or_default, length-replicate}
-use Rattle.std.proofs.lemmas.List.Concat.{length-flat_map}
 use Rattle.std.proofs.lemmas.List.Elements.{filter-append}
-use Rattle.std.proofs.lemmas.List.Folds.{list_all-append}
 use Rattle.std.proofs.Math.ListN.{length-set, get_or-eq_default}
-use Rattle.strat_base.specs.Entries.{Entry, is_tagged, holds_entry}
+use Rattle.strat_base.specs.Entries.{Entry, is_tagged}
 use Rattle.strat_base.specs.Tree.{Parents, IsTree, parent_of}
 use Rattle.strat_base.specs.declared.descriptors.ArrayDesc.{ArrayDesc}
 use Rattle.strat_base.specs.declared.descriptors.LevelDesc.{LevelDesc}
 use Rattle.strat_base.proofs.EntryLemmas.{held_among, among_held}
-use Rattle.strat_base.proofs.ListFacts.{Among, any_among, among_right, all_at, all_from, all_same, among_flat, among_in_flat, among_filter, filter_among, among_range, range_among}
+use Rattle.strat_base.proofs.ListFacts.{Among, any_among, among_right, all_at, all_from, all_same, among_flat, among_filter, filter_among, among_range, range_among}
 use Rattle.strat_base.proofs.TreeLemmas.{parent_older}
 use Rattle.def_bytes.specs.Arrays.{all_some}
 use Rattle.def_check.specs.Firsts.{first_child}
-use Rattle.def_check.specs.Told.{seen_by, AreLeadsOf}
+use Rattle.def_check.specs.Told.{seen_by}
 use Rattle.def_check.proofs.FirstLemmas.{child_below}
 use Rattle.def_check.proofs.ToldLemmas.{told_tags}
 use Rattle.def_check.proofs.WeightLemmas.{versions_count}
@@ -26,14 +24,14 @@ use Rattle.def_crash.specs.Image.{Image}
 use Rattle.def_promote.proofs.LevelsLemmas.{numbered_apart}
 use Rattle.def_recovery.proofs.OpeningLemmas.{each_some}
 use Rattle.def_recovery.specs.Opened.{array_on}
-use Rattle.def_split.specs.Groups.{grouped_entries, group_versions, own_of}
+use Rattle.def_split.specs.Groups.{grouped_entries}
 use Rattle.def_split.proofs.CountedLemmas.{own_groups}
-use Rattle.def_split.proofs.ListLemmas.{bool_same, filter_every, filter_none, some_length, empty_length}
+use Rattle.def_split.proofs.ListLemmas.{bool_same, filter_every, filter_none, some_length}
 use Rattle.def_state.specs.Level.{TaggedArray, Level, own_leads, level_leads, tagged_versions, has_live_tagged}
-use Rattle.def_state.specs.Sound.{has_child_below, shallower, has_room, has_old_horizon, is_above_frozen, is_numbered_from}
-use Rattle.def_state.specs.State.{State, versions_of, is_living, journal_updates}
+use Rattle.def_state.specs.Sound.{has_child_below, shallower, has_room, is_numbered_from}
+use Rattle.def_state.specs.State.{State, versions_of, is_living}
 use Rattle.strat_check.specs.ArrayNumbers.{IsLevelSeen}
-use Rattle.strat_check.specs.Children.{is_child_of, first_from, lowered_to_child, lowered_by_own}
+use Rattle.strat_check.specs.Children.{is_child_of, lowered_to_child, lowered_by_own}
 use Rattle.strat_check.specs.LevelNumbers.{marked_with, marked_of, is_quiet}
 use Rattle.strat_check.specs.Sightings.{Sightings}
 use Rattle.strat_check.specs.Walked.{AreFirstChildren}

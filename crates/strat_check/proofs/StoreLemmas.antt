@@ -1,14 +1,13 @@
 -- Levels that are scanned one after the other, and what recovery gives of them.
-use Rattle.std.proofs.Common.{◌≡◌, ◌<◌, ◌≤◌, ◌+◌, ◌-◌, ◌*◌, ◌^◌, ◌&&◌, ◌||◌, ℕ, zero, suc, Bool, true, false, cond, leb, ltb, not, min, get_or, inl, inr, List, [], ◌∷◌, ◌++◌, length, map, take, drop, Option, None, Some, Ok, Err, refl, sym, ap, ◌∙◌, subst, arith, append_assoc, append-nil, length-append, true≢false}
-use Rattle.std.specs.List.{list_all, sum_by, flat_map, find, fold, slice_get, range_with_len, Contains}
+use Rattle.std.proofs.Common.{◌≡◌, ◌≤◌, ◌+◌, ◌*◌, ℕ, Bool, true, false, cond, List, [], ◌∷◌, ◌++◌, length, map, take, drop, Option, None, Some, refl, sym, ap, ◌∙◌, arith, append_assoc, append-nil, length-append}
+use Rattle.std.specs.List.{sum_by, flat_map, find, slice_get, Contains}
 use Rattle.std.proofs.lemmas.List.{map-append, take-append-drop}
 use Rattle.std.proofs.lemmas.List.Sums.{fold_push}
 use Rattle.std.specs.Option.{option_or, option_map, option_and_then, is_none}
-use Rattle.std.proofs.lemmas.Bool.{and_parts, and_from, leb-true, le-leb, ltb-true, lt-ltb}
 use Rattle.strat_base.specs.Entries.{Entry, is_ascending}
 use Rattle.strat_base.specs.declared.descriptors.ArrayDesc.{ArrayDesc}
 use Rattle.strat_base.specs.declared.descriptors.LevelDesc.{LevelDesc}
-use Rattle.strat_base.proofs.ListFacts.{Among, get_is, get_among, among_in_flat}
+use Rattle.strat_base.proofs.ListFacts.{get_among, among_in_flat}
 use Rattle.std.proofs.Math.ListN.{length-map}
 use Rattle.std.proofs.lemmas.Option.{slice_get-map}
 use Rattle.def_check.proofs.CheckedLemmas.{among_contained}
@@ -25,15 +24,15 @@ use Rattle.def_state.specs.Breach.{Breach, breach, breach_unless}
 use Rattle.def_state.specs.Level.{TaggedArray, Level}
 use Rattle.def_state.specs.Sound.{has_ascending_entries}
 use Rattle.strat_promote.specs.Job.{blocks_listed, IsBadInput}
-use Rattle.strat_check.specs.Places.{breach_of, place_of, first_unless, array_list, first_array_breach, first_in_arrays}
-use Rattle.strat_check.specs.Scanned.{IsScanned, have_low_versions, first_empty}
+use Rattle.strat_check.specs.Places.{place_of, first_unless, array_list, first_array_breach}
+use Rattle.strat_check.specs.Scanned.{IsScanned}
 use Rattle.strat_check.specs.StoreScans.{scans_of, content_scanned, IsScannedLevel, AreScannedLevels, HaveScans}
 use Rattle.strat_check.specs.Walked.{scan_of}
 use Rattle.strat_check.specs.declared.places.Broken.{Broken}
 use Rattle.strat_check.specs.declared.scan.Scan.{Scan}
 use Rattle.strat_check.specs.declared.store_walk.LevelScans.{LevelScans}
 use Rattle.strat_check.specs.declared.store_walk.StoreScans.{StoreScans}
-use Rattle.strat_check.proofs.WalkLemmas.{IsArrayOf, array_of, IsLevelOf, level_of, take_at, get_within}
+use Rattle.strat_check.proofs.WalkLemmas.{array_of, level_of, take_at}
 
 -- lists
 

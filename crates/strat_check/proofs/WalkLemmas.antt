@@ -1,6 +1,6 @@
 -- Arrays and levels that are gone through one after the other.
-use Rattle.std.proofs.Common.{◌≡◌, ◌<◌, ◌≤◌, ◌+◌, ◌-◌, ◌^◌, ℕ, zero, suc, Bool, true, min, get_or, inl, inr, List, [], ◌∷◌, ◌++◌, length, map, take, Option, None, Some, refl, sym, ap, ◌∙◌, subst, arith, length-append}
-use Rattle.std.specs.List.{list_all, sum_by, flat_map, slice_get, Contains}
+use Rattle.std.proofs.Common.{◌≡◌, ◌<◌, ◌≤◌, ◌+◌, ◌-◌, ◌^◌, ℕ, zero, suc, Bool, true, min, get_or, inl, inr, List, [], ◌∷◌, ◌++◌, length, take, Option, Some, refl, sym, ap, ◌∙◌, arith, length-append}
+use Rattle.std.specs.List.{sum_by, slice_get, Contains}
 use Rattle.std.specs.Option.{option_or, option_map}
 use Rattle.std.proofs.lemmas.List.{take_more}
 use Rattle.std.proofs.lemmas.List.Sums.{fold_push, sum_by-cons}
@@ -8,7 +8,6 @@ use Rattle.std.proofs.lemmas.Option.{slice_get-map, slice_get_read}
 use Rattle.strat_base.specs.Entries.{Entry, is_ascending}
 use Rattle.strat_base.specs.declared.descriptors.ArrayDesc.{ArrayDesc}
 use Rattle.strat_base.specs.declared.descriptors.LevelDesc.{LevelDesc}
-use Rattle.strat_base.specs.Tree.{Parents}
 use Rattle.strat_base.proofs.ListFacts.{Among, all_at, get_is, get_among}
 use Rattle.def_bytes.specs.Arrays.{all_some, blocks_of, entries_on}
 use Rattle.def_check.proofs.FirstLemmas.{first_grown}
@@ -18,19 +17,17 @@ use Rattle.strat_promote.specs.Job.{blocks_listed}
 use Rattle.def_recovery.proofs.BadLemmas.{contained_at}
 use Rattle.def_recovery.proofs.OpeningLemmas.{map_some, each_some, length-all_some}
 use Rattle.def_recovery.specs.Opened.{array_on, level_on}
-use Rattle.def_split.specs.Groups.{grouped_entries}
-use Rattle.def_state.specs.Breach.{Breach, breach, breach_unless}
+use Rattle.def_state.specs.Breach.{breach, breach_unless}
 use Rattle.def_state.specs.Level.{TaggedArray, Level, own_leads, agrees, is_dense, is_led, is_drawn}
 use Rattle.def_state.specs.Sound.{has_ascending_entries, is_described}
 use Rattle.def_state.specs.State.{State, versions_of}
 use Rattle.strat_check.specs.ArrayCounts.{IsSightOf}
-use Rattle.strat_check.specs.ArrayNumbers.{IsToldFrom, IsArrayCounted, IsArrayTold}
-use Rattle.strat_check.specs.Places.{place_of, first_unless, array_list, first_array_breach, after_array, NoArrayPlaces, KeepsArray}
+use Rattle.strat_check.specs.ArrayNumbers.{IsToldFrom, IsArrayTold}
+use Rattle.strat_check.specs.Places.{place_of, first_unless, first_array_breach, after_array, NoArrayPlaces, KeepsArray}
 use Rattle.strat_check.specs.Sightings.{Sightings}
-use Rattle.strat_check.specs.Walked.{scan_of, IsArrayLooked, AreArraysLooked, ArePlacesOf, leads_of_arrays, AreArraysTold}
+use Rattle.strat_check.specs.Walked.{scan_of, IsArrayLooked, AreArraysLooked, leads_of_arrays, AreArraysTold}
 use Rattle.strat_check.specs.declared.strays.Strays.{Strays}
 use Rattle.strat_check.specs.declared.level_walk.ArraysTold.{ArraysTold}
-use Rattle.strat_check.specs.declared.places.ArrayPlaces.{ArrayPlaces}
 use Rattle.strat_check.specs.declared.places.ArrayTold.{ArrayTold}
 use Rattle.strat_check.specs.declared.places.Broken.{Broken}
 use Rattle.strat_check.specs.declared.scan.Scan.{Scan}

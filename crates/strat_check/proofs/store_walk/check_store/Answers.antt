@@ -1,6 +1,5 @@
-use Rattle.std.proofs.Common.{◌≡◌, ◌≤◌, ◌*◌, ◌^◌, ℕ, true, false, length, List, map, Option, Some, sym, ap, ◌∙◌, subst, arith, true≢false}
+use Rattle.std.proofs.Common.{◌≡◌, ◌≤◌, ◌^◌, true, length, List, map, sym, ap, ◌∙◌, subst, arith, true≢false}
 use Rattle.std.specs.List.{find, sum_by}
-use Rattle.std.specs.Option.{is_some}
 use Rattle.strat_base.proofs.ResultFacts.{err_of, if_ok_then}
 use Rattle.strat_base.specs.Tree.{Parents}
 use Rattle.strat_base.specs.declared.descriptors.LevelDesc.{LevelDesc}
@@ -8,17 +7,15 @@ use Rattle.strat_base.specs.declared.failures.Trouble.TheVariants as trouble
 use Rattle.def_bytes.specs.Arrays.{all_some}
 use Rattle.def_bytes.specs.Manifest.{Manifest}
 use Rattle.def_check.specs.Checked.{is_unread}
-use Rattle.def_crash.specs.Faults.{ReadsAtMost}
 use Rattle.def_crash.proofs.MomentLemmas.{reads_trans}
 use Rattle.def_publish.specs.Occupied.{arrays_in}
 use Rattle.def_recovery.proofs.HeadLemmas.{counts_said}
 use Rattle.def_recovery.specs.Opened.{level_on}
 use Rattle.def_state.specs.Level.{Level}
 use Rattle.def_state.specs.Sound.{has_ascending_entries}
-use Rattle.def_state.specs.State.{versions_of}
 use Rattle.strat_promote.specs.Job.{blocks_listed}
 use Rattle.strat_check.specs.Fit.{are_fit}
-use Rattle.strat_check.specs.Places.{place_of, first_in_arrays}
+use Rattle.strat_check.specs.Places.{first_in_arrays}
 use Rattle.strat_check.specs.StoreScans.{scans_of, content_scanned}
 use Rattle.strat_check.specs.declared.store_walk.StoreScans.{StoreScans}
 use Rattle.strat_check.proofs.BeginLemmas.{all_ascend, unordered_first}
