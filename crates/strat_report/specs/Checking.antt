@@ -1,5 +1,5 @@
 -- What a check says of a store, and what it did where it ended so.
-use Rattle.std.specs.Prelude.{◌≡◌, ◌⊎◌, ℕ, List, [], ◌∷◌, Option, Some, None, Ok, Err}
+use Rattle.std.specs.Prelude.{◌≡◌, ◌⊎◌, ℕ, Bool, true, false, List, [], ◌∷◌, Option, Some, None, Ok, Err}
 use Rattle.def_bytes.specs.Damage.{Read}
 use Rattle.def_state.specs.Breach.{Breach, breach}
 use Rattle.strat_io.specs.Streams.{Appends}
@@ -32,6 +32,15 @@ verdict_text (verdict.Damaged block) = text (damaged_line block ∷ [])
 verdict_text verdict.NotAStore = []
 verdict_text verdict.Device = []
 verdict_text verdict.NoMemory = []
+
+-- nothing is said of a verdict
+abbrev pub says_nothing : Verdict → Bool
+says_nothing verdict.Sound = false
+says_nothing (verdict.Unsound rule level array) = false
+says_nothing (verdict.Damaged block) = false
+says_nothing verdict.NotAStore = true
+says_nothing verdict.Device = true
+says_nothing verdict.NoMemory = true
 
 -- how a check with a verdict ends, if the sink takes what is said
 abbrev pub verdict_end : Verdict → Ended

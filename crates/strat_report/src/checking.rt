@@ -1,15 +1,16 @@
 //! The check of a store, and the line that says what it found.
 
-ghost use Rattle.std.specs.Prelude.{◌≡◌, ◌∷◌, [], IfOk, string_bytes};
+ghost use Rattle.std.specs.Prelude.{◌≡◌, ◌∷◌, [], IfOk, codes};
 ghost use Rattle.def_crash.specs.Faults.{ReadsAtMost, Rose};
 ghost use Rattle.def_crash.specs.Image.{Image};
 ghost use Rattle.def_crash.specs.Moments.{Exposes, OnlyReads};
 ghost use Rattle.def_check.specs.Checked.{checked};
 ghost use Rattle.def_state.specs.Breach.{breach};
 ghost use Rattle.def_texts.specs.Texts.{text, breach_line, damaged_line};
-ghost use Rattle.strat_report.specs.Checking.{verdict_text, verdict_end, EndsCheck, SaysCheck, WritesCheck};
+ghost use Rattle.strat_report.specs.Checking.{says_nothing, verdict_text, verdict_end, EndsCheck, SaysCheck, WritesCheck};
 ghost use Rattle.strat_report.specs.Reporting.{IsSilent, ReportHasCause};
 
+use crate::reporting::damage_of;
 use std::alloc::{AllocError, Global};
 use strat_base::Failed;
 use strat_check::verdict::{Verdict, check};
@@ -18,7 +19,6 @@ use strat_io::{Sink, put_all};
 use strat_model::Ended;
 
 /// The line of a rule that is broken, by its letter, with the level and the array that break it.
-#[tactic(auto, using(crate::proofs::CheckingLemmas::unsound_pieces))]
 fn unsound_line(alloc: Global, rule: u8, level: u8, array: u64) -> Result<Vec<u8>, AllocError>
     ensures ok { IfOk result (λ line. line.items
         ≡ text (breach_line (breach rule level array) ∷ [])) }
@@ -35,16 +35,35 @@ fn unsound_line(alloc: Global, rule: u8, level: u8, array: u64) -> Result<Vec<u8
 fn damaged_bytes(alloc: Global, block: u32) -> Result<Vec<u8>, AllocError>
     ensures ok { IfOk result (λ line. line.items ≡ text (damaged_line block ∷ [])) }
 {
-    let line = format!(in alloc; "damaged block {block}\n")?;
-    line.as_bytes().to_vec(alloc)
+    let line = damage_of(alloc, block)?;
+    let bytes = line.as_bytes().to_vec(alloc)?;
+    Ok(bytes)
 }
 
-/// What is said of a verdict: a line, or nothing where no store was found or none was checked.
+/// The line of a sound store.
+fn sound_bytes(alloc: Global) -> Result<Vec<u8>, AllocError>
+    ensures ok { IfOk result (λ line. line.items ≡ text (codes "sound" ∷ [])) }
+{
+    let bytes = b"sound\n".to_vec(alloc)?;
+    Ok(bytes)
+}
+
+/// Whether nothing is said of a verdict: no store was found, or none was checked.
+fn is_quiet(verdict: Verdict) -> bool
+    ensures ok { result ≡ says_nothing verdict }
+{
+    match verdict {
+        Verdict::NotAStore | Verdict::Device | Verdict::NoMemory => true,
+        Verdict::Sound | Verdict::Unsound { .. } | Verdict::Damaged { .. } => false,
+    }
+}
+
+/// What is said of a verdict: a line, or nothing.
 fn said_of(alloc: Global, verdict: Verdict) -> Result<Vec<u8>, AllocError>
     ensures ok { IfOk result (λ line. line.items ≡ verdict_text verdict) }
 {
     match verdict {
-        Verdict::Sound => b"sound\n".to_vec(alloc),
+        Verdict::Sound => sound_bytes(alloc),
         Verdict::Unsound { rule, level, array } => unsound_line(alloc, rule, level, array),
         Verdict::Damaged { block } => damaged_bytes(alloc, block),
         Verdict::NotAStore | Verdict::Device | Verdict::NoMemory => Ok(Vec::new(alloc)),
@@ -84,12 +103,12 @@ pub fn write_check<K: Sink, D: Disk>(alloc: Global, disk: &mut D, sink: &mut K) 
     ensures reads { ReadsAtMost 101715479 (D.reads disk.old) (D.reads disk.new) }
 {
     let verdict = check(alloc, disk);
+    if is_quiet(verdict) {
+        return end_of(verdict);
+    }
     let Ok(line) = said_of(alloc, verdict) else {
         return Ended::NoMemory;
     };
-    if line.is_empty() {
-        return end_of(verdict);
-    }
     match put_all(sink, &line) {
         Ok(()) => end_of(verdict),
         Err(Failed) => Ended::Sink,
