@@ -1,3 +1,4 @@
+pub mod CheckLemmas
 pub mod CompleteLemmas
 pub mod FormattedLemmas
 pub mod ServedLemmas

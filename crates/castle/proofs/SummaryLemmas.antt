@@ -203,7 +203,7 @@ workload_completes ended.Budget b n ends cause sink disk = absurd ends
 workload_completes ended.Unsound b n ends cause sink disk = absurd ends
 
 -- where recovery finds no store no slot is open
-no_slot : (f : Image) → recover f ≡ Ok None → newest_in f ≡ Ok None
+pub no_slot : (f : Image) → recover f ≡ Ok None → newest_in f ≡ Ok None
 no_slot f is = by_slot (newest_in f) is
   where
     by_head : (r : Read Head) → and_then r (λ h. Ok (Some h)) ≡ Ok None → ⊥

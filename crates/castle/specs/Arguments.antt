@@ -7,11 +7,12 @@ use Rattle.castle.specs.declared.arguments.Subcommand.{Subcommand as Borrowed}
 use Rattle.castle.specs.declared.arguments.Subcommand.TheVariants as borrowed
 
 -- what the program is asked to do: to make a store with these limits in a file, to serve one, to report its
--- levels, or to make one and carry out a workload on it
+-- levels, to check it, or to make one and carry out a workload on it
 pub data Subcommand : Type 0 where
   Format : (path : List ℕ) (mem changes_max versions_max : ℕ) → Subcommand
   Serve : (path : List ℕ) → Subcommand
   Levels : (path : List ℕ) → Subcommand
+  Check : (path : List ℕ) → Subcommand
   Workload : (path : List ℕ) (seed count : ℕ) → Subcommand
 
 -- a subcommand of the program, wherever its path lies
@@ -20,6 +21,7 @@ subcommand_seen (borrowed.Format path mem changes_max versions_max) =
     Format path.now mem changes_max versions_max
 subcommand_seen (borrowed.Serve path) = Serve path.now
 subcommand_seen (borrowed.Levels path) = Levels path.now
+subcommand_seen (borrowed.Check path) = Check path.now
 subcommand_seen (borrowed.Workload path seed count) = Workload path.now seed count
 
 -- the file of a subcommand
@@ -27,6 +29,7 @@ abbrev pub path_of_subcommand : Subcommand → List ℕ
 path_of_subcommand (Format path mem changes_max versions_max) = path
 path_of_subcommand (Serve path) = path
 path_of_subcommand (Levels path) = path
+path_of_subcommand (Check path) = path
 path_of_subcommand (Workload path seed count) = path
 
 -- decimal digits, of which the first is 0 only where it is the only one
@@ -42,13 +45,14 @@ number_in least most word =
     then Some (digits_value 10 word)
     else None
 
--- the subcommand of opening a store, to serve it or to report its levels, where these arguments ask
--- for one
+-- the subcommand of opening a store, to serve it, to report its levels or to check it, where these
+-- arguments ask for one
 abbrev pub opening_in : List ℕ → List ℕ → Option Subcommand
 opening_in job path =
     if length path == 0 then None else
     if bytes_eq job (codes "serve") then Some (Serve path) else
-    if bytes_eq job (codes "levels") then Some (Levels path) else None
+    if bytes_eq job (codes "levels") then Some (Levels path) else
+    if bytes_eq job (codes "check") then Some (Check path) else None
 
 -- the subcommand of making a store, where these arguments ask for it and the numbers among them
 -- are a store's limits

@@ -17,8 +17,10 @@ use Rattle.strat_open.specs.Format.{IsNewDisk, IsBlank, IsNoneOrNew, KeepsOthers
 use Rattle.strat_serve.specs.Session.{SendsPrefix, RunOutcome, RefusesFor, EndHasCause, ExposesDamage}
 use Rattle.strat_serve.specs.World.{World, IsCalm}
 use Rattle.def_crash.specs.Faults.{Rose}
+use Rattle.def_check.specs.Checked.{checked}
+use Rattle.strat_report.specs.Checking.{EndsCheck, SaysCheck, WritesCheck}
 use Rattle.strat_report.specs.Reporting.{levels_text, WritesReport, IsComplete}
-use Rattle.castle.specs.Arguments.{Subcommand, Serve, Format, Levels, Workload}
+use Rattle.castle.specs.Arguments.{Subcommand, Serve, Format, Levels, Check, Workload}
 use Rattle.castle.specs.Working.{EndsWorkload, LeavesWorkload, SendsSummary}
 
 -- a run ended as its input does, or at the budget, or before it began for want of memory
@@ -91,6 +93,17 @@ pub record ReportsLevels (how : Ended) (before now : World) : Type 0 where
   pub complete : IsCalm before now → (f : Image) → Exposes before.disk f
       → IsComplete levels_text (recover f) how before.held now.held
 
+-- a run that checks a store ended so: it said whether the state that the bytes read as is sound, or which rule it breaks
+-- first, or which block is damaged, and left the disk as it was; where nothing failed it said all of that
+pub record ChecksStore (how : Ended) (before now : World) : Type 0 where
+  pub ends : EndsCheck how
+  pub writes : (f : Image) → Exposes before.disk f
+      → WritesCheck (checked f) how before.held now.held
+  pub same : OnlyReads before.disk now.disk
+  pub cause : EndHasCause how before now
+  pub complete : IsCalm before now → (f : Image) → Exposes before.disk f
+      → SaysCheck (checked f) how before.held now.held
+
 -- a run of a workload ended so: it made a store, carried out the workload and said what it came to, or the
 -- store, the disk or the sink gave up
 pub record RunsWorkload (seed count : ℕ) (how : Ended) (before now : World) : Type 0 where
@@ -113,6 +126,8 @@ Runs (Some (Format path mem changes_max versions_max)) budget status before now 
     × FormatsDisk mem changes_max versions_max how before now
 Runs (Some (Levels path)) budget status before now =
     (how : Ended) × (status ≡ status_of how) × ReportsLevels how before now
+Runs (Some (Check path)) budget status before now =
+    (how : Ended) × (status ≡ status_of how) × ChecksStore how before now
 Runs (Some (Workload path seed count)) budget status before now =
     (how : Ended) × (status ≡ status_of how) × RunsWorkload seed count how before now
 
@@ -132,6 +147,8 @@ LeavesAlone (Some (Serve path)) before status source sink disk =
 LeavesAlone (Some (Format path mem changes_max versions_max)) before status source sink disk =
     source × ((status ≡ 2) ⊎ (status ≡ 8) ⊎ (status ≡ 9) → sink) × (status ≡ 8 → disk)
 LeavesAlone (Some (Levels path)) before status source sink disk =
+    source × ((status ≡ 2) ⊎ (status ≡ 5) ⊎ (status ≡ 8) → sink)
+LeavesAlone (Some (Check path)) before status source sink disk =
     source × ((status ≡ 2) ⊎ (status ≡ 5) ⊎ (status ≡ 8) → sink)
 LeavesAlone (Some (Workload path seed count)) before status source sink disk =
     source × ((status ≡ 2) ⊎ (status ≡ 5) ⊎ (status ≡ 8) → sink)

@@ -30,6 +30,10 @@ pub enum Subcommand<'a> {
     Levels {
         path: &'a str,
     },
+    /// To check the store in a file.
+    Check {
+        path: &'a str,
+    },
     /// To make a store in a file, and to carry out so many changes on it, which are drawn from this
     /// seed.
     Workload {
@@ -88,8 +92,8 @@ fn number(word: &str, least: u32, most: u32) -> Option<u32>
     Some(n)
 }
 
-/// The subcommand of opening a store, to serve it or to report its levels, where these arguments
-/// ask for one.
+/// The subcommand of opening a store, to serve it, to report its levels or to check it, where these
+/// arguments ask for one.
 fn opening_of<'a>(job: &str, path: &'a str) -> Option<Subcommand<'a>>
     ensures { Finds subcommand_seen result (opening_in job.now path.now) }
 {
@@ -101,6 +105,9 @@ fn opening_of<'a>(job: &str, path: &'a str) -> Option<Subcommand<'a>>
     }
     if job == "levels" {
         return Some(Subcommand::Levels { path });
+    }
+    if job == "check" {
+        return Some(Subcommand::Check { path });
     }
     None
 }
@@ -145,7 +152,7 @@ fn workload_of<'a>(job: &str, path: &'a str, seed: &str, count: &str) -> Option<
 }
 
 /// The subcommand that the arguments name, where they name one: `format FILE M C V`, `serve
-/// FILE`, `levels FILE` or `workload FILE SEED COUNT`.
+/// FILE`, `levels FILE`, `check FILE` or `workload FILE SEED COUNT`.
 pub fn subcommand_of(words: &[String]) -> Option<Subcommand<'_>>
     ensures { Finds subcommand_seen result (subcommand_in (map string_bytes words.now)) }
 {
@@ -182,6 +189,7 @@ pub fn path_of(words: &[String]) -> Option<&str>
         ) => Some(path),
         Some(Subcommand::Serve { path }) => Some(path),
         Some(Subcommand::Levels { path }) => Some(path),
+        Some(Subcommand::Check { path }) => Some(path),
         Some(
             Subcommand::Workload {
                 path,

@@ -1,7 +1,7 @@
 //! What the program's other runs come to: those that format, report and carry out a workload. Each law is the contract of
 //! a function that does nothing.
 
-ghost use Rattle.std.specs.Prelude.{◌≡◌, ◌≢◌, ◌≤◌, ◌⊎◌, ℕ, List, [], ◌∷◌, length, take, Ok, Err, None, Some};
+ghost use Rattle.std.specs.Prelude.{◌≡◌, ◌≢◌, ◌≤◌, ◌⊎◌, ℕ, List, [], ◌∷◌, length, take, Ok, Err, None, Some, Contains, codes};
 ghost use Rattle.def_crash.specs.Faults.{Rose};
 ghost use Rattle.def_crash.specs.Image.{Image};
 ghost use Rattle.def_crash.specs.Moments.{Exposes, Images, Since};
@@ -12,19 +12,25 @@ ghost use Rattle.strat_model.specs.Ended.{status_of};
 ghost use Rattle.strat_model.specs.Batch.{Continuation, tables_continued};
 ghost use Rattle.strat_model.specs.Run.{Position, Transcript, IsTranscript, UsesOneRegion, bodies_of};
 ghost use Rattle.strat_model.specs.Table.{fresh, bare};
-ghost use Rattle.def_recovery.specs.Head.{Head};
+ghost use Rattle.def_check.specs.Checked.{checked};
+ghost use Rattle.def_recovery.specs.Bad.{IsUnread};
+ghost use Rattle.def_recovery.specs.Head.{Head, descriptors};
 ghost use Rattle.def_recovery.specs.Opening.{recover, reads_as};
-ghost use Rattle.def_texts.specs.Texts.{text, report, damaged_line};
+ghost use Rattle.def_texts.specs.Texts.{text, report, breach_line, damaged_line};
+ghost use Rattle.strat_base.specs.declared.descriptors.ArrayDesc.{ArrayDesc};
+ghost use Rattle.strat_report.specs.Checking.{check_text, end_of_check};
 ghost use Rattle.strat_report.specs.Reporting.{AppendsFront, end_for, levels_text};
 ghost use Rattle.def_publish.specs.Standing.{ShowsTable};
-ghost use Rattle.def_state.specs.State.{fresh_state};
+ghost use Rattle.def_state.specs.Breach.{Breach, breaches};
+ghost use Rattle.def_state.specs.Sound.{IsSound};
+ghost use Rattle.def_state.specs.State.{State, fresh_state};
 ghost use Rattle.strat_open.specs.Format.{IsBlank, IsFormatted};
 ghost use Rattle.strat_memory.specs.Paying.{IsPaidIn};
 ghost use Rattle.strat_serve.specs.Generated.{workload_bodies};
 ghost use Rattle.strat_serve.specs.Session.{AreNextIn, ExposesDamage, SendsPrefix};
 ghost use Rattle.strat_serve.specs.Tables.{BreaksForFault, EndsAtTables, IsThrifty};
 ghost use Rattle.strat_serve.specs.World.{Streams, beside};
-ghost use Rattle.castle.specs.Arguments.{Format, Levels, Serve, Workload};
+ghost use Rattle.castle.specs.Arguments.{Check, Format, Levels, Serve, Workload};
 ghost use Rattle.castle.specs.Headline.{GoesThroughNewTables, HasNotBegun, IsNoneOrThrifty};
 ghost use Rattle.castle.specs.Outcomes.{LeavesAlone, Runs, format_text};
 ghost use Rattle.castle.specs.Working.{summary_of, workload_start};
@@ -109,6 +115,61 @@ pub fn a_reporting_run_says_what_recovery_finds<D: Viewed>()
         → ((status ≡ status_of (end_for (recover f)))
         × Appends x.held y.held (levels_text (recover f)))
         ⊎ ((status ≡ 8) × (y.held ≡ x.held)) }
+{}
+
+/// A run that checks a store says that it is sound exactly if the bytes read as a sound state. If they read as another, it
+/// names the first of the rules that this state breaks. A block that it calls damaged is one that recovery refuses, or one of
+/// an array that holds no entries. It leaves the disk as it was, and ends for a cause. If nothing fails a sound store is called
+/// sound, unless memory runs out.
+pub fn a_checking_run_says_what_the_state_breaks<D: Viewed>()
+    ensures done { (path : List ℕ) (status : ℕ) (x y : Streams) (d e : D) (f : Image)
+        → Runs (Some (Check path)) 1099511627776 status (beside x (D.view d)) (beside y (D.view e))
+        → Exposes (D.view d) f → status ≡ 0
+        → (s : State) × (reads_as f ≡ Some s) × IsSound s
+        × Appends x.held y.held (text (codes "sound" ∷ [])) }
+    ensures err { (path : List ℕ) (status : ℕ) (x y : Streams) (d e : D) (f : Image)
+        → Runs (Some (Check path)) 1099511627776 status (beside x (D.view d)) (beside y (D.view e))
+        → Exposes (D.view d) f → status ≡ 11
+        → (s : State) × (b : Breach) × (later : List Breach) × (reads_as f ≡ Some s)
+        × (breaches s ≡ b ∷ later) × Appends x.held y.held (text (breach_line b ∷ [])) }
+    ensures damaged { (path : List ℕ) (status : ℕ) (x y : Streams) (d e : D) (f : Image)
+        → Runs (Some (Check path)) 1099511627776 status (beside x (D.view d)) (beside y (D.view e))
+        → Exposes (D.view d) f → status ≡ 9 → (block : ℕ) × ((recover f ≡ Err block)
+        ⊎ ((head : Head) × (recover f ≡ Ok (Some head))
+        × ((a : ArrayDesc) × Contains (descriptors head.manifest) a × IsUnread f a block)))
+        × Appends x.held y.held (text (damaged_line block ∷ [])) }
+    ensures none { (path : List ℕ) (status : ℕ) (x y : Streams) (d e : D) (f : Image)
+        → Runs (Some (Check path)) 1099511627776 status (beside x (D.view d)) (beside y (D.view e))
+        → Exposes (D.view d) f → status ≡ 2
+        → (newest_in f ≡ Ok None) × Appends x.held y.held [] }
+    ensures sink { (path : List ℕ) (status : ℕ) (x y : Streams) (d e : D) (f : Image)
+        → Runs (Some (Check path)) 1099511627776 status (beside x (D.view d)) (beside y (D.view e))
+        → Exposes (D.view d) f → status ≡ 7
+        → AppendsFront x.held y.held (check_text (checked f)) }
+    ensures same { (path : List ℕ) (status : ℕ) (x y : Streams) (d e : D)
+        → Runs (Some (Check path)) 1099511627776 status (beside x (D.view d)) (beside y (D.view e))
+        → ((D.view e).content ≡ (D.view d).content)
+        × ((c : Image) → Since (D.view e) (D.view d).moment c → Images (D.view d) c) }
+    ensures cause { (path : List ℕ) (status : ℕ) (x y : Streams) (d e : D)
+        → Runs (Some (Check path)) 1099511627776 status (beside x (D.view d)) (beside y (D.view e))
+        → ((status ≡ 0) ⊎ (status ≡ 2) ⊎ (status ≡ 5) ⊎ (status ≡ 7) ⊎ (status ≡ 8) ⊎ (status ≡ 9)
+        ⊎ (status ≡ 11)) × (status ≡ 5 → Rose x.disk_faults y.disk_faults)
+        × (status ≡ 7 → Rose x.sink_faults y.sink_faults)
+        × (y.source_faults ≡ x.source_faults)
+        × (status ≢ 7 → y.sink_faults ≡ x.sink_faults)
+        × (status ≢ 5 → status ≢ 7 → y.disk_faults ≡ x.disk_faults) }
+    ensures complete { (path : List ℕ) (status : ℕ) (x y : Streams) (d e : D) (f : Image)
+        → Runs (Some (Check path)) 1099511627776 status (beside x (D.view d)) (beside y (D.view e))
+        → Exposes (D.view d) f → ¬ Rose x.source_faults y.source_faults
+        → ¬ Rose x.sink_faults y.sink_faults → ¬ Rose x.disk_faults y.disk_faults
+        → ((status ≡ status_of (end_of_check (checked f)))
+        × Appends x.held y.held (check_text (checked f)))
+        ⊎ ((status ≡ 8) × (y.held ≡ x.held)) }
+    ensures found { (path : List ℕ) (status : ℕ) (x y : Streams) (d e : D) (f : Image) (s : State)
+        → Runs (Some (Check path)) 1099511627776 status (beside x (D.view d)) (beside y (D.view e))
+        → Exposes (D.view d) f → reads_as f ≡ Some s → IsSound s
+        → ¬ Rose x.source_faults y.source_faults → ¬ Rose x.sink_faults y.sink_faults
+        → ¬ Rose x.disk_faults y.disk_faults → (status ≡ 0) ⊎ (status ≡ 8) }
 {}
 
 /// A run of a workload on a disk that exposes its content made no store, for want of memory or as the device failed, and
@@ -200,6 +261,9 @@ pub fn what_a_run_leaves_alone_is_as_it_was<D: Viewed>()
         × (status ≡ 8 → m ≡ n) }
     ensures levels { (path : List ℕ) (d : D) (status a b i j m n : ℕ)
         → LeavesAlone (Some (Levels path)) (D.view d) status (a ≡ b) (i ≡ j) (m ≡ n)
+        → (a ≡ b) × ((status ≡ 2) ⊎ (status ≡ 5) ⊎ (status ≡ 8) → i ≡ j) }
+    ensures check { (path : List ℕ) (d : D) (status a b i j m n : ℕ)
+        → LeavesAlone (Some (Check path)) (D.view d) status (a ≡ b) (i ≡ j) (m ≡ n)
         → (a ≡ b) × ((status ≡ 2) ⊎ (status ≡ 5) ⊎ (status ≡ 8) → i ≡ j) }
     ensures workload { (path : List ℕ) (seed count : ℕ) (d : D) (status a b i j m n : ℕ)
         → LeavesAlone (Some (Workload path seed count)) (D.view d) status (a ≡ b) (i ≡ j) (m ≡ n)

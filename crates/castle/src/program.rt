@@ -13,7 +13,7 @@ use std::alloc::Global;
 use strat_disk::Disk;
 use strat_io::{Sink, Source};
 use strat_model::Ended;
-use strat_report::write_levels;
+use strat_report::{write_check, write_levels};
 use strat_serve::serve;
 
 /// Bytes that one serving run reads at most: 2^40.
@@ -29,6 +29,7 @@ pub(crate) const BUDGET: u64 = 1_099_511_627_776;
 /// - Opening a cursor copies level 0's items, 12 bytes each, and reads nothing. A level 0 that was emptied stays in memory
 ///   while a cursor reads it. A page costs what a scan of as many pairs costs.
 /// - A report of the levels reads what recovery reads, and no block of an array.
+/// - A check reads beside that each block of an array three times at most, and writes nothing to the disk.
 /// - A workload makes a store, serves its changes to it and reads it once more.
 pub fn run<S: Source, K: Sink, D: Disk>(
     alloc: Global,
@@ -58,6 +59,7 @@ pub fn run<S: Source, K: Sink, D: Disk>(
             },
         ) => make_store(alloc, sink, disk, mem, changes_max, versions_max).status(),
         Some(Subcommand::Levels { path: _ }) => write_levels(alloc, disk, sink).status(),
+        Some(Subcommand::Check { path: _ }) => write_check(alloc, disk, sink).status(),
         Some(
             Subcommand::Workload {
                 path: _,

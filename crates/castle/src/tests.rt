@@ -126,6 +126,17 @@ fn levels_are_of_a_store(rt: HostRuntime) -> Result<(), Fail> {
     Ok(())
 }
 
+#[test]
+fn a_new_store_is_sound(rt: HostRuntime) -> Result<(), Fail> {
+    let mut disk = MemDisk::new(rt.alloc(), &[])?;
+    let words = ["check", "f"];
+    assert!(rt; ends(rt.alloc(), &mut disk, &words, (&[1], &[1]), 2, b""));
+    assert!(rt; formats(rt.alloc(), &mut disk));
+    assert!(rt; ends(rt.alloc(), &mut disk, &words, (&[1], &[]), 0, b"sound\n"));
+    assert!(rt; ends(rt.alloc(), &mut disk, &words, (&[1], &[1]), 7, b""));
+    Ok(())
+}
+
 /// The summary of a workload of no change.
 const NOTHING: &[u8] = b"workload seed 1 changes 0\n\
 versions 1 updates 0 clones 0\n\
@@ -210,13 +221,15 @@ fn is_refused(alloc: Global, texts: &[&str]) -> bool {
 
 #[test]
 fn other_arguments_are_refused(rt: HostRuntime) {
-    let rows: [&[&str]; 14] = [
+    let rows: [&[&str]; 16] = [
         &[],
         &["serve"],
         &["serve", ""],
         &["serve", "store.bin", "now"],
         &["levels", ""],
         &["levels", "store.bin", "now"],
+        &["check", ""],
+        &["check", "store.bin", "now"],
         &["workload", "store.bin"],
         &["workload", "store.bin", "1"],
         &["workload", "", "1", "0"],

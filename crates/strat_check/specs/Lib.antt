@@ -13,3 +13,4 @@ pub mod Sightings
 pub mod StrayGroups
 pub mod Strays
 pub mod Sums
+pub mod Verdicts

@@ -13,5 +13,6 @@ pub mod scan;
 mod sights;
 mod stray_group;
 pub mod strays;
+pub mod verdict;
 
 pub use sights::Sights;

@@ -4,3 +4,4 @@ pub mod FractionLemmas
 pub mod RunLemmas
 pub mod LineLemmas
 pub mod ReportingLemmas
+pub mod CheckingLemmas

@@ -1,3 +1,4 @@
+pub mod Checking
 pub mod Densities
 pub mod Lines
 pub mod Reporting

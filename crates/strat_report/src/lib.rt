@@ -1,6 +1,7 @@
 //! Texts about a store: a report of its levels, and a summary of a workload.
 #![tactic(auto)]
 
+mod checking;
 mod density;
 pub mod laws;
 mod levels;
@@ -9,4 +10,6 @@ mod summary;
 mod totals;
 mod versions;
 
+pub use checking::write_check;
 pub use reporting::{write_levels, write_summary};
+pub use strat_check::verdict::{Verdict, check};

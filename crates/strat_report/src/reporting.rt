@@ -37,7 +37,7 @@ fn summary_of(alloc: Global, store: &Reading, seed: u64, count: u32) -> Result<S
 }
 
 /// The line of a damaged block.
-fn damage_of(alloc: Global, block: u32) -> Result<String, AllocError>
+pub(crate) fn damage_of(alloc: Global, block: u32) -> Result<String, AllocError>
     ensures ok { IfOk result (λ s. string_bytes s ≡ text (damaged_line block ∷ [])) }
 {
     format!(in alloc; "damaged block {block}\n")

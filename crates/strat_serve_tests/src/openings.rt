@@ -124,19 +124,18 @@ fn are_opened(alloc: Global, disk: &MemDisk, done: u32) -> bool {
     (0..3).all(|choice| openings(alloc, disk, choice, done).is_some_and(|stops| stops > 3))
 }
 
-/// Whether one of these crashes does after two such openings.
-fn are_opened_twice(alloc: Global, disk: &MemDisk, done: u32, stop: u64) -> bool {
-    let choice = (stop / 3 % 3) as u8;
-    pairs_of_openings(alloc, disk, choice, done).is_some_and(|stops| stops > 9)
+/// Whether each does after two such openings, one after the other.
+fn are_opened_twice(alloc: Global, disk: &MemDisk, done: u32) -> bool {
+    (0..3).all(|choice| pairs_of_openings(alloc, disk, choice, done).is_some_and(|stops| stops > 9))
 }
 
 /// Whether it is so of what a run leaves that is stopped after each of its first 40 calls, amid an opening, a batch or a
-/// checkpoint; of two openings, for each third of these.
+/// checkpoint; of two openings if it is asked for.
 fn stops_are_opened(alloc: Global, store: &MemDisk, twice: bool) -> Option<bool> {
     for calls in 0u64..40 {
         let (how, done, disk) = run_stopped(alloc, store, 0, 0, calls, 4096)?;
         let opened = if twice {
-            calls % 3 > 0 || are_opened_twice(alloc, &disk, done, calls)
+            are_opened_twice(alloc, &disk, done)
         } else {
             are_opened(alloc, &disk, done)
         };

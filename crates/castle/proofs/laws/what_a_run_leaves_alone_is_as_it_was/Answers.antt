@@ -12,5 +12,8 @@ returns-clause-format g c = λ path mem changes versions d status a b i j m n le
 pub returns-clause-levels : goal.returns-clause-levels
 returns-clause-levels g c = λ path d status a b i j m n leaves. leaves
 
+pub returns-clause-check : goal.returns-clause-check
+returns-clause-check g c = λ path d status a b i j m n leaves. leaves
+
 pub returns-clause-workload : goal.returns-clause-workload
 returns-clause-workload g c = λ path seed count d status a b i j m n leaves. leaves

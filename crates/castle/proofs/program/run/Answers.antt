@@ -5,6 +5,7 @@ use Rattle.castle.specs.Outcomes.{IsEarly, Runs, LeavesAlone}
 use Rattle.castle.specs.declared.arguments.Subcommand.{Subcommand as Borrowed}
 use Rattle.strat_report.specs.Reporting.{levels_text}
 use Rattle.strat_serve.specs.World.{World, world}
+use Rattle.castle.proofs.CheckLemmas.{check_cause}
 use Rattle.castle.proofs.CompleteLemmas.{completes, completes_sound, gave_up_by}
 use Rattle.castle.proofs.FormattedLemmas.{formatted_ends, formatting_gave_up}
 use Rattle.castle.proofs.SizeLemmas.{limits_of}
@@ -98,6 +99,31 @@ returns-in-Some-Levels-clause-same g c =
     let named = c.in-Some-Levels.ensures ∙ ap (λ (j : Borrowed). Some (subcommand_seen j)) c.in-Some-Levels.field-0-is in
     subst (λ (s : Option Subcommand). LeavesAlone s (g.D.Disk.view c.args.disk.now) c.status-in-Some-Levels.result (c.args.source.now ≡ c.args.source.now) (c.write_levels.new.sink ≡ c.args.sink.now) (c.write_levels.new.disk ≡ c.args.disk.now)) (sym named)
     (refl, λ is. c.write_levels.ensures.err (silent_by c.write_levels.result (subst (λ (n : ℕ). (n ≡ 2) ⊎ (n ≡ 5) ⊎ (n ≡ 8)) c.status-in-Some-Levels.ensures is)))
+
+pub returns-in-Some-Check-clause-ok : goal.returns-in-Some-Check-clause-ok
+returns-in-Some-Check-clause-ok g c =
+    let before = shown g c.args.source.now c.args.sink.now c.args.disk.now in
+    let now = shown g c.args.source.now c.write_check.new.sink c.write_check.new.disk in
+    let named = c.in-Some-Check.ensures ∙ ap (λ (j : Borrowed). Some (subcommand_seen j)) c.in-Some-Check.field-0-is in
+    let wrote = c.write_check.ensures in
+    subst (λ (s : Option Subcommand). Runs s 1099511627776 c.status-in-Some-Check.result before now) (sym named) (
+      c.write_check.result,
+      c.status-in-Some-Check.ensures,
+      record {
+        ends = wrote.end;
+        writes = wrote.ok;
+        same = wrote.same;
+        cause = check_cause before.disk now.disk c.write_check.result before.held now.held before.disk_faults now.disk_faults
+            before.sink_faults now.sink_faults before.left before.source_faults wrote.end wrote.cause;
+        complete = λ calm. wrote.found calm.disk calm.sink;
+      },
+    )
+
+pub returns-in-Some-Check-clause-same : goal.returns-in-Some-Check-clause-same
+returns-in-Some-Check-clause-same g c =
+    let named = c.in-Some-Check.ensures ∙ ap (λ (j : Borrowed). Some (subcommand_seen j)) c.in-Some-Check.field-0-is in
+    subst (λ (s : Option Subcommand). LeavesAlone s (g.D.Disk.view c.args.disk.now) c.status-in-Some-Check.result (c.args.source.now ≡ c.args.source.now) (c.write_check.new.sink ≡ c.args.sink.now) (c.write_check.new.disk ≡ c.args.disk.now)) (sym named)
+    (refl, λ is. c.write_check.ensures.err (silent_by c.write_check.result (subst (λ (n : ℕ). (n ≡ 2) ⊎ (n ≡ 5) ⊎ (n ≡ 8)) c.status-in-Some-Check.ensures is)))
 
 pub returns-in-Some-Workload-clause-ok : goal.returns-in-Some-Workload-clause-ok
 returns-in-Some-Workload-clause-ok g c =

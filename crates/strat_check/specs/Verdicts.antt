@@ -1,0 +1,28 @@
+-- What a check answers.
+use Rattle.std.specs.Prelude.{◌≡◌, ◌≢◌, ◌≤◌, ◌⊎◌, ℕ, List, [], ◌∷◌, Option, Some, None, Ok, Err}
+use Rattle.def_crash.specs.Faults.{Rose}
+use Rattle.def_crash.specs.Image.{Image}
+use Rattle.def_crash.specs.Moments.{DiskView, Exposes}
+use Rattle.def_bytes.specs.Damage.{Read}
+use Rattle.def_state.specs.Breach.{Breach}
+use Rattle.def_check.specs.Checked.{checked}
+use Rattle.strat_check.specs.declared.verdict.Verdict.{Verdict}
+use Rattle.strat_check.specs.declared.verdict.Verdict.TheVariants as verdict
+
+-- the answer for what a check finds: the first breach, if there is one
+abbrev pub verdict_for : Read (Option (List Breach)) → Verdict
+verdict_for (Ok (Some [])) = verdict.Sound
+verdict_for (Ok (Some (b ∷ breaches))) = verdict.Unsound b.rule b.level b.array
+verdict_for (Ok None) = verdict.NotAStore
+verdict_for (Err block) = verdict.Damaged block
+
+-- a check answered what it finds in an exposed content, or gave up: memory ran out, or the device failed
+abbrev pub IsRight : DiskView → Verdict → Type 0
+IsRight disk answer = (f : Image) → Exposes disk f
+    → (answer ≡ verdict_for (checked f)) ⊎ (answer ≡ verdict.NoMemory) ⊎ (answer ≡ verdict.Device)
+
+-- the device is blamed just where it counted a fault
+pub record VerdictHasCause (answer : Verdict) (before now : ℕ) : Type 0 where
+  pub later : before ≤ now
+  pub device : answer ≡ verdict.Device → Rose before now
+  pub other : answer ≢ verdict.Device → now ≡ before
