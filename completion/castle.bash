@@ -10,7 +10,7 @@ _castle_shell() {
     fi
     case $place:$word in
         [01]:-*) COMPREPLY=($(compgen -W "--json --keep-going -c --help --version" -- "$word")) ;;
-        1:*) COMPREPLY=($(compgen -W "put get exists delete scan use clone switch snapshot release merge names info tree diff stat levels dump load help" -- "$word")) ;;
+        1:*) COMPREPLY=($(compgen -W "put get exists delete scan use clone switch snapshot release merge names info tree diff stat levels check dump load help" -- "$word")) ;;
         *:-*) COMPREPLY=($(compgen -W "--limit --stat -p --svg --long --all --csv --json-lines --ours --theirs" -- "$word")) ;;
         *)
             compopt -o filenames 2>/dev/null
@@ -43,7 +43,7 @@ _castle() {
             return
         fi
     elif [ "$at" -eq 1 ]; then
-        COMPREPLY=($(compgen -W "format serve levels workload --overwrite --build --help --version" -- "$word"))
+        COMPREPLY=($(compgen -W "format serve levels check workload --overwrite --build --help --version" -- "$word"))
         return
     fi
     if [ "$at" -eq 2 ]; then

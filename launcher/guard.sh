@@ -32,6 +32,7 @@ castle keeps dictionaries whose versions form a tree, in one file.
                                       (1 to 16777216), V versions (1 to 16384)
     castle serve FILE                 answers frames on standard input; people use castle-shell FILE
     castle levels FILE                prints what is in which level of a store
+    castle check FILE                 tells whether a store's file keeps every rule, and which one it breaks
     castle workload FILE SEED COUNT   makes a store of COUNT drawn changes, and prints a summary
     castle --overwrite format ..      the same where FILE is not empty, which is lost; also workload
     castle --build                    proves and builds the program, where that has to be done
@@ -53,7 +54,7 @@ is_number() {
 # Ends with the usage, unless the program takes these words.
 check_words() {
     case ${1-}:$#:$overwrite in
-        serve:2: | levels:2:) ;;
+        serve:2: | levels:2: | check:2:) ;;
         format:5:*) is_number "$3" 4 4096 && is_number "$4" 1 16777216 && is_number "$5" 1 16384 || usage ;;
         workload:4:*) is_number "$3" 0 18446744073709551615 && is_number "$4" 0 1000000 || usage ;;
         *) usage ;;
@@ -73,11 +74,15 @@ refuse_stream() {
 
 # Sets `real` to the path of FILE without symbolic links. Its last byte may be a line feed.
 resolve() {
-    if [ ! -e "$2" ] && { [ "$1" = serve ] || [ "$1" = levels ]; }; then
-        folder=$(dirname -- "$2")
-        [ ! -d "$folder" ] || [ -x "$folder" ] || refuse 5 "$2: its folder can't be entered"
-        refuse 2 "$2: no such file"
-    fi
+    case $1 in
+        serve | levels | check)
+            if [ ! -e "$2" ]; then
+                folder=$(dirname -- "$2")
+                [ ! -d "$folder" ] || [ -x "$folder" ] || refuse 5 "$2: its folder can't be entered"
+                refuse 2 "$2: no such file"
+            fi
+            ;;
+    esac
     real=$(readlink -f -- "$2" && echo .) || refuse 5 "$2: its folder is not there, or its links lead in a circle"
     real=${real%??}
 }
@@ -97,7 +102,7 @@ look_at_file() {
         refuse 5 "$2: it is no plain file"
     fi
     case $1 in
-        serve | levels)
+        serve | levels | check)
             [ -r "$real" ] && [ -w "$real" ] || refuse 5 "$2: it can't be read and written; castle-shell reads a copy"
             seems_store || refuse 2 "$2: not a store"
             ;;
@@ -110,14 +115,16 @@ look_at_file() {
     esac
 }
 
-# Locks an open descriptor: `lock -n 8` fails at once where somebody else has it locked, and `lock -x 8` waits.
+# Locks an open descriptor: `lock -n 8` fails at once where somebody else has it locked, and `lock -x 8` waits. With -s in
+# front others may lock it so at the same time.
 lock() {
     if command -v flock >/dev/null 2>&1; then
         flock "$@" || [ "$?" -ne 1 ]  # other failures it has told itself: this file system has no locks
     elif command -v python3 >/dev/null 2>&1; then
         python3 -c 'import fcntl, sys
+*ways, number = sys.argv[1:]
 try:
-    fcntl.flock(int(sys.argv[2]), fcntl.LOCK_EX | (fcntl.LOCK_NB if sys.argv[1] == "-n" else 0))
+    fcntl.flock(int(number), (fcntl.LOCK_SH if "-s" in ways else fcntl.LOCK_EX) | (fcntl.LOCK_NB if "-n" in ways else 0))
 except BlockingIOError:
     sys.exit(1)' "$@"
     else
@@ -169,10 +176,15 @@ take_locks() {
     made_lock=$is_new
     echo "$$" >"$real.lock" 2>/dev/null
     if [ -r "$real" ]; then
-        exec 9<"$real"
-        lock -n 9 || refuse 125 "$1: the store is open already under another name, or is being copied"
-        is_at 9 "$real" || refuse 125 "$1: the file was replaced meanwhile; try again"
+        lock_itself "$1" "the store is open already under another name, or is being copied" -n
     fi
+}
+
+# Locks FILE itself, in the way that is said, or ends with what is said.
+lock_itself() {
+    exec 9<"$real"
+    lock $3 9 || refuse 125 "$1: $2"
+    is_at 9 "$real" || refuse 125 "$1: the file was replaced meanwhile; try again"
 }
 
 # Shows once a second how large a file has become, as long as this shell is there. The cursor goes back to the line's
@@ -180,6 +192,14 @@ take_locks() {
 show_growth() {
     while sleep 1 && kill -0 "$$" 2>/dev/null; do
         printf '\r\033[Kcastle: %s MB\r' "$(($(wc -c <"$1") / 1000000))" >&2
+    done
+}
+
+# Shows once a second how much of a file a check has read, as the system counts it, and the most that it may read: a block
+# of an array three times. The line is below the cursor, so that what the program prints stands above it.
+show_reads() {
+    while sleep 1 && reads=$(sed -n 's/^rchar: //p' "/proc/$1/io" 2>/dev/null) && [ -n "$reads" ]; do
+        printf '\n\033[Kcastle: %s MB read, of %s MB at most\r\033[A' "$((reads / 1000000))" "$(($(wc -c <"$2") * 3 / 1000000))" >&2
     done
 }
 
@@ -191,21 +211,42 @@ end() {
 # Ends the program, and then this shell.
 give_up() {
     trap '' HUP INT TERM
-    end "$!"
+    end "${child:-$!}"
     forget_lock
     exit "$1"
 }
 
-# Makes a store, and forgets the names that versions of the one before it had. The program reads no input.
-make_store() {
+# Has a signal that ends this shell end the program first.
+give_up_by_signals() {
     trap 'give_up 129' HUP
     trap 'give_up 130' INT
     trap 'give_up 143' TERM
+}
+
+# Has what shows the progress of a run be ended with this shell, and what it shows be taken away: K for a line, J for all below too.
+shows_progress() {
+    progress=$! cleared=$1
+    trap 'end "$progress"; printf "\r\033[%s" "$cleared" >&2' EXIT
+}
+
+# Checks a store at a terminal, since a long check says nothing before its end. The program reads no input.
+check_store() {
+    give_up_by_signals
+    "$program" "$@" &
+    child=$!
+    (show_reads "$child" "$real") 9>&- </dev/null >/dev/null &
+    shows_progress J
+    wait "$child"
+    exit "$?"
+}
+
+# Makes a store, and forgets the names that versions of the one before it had. The program reads no input.
+make_store() {
+    give_up_by_signals
     # A long workload says nothing before its end.
     if [ "$1" = workload ] && [ -t 2 ]; then
         (show_growth "$real") 8>&- 9>&- </dev/null >/dev/null &
-        growth=$!
-        trap 'end "$growth"; printf "\r\033[K" >&2' EXIT
+        shows_progress K
     fi
     "$program" "$@" &
     wait "$!"
@@ -231,13 +272,16 @@ run() {
     refuse_stream "$2" stdin input
     refuse_stream "$2" stdout output
     resolve "$@"
-    # `levels` changes nothing. A caller that has the locks has looked at the file, and sees to the names.
+    # `levels` and `check` change nothing. A caller that has the locks has looked at the file, and sees to the names.
     locks=needed
     if is_locked_by_caller; then
         locks=
     else
         look_at_file "$@"
-        [ "$1" != levels ] || locks=
+        case $1 in
+            levels) locks= ;;
+            check) locks=itself ;;
+        esac
     fi
     # in a shell of its own, since it opens descriptors, and the caller may have passed on some
     (make_ready) || exit
@@ -245,7 +289,10 @@ run() {
     if (trap '' XFSZ) 2>/dev/null; then
         trap '' XFSZ
     fi
-    if [ -n "$locks" ]; then
+    if [ "$locks" = itself ]; then
+        # What is written meanwhile would be read at different times. Nothing is made beside the file.
+        lock_itself "$2" "the store is open already" "-s -n"
+    elif [ -n "$locks" ]; then
         take_locks "$2"
         look_at_file "$@"  # again, since it may have changed before it was locked
         case $1 in
@@ -256,6 +303,9 @@ run() {
         if [ -n "$made_lock" ] && ! "$program" levels "$2" </dev/null >/dev/null 2>&1; then
             forget_lock
         fi
+    fi
+    if [ "$1" = check ] && [ -t 2 ]; then
+        check_store "$@"
     fi
     if [ "$1" = serve ] && [ -t 0 ]; then
         echo "castle: serve reads frames from standard input, which is a terminal here; people use castle-shell" >&2

@@ -19,7 +19,7 @@ import formats
 import model
 from faulty import Rig, counts_of, made_over
 from model import bodies_of, reply, tag_of
-from program import Skipped, Wrong, complaint, expect, expect_alike
+from program import Skipped, Wrong, complaint, expect, expect_alike, has_check
 from samples import drawn_beside_cursors, drawn_changes
 from shim import COUNTED, FOR_EVER, Fault
 
@@ -96,7 +96,7 @@ def rows(rig, seed):
     for name, data, store, frames in scripts(random.Random(seed), rig.folder):
         found = served_without(rig, data, store, frames)
         yield f"`serve` | {name} | {len(frames)}", found
-        for words in (["levels"], ["format", "4", "1000", "100"]):
+        for words in (["levels"], *([["check"]] if has_check() else []), ["format", "4", "1000", "100"]):
             yield f"`{words[0]}` | {name} |", other_jobs_without(rig, data, *words)
 
 

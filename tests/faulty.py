@@ -8,7 +8,7 @@ import subprocess
 import formats
 import model
 from model import bodies_of, clone, close_cursor, delete, get, info, next_pairs, open_cursor, put, reply, scan, stat, tag_of
-from program import DEADLINE, PROGRAM, Skipped, StoreFile, Wrong, bytes_of, complaint, expect, expect_kept
+from program import DEADLINE, PROGRAM, Skipped, StoreFile, Wrong, bytes_of, complaint, expect, expect_kept, expect_sound
 from samples import BATCH_MAX
 from shim import COUNTED, calls_in, library, settings
 
@@ -137,7 +137,9 @@ def expect_replies(name, script, ran):
 def expect_outcome(name, script, ran, data, status):
     """The run ended with this status, its replies are the model's, and nothing that they acknowledge is lost."""
     expect(f"{name}, status", (ran.status, ran.said), (status, b"" if status == KILLED else complaint(status)))
-    return expect_kept(name, script, expect_replies(name, script, ran), data)
+    changes = expect_kept(name, script, expect_replies(name, script, ran), data)
+    expect_sound(name, data)
+    return changes
 
 
 def changes_in(data):

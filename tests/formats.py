@@ -1,7 +1,7 @@
 """The bytes of a store's file in plain Python: how they are opened, what they say of each version, and how they are written.
 
 It is written from docs/FORMATS.md and shares no line with the program. Where a file is damaged, the block that is
-named is told as well.
+named is told as well. The rules of a sound file are in `tests/rules.py`.
 """
 
 import collections
@@ -411,22 +411,34 @@ def tables_of(data, contents, unread=None):
     return [{key: value for key, value in table.items() if value is not None} for table in tables]
 
 
-def store_of(data, contents):
-    """The store that a file has: its levels, and the changes of its journal made on them.
-
-    Its set `unread` has the versions that ask an array with a damaged block.
-    """
+def store_at_checkpoint(contents):
+    """The store that a file had when its journal was last emptied, but for what versions hold."""
     head, manifest = contents.head, contents.manifest
     store = model.Store(head.mem, head.changes_max, head.versions_max)
     store.emptied = (manifest.changes, manifest.updates)
     store.parents = [None, *manifest.parents]
     store.frozen = set(manifest.parents)
-    store.unread = set()
-    store.pairs = tables_of(data, contents, store.unread)
-    for change, block in contents.journal:
+    store.pairs = [{} for _ in store.parents]
+    return store
+
+
+def take_journal(store, journal):
+    """Makes the changes of a journal. A Damaged tells of one that the store does not take."""
+    for change, block in journal:
         if store.refusal(*change[:2]) is not None:
             raise Damaged(block, "the store does not take this change")
         store.make(change)
+
+
+def store_of(data, contents):
+    """The store that a file has: its levels, and the changes of its journal made on them.
+
+    Its set `unread` has the versions that ask an array with a damaged block.
+    """
+    store = store_at_checkpoint(contents)
+    store.unread = set()
+    store.pairs = tables_of(data, contents, store.unread)
+    take_journal(store, contents.journal)
     return store
 
 
@@ -500,76 +512,6 @@ def levels_printed(data):
         return b"damaged block %d\n" % damaged.block, model.DAMAGED
     except NoRoom:
         return b"", model.NO_MEMORY
-
-
-# What holds of a sound file
-
-def leads_of(level, entries):
-    """The leads of a level, by array: its entries of versions of its tag."""
-    return {array.id: [entry for entry in entries[array.id] if entry.version in array.versions] for array in level.arrays}
-
-
-def broken_in_array(array, entries, leads, live_leads, parents):
-    """The rules that an array breaks, of which the leads of its level are given, and by version those that are live."""
-    live = live_in(entries, parents)
-    counts = [len(live[version]) for version in array.versions]
-    own = sum(entry.version in array.versions for entry in entries)
-    if any(live[version] != live_leads[version] for version in array.versions):
-        yield "c: at a version of its tag live entries are others than those of the level"
-    if any(3 * count < len(entries) for count in counts):
-        yield "d: less than a third is live"
-    if len(entries) > 2 * own:
-        yield "e: more entries than twice the leads"
-    if not set(entries) <= leads:
-        yield "f: an entry is of no lead"
-    if (array.entries, array.leads, array.least) != (len(entries), own, min(counts)):
-        yield "k: its numbers are others than those of its entries"
-    if not all(order(a) < order(b) for a, b in itertools.pairwise(entries)):
-        yield "m: entries do not ascend"
-
-
-def broken_in_level(head, manifest, level, entries):
-    leads = [entry for found in leads_of(level, entries).values() for entry in found]
-    tags = [version for array in level.arrays for version in array.versions]
-    lead_set, live = set(leads), live_in(leads, manifest.parents)
-    if len(set(tags)) < len(tags) or max(tags) >= level.horizon:
-        yield "a: tags meet or pass the horizon"
-    if any(live[version] and version not in tags for version in range(level.horizon)):
-        yield "b: a version with live entries is in no tag"
-    for array in level.arrays:
-        yield from broken_in_array(array, entries[array.id], lead_set, live, manifest.parents)
-    if len({order(entry) for entry in leads}) < len(leads):
-        yield "g: two leads of one key and version"
-    if len(leads) > head.mem << level.number:
-        yield "h: more leads than the level may have"
-
-
-def broken_over_levels(manifest, journal, leads):
-    """The rules that levels break together; of each level the versions of leads are given."""
-    horizons = [level.horizon for level in manifest.levels]
-    if any(a < b for a, b in itertools.pairwise(horizons)):
-        yield "i: a deeper level has a greater horizon"
-    if max(horizons, default=1) > len(manifest.parents) + 1:
-        yield "i: a horizon is greater than the number of versions"
-    updated = {change[1] for change, _ in journal if change[0] != CLONE}
-    for i, horizon in enumerate(horizons):
-        closed = {parent for child, parent in enumerate(manifest.parents, 1) if child < horizon}
-        if closed & updated.union(*leads[:i]):
-            yield "j: a version that a deeper level closed has leads above it"
-    if sum(map(len, leads)) > manifest.updates:
-        yield "l: more leads than updates"
-
-
-def broken_rules(data, contents):
-    """The rules of a sound file that this one breaks, which opens."""
-    head, manifest = contents.head, contents.manifest
-    entries = {array.id: entries_of(data, array) for array in arrays_of(manifest)}
-    for level in manifest.levels:
-        yield from (f"{why}, level {level.number}" for why in broken_in_level(head, manifest, level, entries))
-    leads = [[entry.version for found in leads_of(level, entries).values() for entry in found] for level in manifest.levels]
-    yield from broken_over_levels(manifest, contents.journal, leads)
-    if sum(map(len, entries.values())) > 2 * manifest.updates:
-        yield "more entries than twice the updates"
 
 
 # Writing a file

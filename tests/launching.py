@@ -180,6 +180,9 @@ class Checkout:
 
 # At a terminal
 
+# What is shown of a workload, and of a check below the cursor, and how it is taken away
+PROGRESS = rb"\r\x1b\[K(?:castle: \d+ MB\r)?|\r\n\x1b\[Kcastle: \d+ MB read, of \d+ MB at most\r\x1b\[A|\r\x1b\[J"
+
 class Terminal:
     """A run in a shell with a terminal of its own, so that Ctrl-C there is a signal to all that it started."""
 
@@ -227,7 +230,7 @@ class Terminal:
         deadline = time.monotonic() + DEADLINE
         while (left := [name for _, name in self.left()]) and time.monotonic() < deadline:
             time.sleep(0.05)  # what was just left alone ends soon, as `sleep 1` does
-        return status, re.sub(rb"\r\x1b\[K(castle: \d+ MB\r)?|\^C|ended with \d+\r\n|\r", b"", self.shown), left
+        return status, re.sub(PROGRESS + rb"|\^C|ended with \d+\r\n|\r", b"", self.shown), left
 
     def left(self):
         """Its processes that are there still: their numbers and names."""

@@ -1,6 +1,9 @@
 """Runs the built program as a user would, compares what it does with the model in `tests/model.py`, and tells how checks went."""
 
+import collections
 import fcntl
+import functools
+import hashlib
 import itertools
 import os
 import pathlib
@@ -14,6 +17,7 @@ import time
 import formats
 import model
 import promotions
+import rules
 from model import Store, get, info, open_cursor, stat
 
 TOP = pathlib.Path(__file__).resolve().parent.parent
@@ -31,6 +35,7 @@ TEXTS = {
     7: "sink fault",
     8: "no memory",
     9: "damaged",
+    11: "unsound",
 }
 
 
@@ -186,8 +191,10 @@ def bytes_of(path):
 def expect_said(name, data, store):
     """The file opens, breaks no rule of a sound one, and says what the store has."""
     contents = formats.read(data)
-    expect(f"{name}, broken rules", list(formats.broken_rules(data, contents)), [])
+    expect(f"{name}, broken rules", rules.breaches(data, contents), [])
     counted = formats.recounted(data, contents)
+    stored = sum(array.entries for array in formats.arrays_of(counted.manifest))
+    expect(f"{name}, entries, of twice the updates at most", stored <= 2 * counted.manifest.updates, True)
     expect(f"{name}, counted in blocks", list(formats.levels_text(counted)), list(formats.levels_text(contents)))
     expect_alike(name, formats.store_of(data, contents), store)
     expect_levels(name, data, store)
@@ -218,7 +225,58 @@ def expect_told(name, path):
     text, status = formats.levels_printed(data)
     expect(f"{name}, levels", run(["levels", path]), (text, status, complaint(status)))
     expect(f"{name}, the file's bytes are the same", bytes_of(path) == data, True)
+    expect_checked(name, path)
     return text.decode()
+
+
+@functools.lru_cache(maxsize=None)
+def has_check():
+    """Whether the program has the word check. One that has not answers it as any wrong word."""
+    with tempfile.TemporaryDirectory() as folder:
+        return run(["check", os.path.join(folder, "absent.store")]) != (b"", 1, complaint(1))
+
+
+def wants_check():
+    if not has_check():
+        raise Skipped("the program has no word check yet")
+
+
+UNASKED = collections.Counter()  # files of which the program was not asked whether they are sound, since it has no such word
+
+
+def left_behind(path):
+    """A file's bytes, times and number, and its folder's names and time: what a run that writes would leave otherwise."""
+    found, folder = os.stat(path), os.path.dirname(path)
+    return bytes_of(path), (found.st_mtime_ns, found.st_ctime_ns, found.st_ino, os.stat(folder).st_mtime_ns), sorted(os.listdir(folder))
+
+
+def expect_checked(name, path):
+    """The job `check` prints what the rules say of the file's bytes, and leaves all as it is. The line and the status."""
+    if not has_check():
+        UNASKED["files"] += 1
+        return None
+    before = left_behind(path)
+    text, status = rules.checked(before[0])
+    expect(f"{name}, check", run(["check", path]), (text, status, complaint(status)))
+    expect(f"{name}, check leaves all as it is", left_behind(path) == before, True)
+    return text, status
+
+
+SOUND = set()  # of files that are sound what their bytes come to, so that the same bytes are looked at once
+
+
+def expect_sound(name, data):
+    """A file with these bytes is sound, and the job `check` says so."""
+    digest = hashlib.sha256(data).digest()
+    if digest in SOUND:
+        return
+    expect(f"{name}, the rules", rules.checked(data), (b"sound\n", model.ENDED))
+    with scratch(True) as folder:
+        path = os.path.join(folder, "left.store")
+        with open(path, "wb") as file:
+            file.write(data)
+        expect_checked(name, path)
+    SOUND.add(digest)
 
 
 def expect_alike(name, got, store):
@@ -338,7 +396,12 @@ def in_memory(check):
 
 def folder_for(check):
     """A new folder, which is removed behind the check."""
-    has_memory = getattr(check, "in_memory", False) and os.access("/dev/shm", os.W_OK)
+    return scratch(getattr(check, "in_memory", False))
+
+
+def scratch(is_in_memory):
+    """A new folder, in memory where it is to be and can be."""
+    has_memory = is_in_memory and os.access("/dev/shm", os.W_OK)
     return tempfile.TemporaryDirectory(dir="/dev/shm" if has_memory else None)
 
 
@@ -364,5 +427,7 @@ def run_checks(title, checks, wanted):
         else:
             print(f"{title}: {name}")
             passed += 1
+    if UNASKED["files"]:
+        print(f"{title}: skipped: what `check` says of {UNASKED['files']} files of these checks: the program has no such word yet")
     print(f"{passed} passed, {failed} failed")
     return 1 if failed or not passed else 0

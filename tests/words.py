@@ -48,7 +48,7 @@ OWNERS = {
     "Cursors": "strat_cursor",
     "Progress": "strat_promote",
     "Promotion": "strat_promote",
-    "Verdict": "strat_report",
+    "Verdict": "strat_check",
     "Item": "strat_arena",
     "Slot": "strat_arena",
     "Zero": "strat_level",

@@ -10,7 +10,7 @@ import model
 from model import (
     bodies_of, clone, close_cursor, delete, frame, get, info, next_pairs, open_cursor, put, reply, scan, stat)
 from program import (
-    DEADLINE, StoreFile, bytes_of, close, complaint, expect, expect_alike, expect_told, in_memory, serve, start)
+    DEADLINE, StoreFile, bytes_of, close, complaint, expect, expect_alike, expect_sound, expect_told, in_memory, serve, start)
 from samples import BATCH_MAX, batch_ends, drawn_changes
 from tracing import calls_of, traced, transfers_of
 
@@ -116,6 +116,7 @@ def expect_whole_batches(name, path, allowed):
     left = formats.opened(bytes_of(path))[1]
     changes = left.counts()[2]
     expect(f"{name}, {changes} changes", changes in allowed, True)
+    expect_sound(name, bytes_of(path))
     return left
 
 

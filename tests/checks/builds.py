@@ -44,6 +44,14 @@ def a_change_of_any_source_builds_once(folder):
                 change()
 
 
+def a_change_of_tests_builds_nothing(folder):
+    made = Checkout(folder)
+    made.build()
+    made.write("crates/low_tests/src/lib.rt", "")
+    expect("status", made.launch(["serve", made.store])[1], 0)
+    expect("builds", made.calls(), 0)
+
+
 def a_source_that_is_saved_amid_a_build_is_built_by_the_next_use(folder):
     made = Checkout(folder)
     made.build()
@@ -128,11 +136,12 @@ def help_version_and_usage_need_no_build(folder):
     for word in ("--help", "-h"):
         out, status, said = made.launch([word], cwd=inner)
         expect(f"{word}, status", (status, said), (0, b""))
-        for told in ("format FILE M C V", "serve FILE", "levels FILE", "workload FILE SEED COUNT", "--overwrite", f"{made.top}:"):
+        for told in ("format FILE M C V", "serve FILE", "levels FILE", "check FILE", "workload FILE SEED COUNT", "--overwrite", f"{made.top}:"):
             expect(f"whether {word} says {told}", told in out.decode(), True)
     kit = re.search(r"^Proved with `(.*)`\.$", (TOP / "README.md").read_text(), re.M)[1]
     expect("--version", made.launch(["--version"], cwd=inner), (f"castle {castle.__version__}\nproved with {kit}\n".encode(), 0, b""))
-    also = [[b"--overwrite"], [b"--overwrite", b"serve", b"a"], [b"--overwrite", b"levels", b"a"], [b"--build", b"a"], [b"--Help"],
+    also = [[b"--overwrite"], [b"--overwrite", b"serve", b"a"], [b"--overwrite", b"levels", b"a"],
+            [b"--overwrite", b"check", b"a"], [b"--build", b"a"], [b"--Help"],
             [b"serve", b"a", b"--overwrite"], [b"format", b"--overwrite", b"f", b"4", b"100", b"10"]]
     for words in [words for words in WRONG_WORDS if words != [b"--help"]] + also:
         expect(f"{words}", made.launch(words, cwd=inner), (b"", 1, complaint(1)))
@@ -145,7 +154,7 @@ def a_file_that_is_not_there_is_told_and_not_made(folder):
     inner = os.path.join(folder, "inner")
     os.mkdir(inner)
     os.symlink("nowhere", os.path.join(inner, "linked"))
-    for word in ("levels", "serve"):
+    for word in ("levels", "check", "serve"):
         for path in ("NOSUCH", "no/such", "linked", f"{inner}/NO SUCH"):
             want = (b"", 2, f"castle: {path}: no such file\n".encode())
             expect(f"{word} {path}", made.launch([word, path], cwd=inner), want)
@@ -163,10 +172,10 @@ def what_is_no_store_is_told_and_left_alone(folder):
     os.mkfifo(os.path.join(folder, "pipe"))
     os.mkdir(os.path.join(folder, "folder"))
     there = os.listdir(folder)
-    for word in ("levels", "serve"):
+    for word in ("levels", "check", "serve"):
         for name in held:
             expect(f"{word} {name}", launch([word, name], cwd=folder), (b"", 2, f"castle: {name}: not a store\n".encode()))
-    for words in (["levels"], ["serve"], ["format"], ["--overwrite", "format"], ["workload"]):
+    for words in (["levels"], ["check"], ["serve"], ["format"], ["--overwrite", "format"], ["workload"]):
         for name in ("pipe", "folder"):
             got = launch([*words, name, *MAKING.get(words[-1], [])], cwd=folder)
             expect(f"{words} {name}", got, (b"", 5, f"castle: {name}: it is no plain file\n".encode()))
@@ -210,6 +219,7 @@ CHECKS = [
     the_first_use_builds_and_shows_how_far_it_is,
     a_build_takes_none_of_the_input_and_none_of_the_output,
     a_change_of_any_source_builds_once,
+    a_change_of_tests_builds_nothing,
     a_source_that_is_saved_amid_a_build_is_built_by_the_next_use,
     a_build_that_fails_runs_no_program,
     a_program_that_is_not_there_is_built,

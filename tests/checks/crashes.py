@@ -10,7 +10,8 @@ import formats
 import model
 from model import bodies_of, get, open_cursor, put, reply
 from program import (
-    DEADLINE, GET_A, PUT_A, StoreFile, Wrong, bytes_of, close, complaint, expect, expect_prefix, read_exactly, send, serve, start)
+    DEADLINE, GET_A, PUT_A, StoreFile, Wrong, bytes_of, close, complaint, expect, expect_prefix, expect_sound, read_exactly, send, serve,
+    start)
 from samples import drawn_beside_cursors, drawn_changes, drawn_frames
 
 
@@ -41,6 +42,7 @@ def a_killed_run_loses_nothing_that_it_acknowledged(folder):
         expect(f"turn {turn}, replies", got[:9 * answered], b"".join(reply(tag, model.DONE) for tag in range(answered)))
         status, store.model = formats.opened(bytes_of(store.path))
         expect(f"turn {turn}, the file", status, 0)
+        expect_sound(f"turn {turn}", bytes_of(store.path))
         kept = [change[2:] for change in store.model.changes]
         if kept != pairs[:len(kept)] or len(kept) < answered:
             raise Wrong(f"turn {turn}: {len(kept)} puts are kept, which aren't the first that were sent, "

@@ -11,7 +11,7 @@ import subprocess
 import model
 from faulty import Rig, Ran, expect_goes_on, expect_outcome, starts
 from model import BLOCK
-from program import DEADLINE, PROGRAM, Skipped, close, complaint, expect, expect_kept, read_exactly, run, start
+from program import DEADLINE, PROGRAM, Skipped, close, complaint, expect, expect_kept, expect_sound, read_exactly, run, start
 
 
 def a_file_that_may_grow_no_more_loses_nothing(folder):
@@ -94,6 +94,7 @@ def an_input_that_ends_anywhere_loses_nothing(folder):
             name = f"{begun}, {end} bytes"
             expect(name, (ran.out, ran.status, ran.said), (script.out[:script.ends[answered]], status, complaint(status)))
             expect(f"{name}, changes", expect_kept(name, script, answered, rig.bytes()), script.made[answered])
+            expect_sound(name, rig.bytes())
 
 
 CHECKS = [

@@ -9,7 +9,7 @@ import subprocess
 import formats
 import model
 from model import BLOCK, Store, bodies_of, get, put, reply
-from program import DEADLINE, PROGRAM, PUT_A, Skipped, StoreFile, bytes_of, complaint, expect, expect_prefix, fed, run, serve
+from program import DEADLINE, PROGRAM, PUT_A, Skipped, StoreFile, bytes_of, complaint, expect, expect_prefix, expect_sound, fed, run, serve
 from tracing import traced
 
 
@@ -113,6 +113,7 @@ def a_full_device_is_a_device_fault(folder):
     got = fed([PROGRAM, "serve", store.path], puts, preexec_fn=lambda: limited(most))
     expect("puts", got, (want, 5, complaint(5)))
     status, store.model = formats.opened(bytes_of(store.path))
+    expect_sound("kept", bytes_of(store.path))
     expect("kept", (status, store.model.changes), (0, [(model.PUT, 0, key, b"value") for key in (b"0", b"1")]))
     out, status = store.model.serve(b"".join(puts))
     expect("again", serve(store.path, [b"".join(puts)]), (out, status, b""))

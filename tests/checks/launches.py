@@ -3,12 +3,13 @@
 import os
 import signal
 import subprocess
+import sys
 
 import formats
 import model
-from launching import MAKING, REFUSED, Terminal, expect_files, launch, limited
+from launching import MAKING, REFUSED, Checkout, Terminal, expect_files, launch, limited
 from model import BLOCK, Store, put, reply
-from program import DEADLINE, GET_A, LAUNCHER, PUT_A, StoreFile, bytes_of, complaint, expect, fed, hexed
+from program import DEADLINE, GET_A, LAUNCHER, PUT_A, StoreFile, bytes_of, complaint, expect, fed, hexed, wants_check
 
 
 def the_launcher_passes_words_input_and_status_on(folder):
@@ -175,8 +176,53 @@ def a_workload_is_ended_with_its_launcher(folder):
         expect(f"{name}, the lock is free", launch(["serve", path])[1:], (0, b""))
 
 
+def a_check_is_passed_on_and_makes_nothing(folder):
+    wants_check()
+    store = StoreFile(folder)
+    there = os.listdir(folder)
+    expect("a new store", launch(["check", store.path]), (b"sound\n", 0, b""))
+    with open(store.path, "r+b") as file:
+        file.seek(44 * BLOCK)  # docs/FORMATS.md: the manifest of a new store with M 64
+        file.write(b"\xff" * BLOCK)
+    expect("a damaged file", launch(["check", store.path]), (b"damaged block 44\n", 9, complaint(9)))
+    expect_files("check", folder, there)
+
+
+# In place of a program: it reads its file twice, waits, and says that it is sound
+READS_TWICE = f"""#!{sys.executable}
+import sys, time
+for _ in range(2):
+    with open(sys.argv[2], "rb") as file:
+        file.read()
+    time.sleep(1.5)
+print("sound")
+"""
+
+
+def a_check_at_a_terminal_shows_how_much_it_has_read(folder):
+    made = Checkout(folder)
+    made.write("program", READS_TWICE)
+    made.build()
+    made.write("a.store", "\xa7STRATBT1".ljust(5_000_000, "\0"))
+    shown = rb"\ncastle: \d+ MB read, of 15 MB at most\r\x1b\[A".replace(rb"\n", rb"\n\x1b\[K")
+    with Terminal([made.launcher, "check", made.store]) as run:
+        run.read_until(shown)
+        expect("its end", run.end(), (0, b"sound\n", []))
+    expect("no terminal", made.launch(["check", made.store]), (b"sound\n", 0, b""))
+    for name, number, status in (("Ctrl-C", None, 130), ("SIGTERM", signal.SIGTERM, 143), ("SIGHUP", signal.SIGHUP, 129)):
+        with Terminal([made.launcher, "check", made.store]) as run:
+            run.read_until(shown)
+            if number is None:
+                run.type(b"\x03")
+            else:
+                os.kill(next(process for process, name in run.left() if name == "castle"), number)
+            expect(f"{name}, its end", run.end(), (status, b"", []))
+
+
 CHECKS = [
     the_launcher_passes_words_input_and_status_on,
+    a_check_is_passed_on_and_makes_nothing,
+    a_check_at_a_terminal_shows_how_much_it_has_read,
     files_may_have_any_name,
     a_file_that_is_a_standard_stream_is_refused,
     a_file_at_its_largest_size_is_told,

@@ -146,6 +146,31 @@ def the_client_and_the_launcher_lock_each_other_out(folder):
     raise Wrong("the client opened a store that the launcher serves")
 
 
+def a_check_and_a_run_lock_each_other_out(folder):
+    made = Checkout(folder)
+    made.write("program", '#!/bin/sh\n[ "$1" != levels ] || exit 0\necho begun\ncat "$TOP/gate"\n')
+    made.build()
+    os.mkfifo(os.path.join(made.top, "gate"))
+    there = os.listdir(made.top)
+    for tools in ("flock", "python3"):
+        how = {"env": made.environment(path=path_with(folder, tools))}
+        with running(made.start(["serve", made.store])) as child:
+            read_exactly(child.stdout, 6)
+            said = f"castle: {made.store}: the store is open already\n".encode()
+            expect(f"check of an open store, {tools}", launch(["check", made.store], made.launcher, **how), (b"", REFUSED, said))
+        os.remove(f"{made.store}.lock")
+        wait_for("the run gives up its locks", lambda: not is_locked(made.store))
+        # two checks may go on side by side, and make nothing beside the file
+        with running(made.start(["check", made.store], path=how["env"]["PATH"])) as first, running(made.start(["check", made.store])) as second:
+            for child in (first, second):
+                read_exactly(child.stdout, 6)
+            expect("beside checks", sorted(os.listdir(made.top)), sorted(there))
+            said = f"castle: {made.store}: the store is open already under another name, or is being copied\n".encode()
+            expect(f"serve of a store that is checked, {tools}", launch(["serve", made.store], made.launcher, **how), (b"", REFUSED, said))
+            expect("beside it", sorted(os.listdir(made.top)), sorted(there))
+        wait_for("checks that have ended give up their locks", lambda: not is_locked(made.store))
+
+
 @contextlib.contextmanager
 def descriptors(*paths):
     """Descriptors of files, which may be inherited."""
@@ -234,6 +259,7 @@ CHECKS = [
     a_lock_that_can_not_be_opened_is_told,
     a_lock_file_that_was_made_for_no_store_is_taken_away,
     the_client_and_the_launcher_lock_each_other_out,
+    a_check_and_a_run_lock_each_other_out,
     a_caller_that_has_the_locks_hands_them_on,
     locks_that_the_caller_has_not_are_taken,
     a_build_keeps_the_locks_of_the_caller,

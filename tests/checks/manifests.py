@@ -4,6 +4,7 @@ import os
 import struct
 
 import formats
+import rules
 from model import BLOCK, get, put
 from program import Wrong, bytes_of, complaint, expect, expect_alike, expect_opened, serve
 
@@ -154,11 +155,11 @@ def unsound_files():
 
 
 def the_rules_of_a_sound_file_are_checked(folder):
-    for rules, tree, changed in unsound_files():
+    for letters, tree, changed in unsound_files():
         blocks = {block: formats.block_of(entries) for block, entries in {**ENTRIES, **changed}.items()}
         data = formats.file_of(1, HEAD._replace(changes_max=100), tree, [9], blocks)
-        told = {why[0] for why in formats.broken_rules(data, formats.read(data))}
-        expect(f"rules {rules}", "".join(sorted(told)), rules)
+        told = {breach.rule for breach in rules.breaches(data, formats.read(data))}
+        expect(f"rules {letters}", "".join(sorted(told)), letters)
 
 
 def chains_of_a_manifest_are_followed(folder):
@@ -210,7 +211,7 @@ def a_long_chain_is_followed_by_a_longer_one(folder):
     expect("the next chain", (contents.slot, contents.head.generation, contents.head.length, contents.chain),
            (0, 3, 16906, (11, 12, 13, 14, 15)))
     expect("its arrays", [array.extents for array in formats.arrays_of(contents.manifest)], [((8, 1),), ((10, 1),)])
-    expect("broken rules", list(formats.broken_rules(data, contents)), [])
+    expect("broken rules", rules.breaches(data, contents), [])
     expect_alike("a long chain", formats.store_of(data, contents), store)
 
 

@@ -8,7 +8,7 @@ import random
 import formats
 import model
 from model import BLOCK, Store, bodies_of, close_cursor, frame, get, info, next_pairs, open_cursor, put, scan, stat
-from program import StoreFile, Wrong, bytes_of, expect, expect_kept, expect_opened, serve
+from program import StoreFile, Wrong, bytes_of, expect, expect_kept, expect_opened, expect_sound, serve
 from samples import BATCH_MAX, batch_ends, drawn_beside_cursors, drawn_changes, folders_of
 from tracing import calls_of, traced
 
@@ -127,6 +127,7 @@ def a_cut_of_power_loses_nothing_acknowledged(folder):
             for choice, data in enumerate(images_of(synced, pending, chance)):
                 name = f"turn {turn}, call {number}, choice {choice}"
                 changes = expect_kept(name, history, answered, data)
+                expect_sound(name, data)
                 seen.add((choice, changes - history.made[answered]))
                 if chance.random() < 0.01:
                     expect_opened(f"{name}, the program", again.path, data)
@@ -238,6 +239,8 @@ def a_cut_of_power_without_a_sync_loses_what_rests_on_it(folder):
         for number, answered, synced, pending in moments(history):
             for data in images_of(synced, pending, chance):
                 expect_kept(f"{name}, call {number}, with all syncs", history, answered, data)
+                if formats.newest(data):  # a formatting that is cut off leaves no store
+                    expect_sound(f"{name}, call {number}, with all syncs", data)
         for number, role in roles_of(history):
             lost = a_loss_without(history, number, chance)
             if lost and role in SPARED:

@@ -11,6 +11,7 @@ import threading
 import formats
 import model
 import promotions
+import rules
 import workloads
 from model import BLOCK, scan, stat
 from program import (
@@ -92,7 +93,7 @@ def expect_bounded(name, path, seed, text):
     """The file opens, keeps the rules and the bounds, and the text is that of its blocks."""
     data = bytes_of(path)
     contents = formats.recounted(data, formats.read(data))
-    expect(f"{name}, broken rules", list(formats.broken_rules(data, contents)), [])
+    expect(f"{name}, broken rules", rules.breaches(data, contents), [])
     expect(f"{name}, beyond bounds", list(workloads.beyond_bounds(contents)), [])
     expect(f"{name}, the text", text, text_of(workloads.summary_text(seed, contents)))
     expect(f"{name}, levels", expect_told(name, path), text_of(formats.levels_text(contents)))

@@ -21,8 +21,10 @@ from .merge import Merge, ThreeWay
 from .names import Name, Names
 from .scan import Difference, Differences, Scan
 from .store import Store
+from .verdict import Damaged, Sound, Unsound, Verdict
 from .view import VersionView
 
-__all__ = ["Array", "Batch", "CastleError", "Counts", "Difference", "Differences", "Ended", "Info", "Level", "Levels", "Merge",
-           "Name", "Names", "Page", "Refused", "Scan", "Snapshot", "Stat", "Store", "ThreeWay", "VersionView"]
+__all__ = ["Array", "Batch", "CastleError", "Counts", "Damaged", "Difference", "Differences", "Ended", "Info", "Level", "Levels",
+           "Merge", "Name", "Names", "Page", "Refused", "Scan", "Snapshot", "Sound", "Stat", "Store", "ThreeWay", "Unsound", "Verdict",
+           "VersionView"]
 __version__ = "0.1.0"

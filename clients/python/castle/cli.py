@@ -8,10 +8,10 @@ import sys
 import warnings
 from typing import List, NamedTuple, Optional
 
-from . import __version__, completion, terminal
+from . import __version__, completion, terminal, verdict
 from .errors import CastleError, NamesWarning
 from .paging import paged
-from .shell import COMMANDS, FAILED, SINGLE_FAILED, Shell
+from .shell import ABSENT, COMMANDS, FAILED, SINGLE_FAILED, Shell
 from .store import Store
 from .terminal import INTERRUPTED
 
@@ -27,8 +27,9 @@ with a prompt, and else as a script.
   -h, --help    shows this; `castle-shell FILE help` lists the commands
   --version     shows the version
 
-Exit status of one command: 0, or 1 where `get` or `exists` finds no value, 2 where it failed. Of a script: 0, or 1
-where a line failed. Of both: 2 for wrong arguments, 130 after Ctrl-C. `castle format FILE 64 100000 100` makes a store.
+Exit status of one command: 0, or 1 where `get` or `exists` finds no value or `check` a store that is not sound, 2 where
+it failed. Of a script: 0, or 1 where a line failed. Of both: 2 for wrong arguments, 130 after Ctrl-C.
+`castle format FILE 64 100000 100` makes a store.
 """
 
 
@@ -85,9 +86,19 @@ def opened(path: str) -> Store:
     return store
 
 
+def checked(arguments: Arguments) -> int:
+    """Carries out the one command `check`. It opens no store, so that a file which can't be opened is checked too."""
+    found = Store.check(arguments.file)
+    for line in verdict.told(found, arguments.json):
+        print(line)
+    return 0 if found else ABSENT
+
+
 def carry_out(arguments: Arguments) -> int:
     """Opens the store and carries out what was asked for."""
     try:
+        if arguments.command == ["check"]:
+            return checked(arguments)
         with opened(arguments.file) as store:
             shell = Shell(store, sys.stdout, arguments.json, arguments.keeps_going)
             shell.has_input = bool(arguments.command or arguments.lines)

@@ -270,6 +270,8 @@ class InputBudget(Ended):
 
 
 class Unsound(Ended):
+    """`Store.check` gives a `castle.Unsound` in place of this."""
+
     status = 11
     text = "unsound"
     what = "the file breaks a rule of a sound store"
@@ -463,6 +465,13 @@ class NotFresh(CastleError):
 
     what = "the store is not fresh: it has changes or names"
     remedy = "Make a new one with `castle format`, and load into that."
+
+
+class NotSound(CastleError):
+    """A script's line `check` found that its store is not sound."""
+
+    what = "the store's file is not sound"
+    remedy = "`castle-shell FILE check` says what fails, and what to do."
 
 
 class NamesWarning(UserWarning):

@@ -21,8 +21,7 @@ from . import __version__, errors, hubsocket, terminal
 from .errors import CastleError, Ended
 from .hubclient import Client
 from .hubexchange import NO_TAG, SIZE, Exchange
-from .process import Process
-from .program import LIMIT
+from .process import LIMIT, Process
 from .store import Store
 
 MODE = 0o600

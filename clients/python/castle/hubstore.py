@@ -19,9 +19,10 @@ from .edits import Edits
 from .frames import Stat
 from .levels import Levels
 from .names import Names
-from .process import CHUNK, poll_of
-from .program import LIMIT, Program
+from .process import CHUNK, LIMIT, poll_of
+from .program import Program
 from .store import Path, Store, abandon
+from .verdict import Verdict
 
 CREDENTIALS = struct.Struct("3i")  # of whoever listens at a socket: process, user, group
 
@@ -179,3 +180,7 @@ class HubStore(Store):
     def levels(self) -> Levels:
         """A `NotOverHub`: they are read from the store's file."""
         raise errors.NotOverHub("levels can't be had over a hub", file=self.path, command="levels")
+
+    def verdict(self) -> Verdict:
+        """A `NotOverHub`: it is the store's file that is checked."""
+        raise errors.NotOverHub("a check can't be had over a hub", file=self.path, command="check")

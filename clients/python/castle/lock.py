@@ -6,10 +6,10 @@ import contextlib
 import fcntl
 import os
 from io import FileIO
-from typing import Callable, List, Optional, Tuple
+from typing import Callable, Iterator, List, Optional, Tuple
 
 from . import forks
-from .errors import CastleError, StoreLocked
+from .errors import CastleError, DeviceFailed, StoreLocked
 from .files import keep_permissions
 
 
@@ -133,6 +133,28 @@ class Lock:
         self._beside = self._itself = None
         for file in filter(None, files):
             file.close()
+
+
+@contextlib.contextmanager
+def unchanged(path: str, file: str) -> Iterator[None]:
+    """Within it no program serves the file at this path; errors call it `file`.
+
+    A shared flock on the file keeps others away, and a `StoreLocked` tells that one serves it already. Nothing is made beside
+    the file.
+    """
+    try:
+        opened = _moved_up(FileIO(path, "r"))
+    except OSError as error:
+        raise DeviceFailed(f"the file can't be read: {error.strerror}", file=file) from error
+    with opened:
+        try:
+            fcntl.flock(opened, fcntl.LOCK_SH | fcntl.LOCK_NB)
+        except BlockingIOError:
+            raise StoreLocked("the store is open, and may change meanwhile", "Close it there first.", file=file) from None
+        try:
+            yield
+        finally:
+            fcntl.flock(opened, fcntl.LOCK_UN)  # a child that was just forked may not have closed its copy yet
 
 
 def _identity(found: os.stat_result) -> Tuple[int, int]:

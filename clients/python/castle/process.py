@@ -15,6 +15,7 @@ from . import errors, forks
 from .lock import Lock
 
 CHUNK = 1 << 16  # bytes: as many as a pipe takes on Linux
+LIMIT = 5.0  # seconds that the program may take to end, once it has nothing to answer
 
 
 def find_program(given: Optional[str] = None) -> str:
@@ -150,6 +151,22 @@ class Process:
                     polls.unregister(pipe)
                     left.discard(pipe)
         return True
+
+    def output(self) -> Tuple[str, int]:
+        """What it prints up to its end, and its status, where it reads no input. Where an exception comes it is ended."""
+        try:
+            pieces: List[bytes] = []
+            while not pieces or pieces[-1]:
+                for pipe in self.ready(False):
+                    if pipe == self.out:
+                        pieces.append(os.read(pipe, CHUNK))
+                    else:
+                        self.read_errors()
+            return b"".join(pieces).decode("utf-8", "replace"), self.finish()
+        except BaseException:
+            self.kill(signal.SIGTERM)
+            self.finish(LIMIT)
+            raise
 
     def end(self, limit: float, command: str) -> errors.Ended:
         """Why it ended, for a command that it did not answer. See `finish`."""

@@ -17,14 +17,13 @@ from typing import TYPE_CHECKING, Callable, Deque, Iterator, List, NamedTuple, N
 
 from . import errors, forks, frames
 from .frames import NUMBER_MAX
-from .process import CHUNK, Process
+from .process import CHUNK, LIMIT, Process
 
 if TYPE_CHECKING:
     from .hubstore import Connection
 
 KEPT = 4096  # answered commands that are kept at most, before the list of commands is cut
 FAILURES = errno.EBADF, errno.EINVAL, errno.EIO  # of a pipe
-LIMIT = 5.0  # seconds that the program may take to end, once it has nothing to answer
 
 
 Result = Union[frames.Answer, errors.CastleError]

@@ -7,9 +7,9 @@ import sys
 from collections import deque
 from typing import Callable, ContextManager, Dict, Iterable, Iterator, List, Optional, Sequence, TextIO, TypeVar
 
-from . import backup, dump, jsonform, levels, listing, loading, outfile, picture_levels, picture_tree, report, tree
+from . import backup, dump, jsonform, levels, listing, loading, outfile, picture_levels, picture_tree, report, tree, verdict
 from .branches import Snapshot, nameless
-from .errors import CastleError, Ended, MergeConflict, UnknownName, UnknownVersion, Wrong
+from .errors import CastleError, Ended, MergeConflict, NotSound, UnknownName, UnknownVersion, Wrong
 from .frames import NUMBER_MAX, Info, prefix_end
 from .keycount import count_keys
 from .lines import Command, check_text, check_words, command_of, is_number, near, take_options
@@ -32,7 +32,10 @@ LOST = "stopped at once; a change that was under way was made or it was not"
 SHOWN_MOST = 1000  # pairs that a scan at a prompt shows at most, unless it is told how many
 
 FAILED, SINGLE_FAILED, ABSENT = 1, 2, 1
-"""Exit statuses: of a script with a line that failed, of a single command that failed, and of one whose key has no value."""
+"""Exit statuses: of a script with a line that failed, of a single command that failed, and of one whose key has no value.
+
+The last is that of a check as well whose store is not sound.
+"""
 TOLD = (CastleError, Stopped)
 """The errors of a line, which are told and not raised."""
 
@@ -62,7 +65,7 @@ class Shell:
         self._at: Optional[Word] = None  # the word of @, in the command that runs
         self._version: Optional[int] = None  # and its version
         self._is_single = False  # whether the exit status tells that a key has no value
-        self._is_absent = False
+        self._is_absent = False  # or that its store is not sound
 
     # Lines
 
@@ -472,6 +475,14 @@ class Shell:
             raise Wrong(f"usage: {COMMANDS['levels'].usage}")
         self._save(rest[1], picture_levels.svg(found, self.name))
 
+    def check(self, rest: List[Word]) -> None:
+        found = self.store.verdict()
+        for line in verdict.told(found, self.json):
+            self.out.write(f"{line}\n")
+        self._is_absent = not found
+        if not (found or self._is_single or self.is_typed):
+            raise NotSound(file=self.store.path, command="check")
+
     def _heading(self, infos: List[Info]) -> str:
         changes = counted(self.store.stat().changes, "change")
         return f"{self.name}: {counted(len(infos), 'version')}, {changes}"
@@ -601,6 +612,8 @@ COMMANDS: Dict[str, Command] = {
     "stat": Command(VERSIONS, "stat", "shows how many versions and changes there are", Shell.stat, 0, 0, False),
     "levels": Command(FILES, "levels [--svg FILE]", "draws what is stored, level by level, or writes a picture of it",
                       Shell.levels, 0, 2, False),
+    "check": Command(FILES, "check", "tells whether the store's file keeps every rule, and else what fails and what to do",
+                     Shell.check, 0, 0, False),
     "report": Command(FILES, "report FILE", "writes a page of HTML: the tree, the levels, and what is used and left",
                       Shell.report, 1, 1, False),
     "dump": Command(FILES, "dump [V [FILE] | --all [FILE]]", "writes a version's pairs, or the whole store, as lines of text",

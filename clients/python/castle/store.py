@@ -15,7 +15,7 @@ from types import TracebackType
 from typing import TYPE_CHECKING, List, NoReturn, Optional, Tuple, Type, Union, cast
 from weakref import WeakSet
 
-from . import backup, branches, errors, files, frames, hubsocket, outfile
+from . import backup, branches, errors, files, frames, hubsocket, outfile, verdict
 from .backup import Counts, Loading
 from .batch import Batch
 from .branches import Snapshot
@@ -24,12 +24,13 @@ from .copies import PrivateCopy
 from .edits import Edits
 from .frames import Info, Page, Stat
 from .levels import Levels, read
-from .lock import Lock
+from .lock import Lock, unchanged
 from .merge import Merge, merge
 from .names import Names, remove_names
-from .process import Process, find_program, printed
-from .program import LIMIT, Program
+from .process import LIMIT, Process, find_program, printed
+from .program import Program
 from .scan import Difference, Differences, Scan, differences
+from .verdict import Verdict
 from .view import VersionView
 
 if TYPE_CHECKING:
@@ -149,6 +150,26 @@ class Store:
             lock.release(forgets=True)
             raise
         lock.release()
+
+    @staticmethod
+    def check(path: Path, program: Optional[str] = None) -> Verdict:
+        """What a check says of a store's file, which nobody has open: a `Sound`, an `Unsound` or a `Damaged`.
+
+        The program reads all of the file, and changes nothing; nothing is made in its folder either. A file that may not be
+        written is checked as a private copy. `StoreLocked` tells that the store is open: a store of one's own has `verdict`.
+        What is no store is a `NotAStore`, and every other end of the program an exception too.
+        """
+        file, real = _located(path)
+        _check_file(real, file)
+        found = find_program(program)
+        if _is_writable(real, file):
+            with unchanged(real, file):
+                return _checked(found, real, file)
+        copy = PrivateCopy(real, file)
+        try:
+            return _checked(found, copy.path, file)
+        finally:
+            copy.remove()
 
     def __repr__(self) -> str:
         program = getattr(self, "_program", None)  # there is none yet amid an opening
@@ -276,6 +297,17 @@ class Store:
             return read(text)
         except ValueError as error:
             raise errors.WrongProtocol(f"its levels can't be read: {error}", file=self.path, command="levels") from error
+
+    def verdict(self) -> Verdict:
+        """What a check says of the store's file as it is now; see `check`.
+
+        Another run of the program reads all of the file while this one waits, which may take long.
+        """
+        with self._program.lock:
+            self._program.settle()
+            if not self._lock.is_of(self._served):
+                raise errors.StoreMoved(file=self.path, command="check")
+            return _checked(self._found, self._served, self.path, self._lock)
 
     # What is made of that
 
@@ -452,6 +484,20 @@ def _explained(error: errors.Ended, command: str, real: str) -> errors.Ended:
     elif isinstance(error, errors.DeviceFailed):
         error.what = files.fault(real) or error.what
     return error
+
+
+def _checked(program: str, real: str, file: str, lock: Optional[Lock] = None) -> Verdict:
+    """The verdict of a run of the program on a file, which errors call `file`."""
+    text, status = Process(program, ["check", real], file, lock).output()
+    if status not in verdict.STATUSES:
+        end = _explained(errors.ended(status, file, "check"), "check", real)
+        if isinstance(end, errors.WrongUsage):
+            end.what, end.remedy = "the program has no check", errors.Malformed.remedy
+        raise end
+    try:
+        return verdict.read(text, status)
+    except ValueError as error:
+        raise errors.WrongProtocol(f"its check can't be read: {error}", file=file, command="check") from error
 
 
 def _finished(process: Process) -> int:

@@ -55,30 +55,30 @@ check_cause d0 d3 how k0 k1 m b x y left source ends cause = record {
 -- how a check ends where nothing fails, by what it finds
 told_ends : (found : Read (Option (List Breach))) → (n : ℕ) → n ≡ status_of (end_of_check found) → (n ≡ 0) ⊎ (n ≡ 2) ⊎ (n ≡ 9) ⊎ (n ≡ 11)
 told_ends (Ok (Some [])) n is = inl is
-told_ends (Ok (Some (b ∷ breaches))) n is = inr (inr (inr is))
+told_ends (Ok (Some (b ∷ later))) n is = inr (inr (inr is))
 told_ends (Ok None) n is = inr (inl is)
 told_ends (Err block) n is = inr (inr (inl is))
 
 told_sound : (found : Read (Option (List Breach))) → status_of (end_of_check found) ≡ 0 → found ≡ Ok (Some [])
 told_sound (Ok (Some [])) is = refl
-told_sound (Ok (Some (b ∷ breaches))) is = absurd (omega (arith, is))
+told_sound (Ok (Some (b ∷ later))) is = absurd (omega (arith, is))
 told_sound (Ok None) is = absurd (omega (arith, is))
 told_sound (Err block) is = absurd (omega (arith, is))
 
 told_none : (found : Read (Option (List Breach))) → status_of (end_of_check found) ≡ 2 → found ≡ Ok None
 told_none (Ok None) is = refl
 told_none (Ok (Some [])) is = absurd (omega (arith, is))
-told_none (Ok (Some (b ∷ breaches))) is = absurd (omega (arith, is))
+told_none (Ok (Some (b ∷ later))) is = absurd (omega (arith, is))
 told_none (Err block) is = absurd (omega (arith, is))
 
 told_damaged : (found : Read (Option (List Breach))) → status_of (end_of_check found) ≡ 9 → (block : ℕ) × (found ≡ Err block)
 told_damaged (Err block) is = (block, refl)
 told_damaged (Ok None) is = absurd (omega (arith, is))
 told_damaged (Ok (Some [])) is = absurd (omega (arith, is))
-told_damaged (Ok (Some (b ∷ breaches))) is = absurd (omega (arith, is))
+told_damaged (Ok (Some (b ∷ later))) is = absurd (omega (arith, is))
 
-told_unsound : (found : Read (Option (List Breach))) → status_of (end_of_check found) ≡ 11 → (b : Breach) × ((later : List Breach) × (found ≡ Ok (Some (b ∷ later))))
-told_unsound (Ok (Some (b ∷ breaches))) is = (b, breaches, refl)
+told_unsound : (found : Read (Option (List Breach))) → status_of (end_of_check found) ≡ 11 → (b : Breach) × (later : List Breach) × (found ≡ Ok (Some (b ∷ later)))
+told_unsound (Ok (Some (b ∷ later))) is = (b, later, refl)
 told_unsound (Ok (Some [])) is = absurd (omega (arith, is))
 told_unsound (Ok None) is = absurd (omega (arith, is))
 told_unsound (Err block) is = absurd (omega (arith, is))
@@ -121,13 +121,13 @@ module _ (found : Read (Option (List Breach))) (status : ℕ) (how : Ended) (is 
       let all = said (λ no. omega (arith, no, this)) (λ no. omega (arith, no, this)) (λ no. omega (arith, no, this)) in
       (told_none found (sym all.0 ∙ this), all.1)
 
-  pub check_damaged : status ≡ 9 → (block : ℕ) × ((found ≡ Err block) × Appends h k (check_text found))
+  pub check_damaged : status ≡ 9 → (block : ℕ) × (found ≡ Err block) × Appends h k (check_text found)
   check_damaged this =
       let all = said (λ no. omega (arith, no, this)) (λ no. omega (arith, no, this)) (λ no. omega (arith, no, this)) in
       let at = told_damaged found (sym all.0 ∙ this) in
       (at.0, at.1, all.1)
 
-  pub check_unsound : status ≡ 11 → (b : Breach) × ((later : List Breach) × ((found ≡ Ok (Some (b ∷ later))) × Appends h k (check_text found)))
+  pub check_unsound : status ≡ 11 → (b : Breach) × (later : List Breach) × (found ≡ Ok (Some (b ∷ later))) × Appends h k (check_text found)
   check_unsound this =
       let all = said (λ no. omega (arith, no, this)) (λ no. omega (arith, no, this)) (λ no. omega (arith, no, this)) in
       let at = told_unsound found (sym all.0 ∙ this) in

@@ -1,15 +1,15 @@
 -- Whether an entry is one of the leads of a group, told by the item of its version and of the place that owns it.
-use Rattle.std.proofs.Common.{◌≡◌, ◌<◌, ◌≤◌, ◌+◌, ◌*◌, ◌/◌, ◌%◌, ℕ, zero, suc, Bool, true, false, cond, eqb, ltb, leb, ◌&&◌, not, inl, inr, List, [], ◌∷◌, length, map, filter, get_or, Option, Some, None, refl, sym, ap, ◌∙◌, subst, arith, true≢false}
+use Rattle.std.proofs.Common.{◌≡◌, ◌<◌, ◌≤◌, ◌+◌, ◌*◌, ◌/◌, ◌%◌, ℕ, zero, suc, true, false, eqb, ltb, inl, inr, List, [], ◌∷◌, length, get_or, refl, sym, ap, ◌∙◌, subst, arith}
 use Rattle.std.specs.List.{list_all, Contains}
 use Rattle.std.specs.List.Sorted.{IsPartitionedBy, IsPartitionPoint}
-use Rattle.std.proofs.lemmas.Bool.{and_parts, and_from, ltb-true, ltb-false, lt-ltb, le-ltb, le-leb, lt-leb, leb-true, eq-eqb, eqb-true, ne_eqb, cases_lt, cases_eq, cases_Bool, false_from_ne_true}
+use Rattle.std.proofs.lemmas.Bool.{and_parts, and_from, ltb-true, ltb-false, lt-ltb, eq-eqb, eqb-true, cases_lt, cases_eq, false_from_ne_true}
 use Rattle.std.proofs.lemmas.Nat.{div-mul-add, mod-mul-add}
 use Rattle.strat_arena.specs.ArenaView.{KeyValue}
 use Rattle.strat_arena.specs.Items.{entry_of_item, entries_of}
 use Rattle.strat_arena.specs.declared.items.Item.{Item}
 use Rattle.strat_base.specs.Entries.{Entry, is_of, is_at, is_same, is_same_value, holds_entry}
-use Rattle.strat_base.proofs.ListFacts.{Among, all_at, all_from, among_filter, filter_among}
-use Rattle.strat_base.proofs.EntryLemmas.{is_of_key, same_bytes, at_key_version, same_entry, entry_same, held_among, among_held}
+use Rattle.strat_base.proofs.ListFacts.{Among, all_at}
+use Rattle.strat_base.proofs.EntryLemmas.{is_of_key, at_key_version, same_entry, entry_same, held_among, among_held}
 use Rattle.def_split.proofs.ListLemmas.{bool_same, map_among, among_map}
 use Rattle.def_check.specs.Marked.{unmarked}
 use Rattle.strat_live.specs.Group.{is_descending}
@@ -116,13 +116,15 @@ module _ (pairs : List KeyValue) (items : List Item) (owners : List ℕ) (e : En
       let from = unmarked_among (is_owned owners) (entries_of pairs items) e (held_among leads e held) in
       let at = map_among (entry_of_item pairs) items from.0 from.1 in
       let version : at.0.version / 16384 ≡ e.version = sym (ap (λ (x : Entry). x.version) (from.3 ∙ ap unmarked at.2)) in
-      let owned : eqb (get_or owners (at.0.version / 16384) 0) (at.0.version % 16384) ≡ true = sym (ap (is_owned owners) at.2) ∙ from.2 in
-      (at.0, record {
-        inside = at.1;
-        version = version;
-        place = ap (λ (n : ℕ). get_or owners n 0) (sym version) ∙ eqb-true (get_or owners (at.0.version / 16384) 0) (at.0.version % 16384) owned;
-        is = from.3 ∙ ap unmarked at.2;
-      })
+      let owned : eqb (get_or owners (at.0.version / 16384) 0) (at.0.version % 16384) ≡ true = sym (ap (is_owned owners) at.2) ∙ from.2 in (
+        at.0,
+        record {
+          inside = at.1;
+          version = version;
+          place = ap (λ (n : ℕ). get_or owners n 0) (sym version) ∙ eqb-true (get_or owners (at.0.version / 16384) 0) (at.0.version % 16384) owned;
+          is = from.3 ∙ ap unmarked at.2;
+        },
+      )
 
   not_held : (holds_entry (unmarked_where (is_owned owners) (entries_of pairs items)) e ≡ true → ⊥) → false ≡ holds_entry (unmarked_where (is_owned owners) (entries_of pairs items)) e
   not_held none = sym (false_from_ne_true (holds_entry leads e) none)

@@ -1,5 +1,5 @@
 -- A level that a descriptor and an image give.
-use Rattle.std.proofs.Common.{◌≡◌, ◌<◌, ◌≤◌, ℕ, suc, Bool, true, false, ltb, ◌&&◌, inl, inr, List, [], ◌∷◌, ◌++◌, length, map, filter, unwrap_or, Option, Some, None, option_and_then, refl, sym, ap, ◌∙◌, subst, true≢false}
+use Rattle.std.proofs.Common.{◌≡◌, ℕ, suc, true, false, ltb, inl, inr, List, [], ◌∷◌, ◌++◌, length, map, filter, unwrap_or, Option, Some, None, option_and_then, refl, ap, ◌∙◌, subst}
 use Rattle.std.specs.List.{list_all, flat_map}
 use Rattle.std.specs.Option.{option_map, option_map_or}
 use Rattle.std.proofs.lemmas.Bool.{and_parts, and_from}
@@ -10,7 +10,7 @@ use Rattle.strat_base.proofs.ResultFacts.{option_cases}
 use Rattle.def_crash.specs.Image.{Image}
 use Rattle.def_bytes.specs.Arrays.{all_some, blocks_of, entries_on}
 use Rattle.def_recovery.specs.Opened.{array_on, level_on}
-use Rattle.def_state.specs.Level.{TaggedArray, Level, is_distinct, tagged_versions, has_disjoint_tags}
+use Rattle.def_state.specs.Level.{TaggedArray, Level, is_distinct, tagged_versions}
 use Rattle.def_state.specs.Sound.{has_ascending_entries}
 use Rattle.def_check.specs.Marked.{kept_below}
 use Rattle.def_check.specs.Told.{MayBeCounted}

@@ -1,5 +1,5 @@
 -- One more group of a level is counted, and what the groups tell in the end.
-use Rattle.std.proofs.Common.{◌≡◌, ◌<◌, ◌≤◌, ◌+◌, ◌*◌, ◌/◌, ◌%◌, ◌^◌, ℕ, zero, suc, Bool, true, false, cond, eqb, ltb, ◌&&◌, ◌||◌, not, inl, inr, List, [], ◌∷◌, ◌++◌, length, map, filter, get_or, Option, Some, None, refl, sym, ap, ◌∙◌, subst, arith, true≢false, length-append}
+use Rattle.std.proofs.Common.{◌≡◌, ◌<◌, ◌≤◌, ◌*◌, ◌/◌, ◌%◌, ◌^◌, ℕ, zero, suc, Bool, true, false, cond, ltb, ◌||◌, not, List, [], ◌∷◌, ◌++◌, length, map, filter, get_or, Some, refl, sym, ap, ◌∙◌, subst, arith, length-append}
 use Rattle.std.specs.List.{list_any, list_all, flat_map, slice_get, sum_by}
 use Rattle.std.proofs.lemmas.Bool.{and_parts, ltb-true}
 use Rattle.std.proofs.lemmas.List.{map-append}
@@ -17,7 +17,7 @@ use Rattle.def_state.specs.Sound.{has_ascending_entries}
 use Rattle.def_state.proofs.LevelLemmas.{ascending_single}
 use Rattle.def_split.specs.Groups.{grouped_entries, group_versions, AreGroups}
 use Rattle.def_split.proofs.ListLemmas.{map_among, filter_same, filter_ascending}
-use Rattle.def_promote.specs.Merging.{MergesTo, Merges}
+use Rattle.def_promote.specs.Merging.{Merges}
 use Rattle.def_promote.proofs.MergingLemmas.{merged}
 use Rattle.def_promote.proofs.UnionLemmas.{single_fits}
 use Rattle.def_state.specs.Live.{live}
@@ -26,11 +26,11 @@ use Rattle.def_check.specs.Told.{MayBeCounted, AreLeadsOf}
 use Rattle.def_check.proofs.MarkedLemmas.{run_told}
 use Rattle.def_check.proofs.MarkedLeads.{kept_leads}
 use Rattle.strat_live.specs.Counting.{are_below}
-use Rattle.strat_check.specs.LevelPasses.{AreCounted, IsLevelCounted}
+use Rattle.strat_check.specs.LevelPasses.{AreGroupsCounted}
 use Rattle.strat_check.specs.MarkedGroups.{is_owned, owned_versions}
 use Rattle.strat_check.specs.Owners.{AreOwners}
 use Rattle.strat_check.specs.Sightings.{Sightings, versions_added, IsSighting, IsSighted}
-use Rattle.strat_check.specs.Strays.{unmarked_where, has_stray, has_live_stray, strays_at, AreNoted, AreStraysOf, IsCountedLevel}
+use Rattle.strat_check.specs.Strays.{unmarked_where, has_stray, has_live_stray, strays_at, AreNoted, IsCountedLevel}
 use Rattle.strat_check.specs.declared.strays.Strays.{Strays}
 use Rattle.strat_check.proofs.StrayLemmas.{any_told, live_stray_told, live_below}
 
@@ -51,10 +51,10 @@ module _ (parents : Parents) (tags : List (List ℕ)) (owners : List ℕ) (own :
   leads_are = ap (λ (es : List Entry). map unmarked es) (filter_same (is_owned owners) (is_marked_lead tags) (entries_of pairs items) owned_is)
 
   -- one more group was counted
-  pub counted_more : (groups : List (List Entry)) (old new : List Strays) (before now : Sightings) (versions : List ℕ) → AreCounted parents tags groups old before
+  pub counted_more : (groups : List (List Entry)) (old new : List Strays) (before now : Sightings) (versions : List ℕ) → AreGroupsCounted parents tags groups old before
       → AreNoted parents (is_owned owners) tags (entries_of pairs items) old new → versions ≡ owned_versions owners (entries_of pairs items)
       → ((others : List (List ℕ)) → IsSighting parents others before → versions_added (others ++ versions ∷ []) ≤ 2 ^ 48 → IsSighting parents (others ++ versions ∷ []) now)
-      → AreCounted parents tags (groups ++ entries_of pairs items ∷ []) new now
+      → AreGroupsCounted parents tags (groups ++ entries_of pairs items ∷ []) new now
   counted_more groups old new before now versions counted noted are adds =
       let group = entries_of pairs items in
       let mine : versions ≡ map (λ (e : Entry). e.version) (unmarked_where (is_marked_lead tags) group) =
@@ -90,7 +90,7 @@ module _ (parents : Parents) (tags : List (List ℕ)) (owners : List ℕ) (own :
 
 -- no group was counted yet
 pub counted_none : (parents : Parents) (tags : List (List ℕ)) (found : List Strays) (s : Sightings) → IsSighting parents [] s
-    → ((i : ℕ) → ((strays_at found i).has_any ≡ false) × ((strays_at found i).is_live ≡ false)) → AreCounted parents tags [] found s
+    → ((i : ℕ) → ((strays_at found i).has_any ≡ false) × ((strays_at found i).is_live ≡ false)) → AreGroupsCounted parents tags [] found s
 counted_none parents tags found s sighting none = record { sighted = λ few. sighting; any = λ i within. (none i).0; live = λ i within. (none i).1 }
 
 mapped_get : {X Y : Type 0} (f : X → Y) (xs : List X) (k : ℕ) (x : X) → slice_get xs k ≡ Some x → slice_get (map f xs) k ≡ Some (f x)
@@ -178,7 +178,7 @@ module _ (parents : Parents) (tree : IsTree parents) (level : Level) (may : MayB
         merges i (filter (λ e. ltb e.version (length parents)) a.content)
         (mapped_get (λ (x : TaggedArray). x.content) (map (kept_below (length parents)) level.arrays) i (kept_below (length parents) a) (mapped_get (kept_below (length parents)) level.arrays i a at))
 
-    pub level_counted : (found : List Strays) (before now : Sightings) → AreCounted parents (map (λ a. a.tag) level.arrays) groups found before → length found ≡ length level.arrays
+    pub level_counted : (found : List Strays) (before now : Sightings) → AreGroupsCounted parents (map (λ a. a.tag) level.arrays) groups found before → length found ≡ length level.arrays
         → sum_by (λ a. length a.content) level.arrays ≤ 2 ^ 48
         → ((others : List (List ℕ)) → IsSighting parents others before → versions_added others ≤ 2 ^ 48 → IsSighted parents others now) → IsCountedLevel parents level found now
     level_counted found before now counted len total finish = record {

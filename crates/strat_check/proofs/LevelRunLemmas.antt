@@ -1,9 +1,9 @@
 -- The marked runs of a level's arrays are opened one after another.
-use Rattle.std.proofs.Common.{◌≡◌, ◌<◌, ◌≤◌, ◌+◌, ◌-◌, ◌*◌, ℕ, zero, suc, Bool, true, false, leb, ltb, inl, inr, ◌⊎◌, List, [], ◌∷◌, ◌++◌, length, map, filter, take, get_or, unwrap_or, Option, Some, None, Result, Ok, Err, OnErr, refl, sym, ap, ◌∙◌, subst, arith, length-append, true≢false}
+use Rattle.std.proofs.Common.{◌≡◌, ◌<◌, ◌≤◌, ◌+◌, ◌*◌, ℕ, zero, suc, true, false, leb, ltb, inl, inr, ◌⊎◌, List, [], ◌∷◌, ◌++◌, length, map, filter, take, get_or, unwrap_or, Option, Some, Result, Ok, Err, OnErr, refl, sym, ap, ◌∙◌, subst, arith, length-append, true≢false}
 use Rattle.std.specs.List.{list_all, slice_get, Contains}
 use Rattle.std.specs.Option.{option_map_or}
 use Rattle.std.proofs.lemmas.Bool.{and_from, and_parts, le-leb}
-use Rattle.std.proofs.lemmas.List.{length-map, map-append, append-nil, append_assoc, take_more}
+use Rattle.std.proofs.lemmas.List.{length-map, map-append, append-nil, take_more}
 use Rattle.std.proofs.lemmas.List.Folds.{list_all-append}
 use Rattle.std.proofs.lemmas.List.Elements.{Contains-append_left, Contains-append_right, Contains-append_cases}
 use Rattle.std.proofs.lemmas.Grind.{flat_map-append}
@@ -16,11 +16,11 @@ use Rattle.def_crash.specs.Moments.{DiskView, Exposes, OnlyReads}
 use Rattle.def_bytes.specs.Arrays.{blocks_of, entries_on}
 use Rattle.def_check.specs.Marked.{marked, marked_runs}
 use Rattle.strat_merge.specs.Gathered.{are_under}
-use Rattle.strat_merge.specs.Runs.{RunView, lefts, blocks_left, IsBadFor, ReadsFront}
-use Rattle.strat_promote.specs.Job.{blocks_listed, IsBadInput}
+use Rattle.strat_merge.specs.Runs.{RunView, blocks_left, IsBadFor, ReadsFront}
+use Rattle.strat_promote.specs.Job.{blocks_listed}
 use Rattle.strat_promote.specs.Leads.{misfit_in}
 use Rattle.strat_promote.specs.Opening.{IsBlamed}
-use Rattle.strat_check.specs.LevelRuns.{is_in_order, kept_on, OpensRun, AreOpened}
+use Rattle.strat_check.specs.LevelRuns.{is_in_order, kept_on, OpensRun, AreLevelRuns}
 
 marked_last : (i : ℕ) (runs : List (List Entry)) (run : List Entry) → marked_runs i (runs ++ run ∷ []) ≡ marked_runs i runs ++ map (marked (i + length runs)) run ∷ []
 marked_last i [] run = let same : i ≡ i + 0 = omega arith in ap (λ (j : ℕ). map (marked j) run ∷ []) same
@@ -54,7 +54,7 @@ bad_of_one f run b bad = go bad.at bad.run bad.there bad.says
     go (suc i) other there says = absurd (cc)
 
 -- no run yet
-pub opened_none : (n : ℕ) (disk : DiskView) (reads : ℕ) → AreOpened n disk [] [] reads reads
+pub opened_none : (n : ℕ) (disk : DiskView) (reads : ℕ) → AreLevelRuns n disk [] [] reads reads
 opened_none n disk reads = record {
   left = λ f exposed order. refl;
   len = refl;
@@ -66,8 +66,8 @@ opened_none n disk reads = record {
 }
 
 -- one more run
-pub opened_more : (n : ℕ) (disk after : DiskView) (xs : List ArrayDesc) (a : ArrayDesc) (old new : List RunView) (first then last : ℕ) → AreOpened n disk xs old first then → OnlyReads disk after
-    → OpensRun n after (length xs) a old new then last → AreOpened n disk (xs ++ a ∷ []) new first last
+pub opened_more : (n : ℕ) (disk after : DiskView) (xs : List ArrayDesc) (a : ArrayDesc) (old new : List RunView) (first then last : ℕ) → AreLevelRuns n disk xs old first then → OnlyReads disk after
+    → OpensRun n after (length xs) a old new then last → AreLevelRuns n disk (xs ++ a ∷ []) new first last
 opened_more n disk after xs a old new first then last one same more =
     let later = one.later in
     let most = one.most in
@@ -83,7 +83,7 @@ opened_more n disk after xs a old new first then last one same more =
     let counts = length-append (blocks_left old) more.run.blocks in
     let front : length (blocks_of a.extents) ≡ length (more.read.read ++ more.run.blocks) = ap (λ (bs : List ℕ). length bs) more.read.split in
     let fronts = length-append more.read.read more.run.blocks in
-    subst (λ (runs : List RunView). AreOpened n disk (xs ++ a ∷ []) runs first last) (sym more.behind) (record {
+    subst (λ (runs : List RunView). AreLevelRuns n disk (xs ++ a ∷ []) runs first last) (sym more.behind) (record {
       left = λ f exposed order.
           let orders = and_parts (list_all (is_in_order f) xs) (list_all (is_in_order f) (a ∷ [])) (sym (list_all-append (is_in_order f) xs (a ∷ [])) ∙ order) in
           let its = in_order f a (and_parts (is_in_order f a) true orders.1).0 in
@@ -143,7 +143,7 @@ array_blamed all i a start now b within is same blamed = (
   λ f exposed. record { array = a; one = (i, within, sym is); misfit = blamed.1 f (same.same ∙ exposed) },
 )
 
-pub array_reads : (n : ℕ) (start : DiskView) (all : List ArrayDesc) (i : ℕ) (a : ArrayDesc) (runs : List RunView) (first then last : ℕ) → i < length all → a ≡ get_or all i a → AreOpened n start (take i all) runs first then
+pub array_reads : (n : ℕ) (start : DiskView) (all : List ArrayDesc) (i : ℕ) (a : ArrayDesc) (runs : List RunView) (first then last : ℕ) → i < length all → a ≡ get_or all i a → AreLevelRuns n start (take i all) runs first then
     → ReadsAtMost (length (blocks_of a.extents)) then last → ReadsAtMost (length (blocks_listed all)) first last
 array_reads n start all i a runs first then last within is opened reads =
     let most = opened.most in
@@ -167,6 +167,6 @@ front_reads old new before now front =
     record { later = later; bound = omega (arith, most, size, length-append front.read new) }
 
 -- a block that a merge of the runs blames is one of the arrays'
-pub pass_blamed : (n : ℕ) (disk after : DiskView) (arrays : List ArrayDesc) (runs : List RunView) (first then : ℕ) → AreOpened n disk arrays runs first then → OnlyReads disk after
+pub pass_blamed : (n : ℕ) (disk after : DiskView) (arrays : List ArrayDesc) (runs : List RunView) (first then : ℕ) → AreLevelRuns n disk arrays runs first then → OnlyReads disk after
     → (b : ℕ) → Contains (blocks_left runs) b → ((f : Image) → Exposes after f → IsBadFor runs f b) → IsBlamed disk arrays b
 pass_blamed n disk after arrays runs first then opened same b here bad = (opened.within b here, λ f exposed. opened.blames f b exposed (bad f (same.same ∙ exposed)))

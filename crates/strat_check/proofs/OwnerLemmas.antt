@@ -1,11 +1,11 @@
 -- A table of the places that own each version, filled tag by tag.
-use Rattle.std.proofs.Common.{◌≡◌, ◌<◌, ◌≤◌, ◌+◌, ℕ, zero, suc, Bool, true, false, cond, eqb, ltb, ◌&&◌, ◌||◌, inl, inr, List, [], ◌∷◌, ◌++◌, length, map, take, drop, set, get_or, refl, sym, ap, ◌∙◌, subst, arith, true≢false}
-use Rattle.std.specs.List.{list_all, list_any, flat_map}
-use Rattle.std.proofs.lemmas.Bool.{and_parts, ltb-true, lt-ltb, le-ltb, eq-eqb, ne_eqb, eqb-true, cases_lt, cases_Bool, cases_eq}
+use Rattle.std.proofs.Common.{◌≡◌, ◌<◌, ◌≤◌, ◌+◌, ℕ, zero, suc, Bool, true, false, cond, eqb, ltb, ◌&&◌, ◌||◌, inl, inr, List, [], ◌∷◌, ◌++◌, length, map, take, drop, set, get_or, refl, sym, ap, ◌∙◌, subst, arith}
+use Rattle.std.specs.List.{list_all, flat_map}
+use Rattle.std.proofs.lemmas.Bool.{ltb-true, lt-ltb, le-ltb, eq-eqb, ne_eqb, cases_lt, cases_Bool, cases_eq}
 use Rattle.std.proofs.lemmas.List.{append-nil, take_all, drop_all, take_more, get_or-set_same, get_or-set_other}
 use Rattle.std.proofs.lemmas.List.Folds.{list_any-append}
 use Rattle.strat_base.specs.Entries.{is_tagged}
-use Rattle.strat_base.proofs.ListFacts.{Among, all_at, among_in_flat, among_right}
+use Rattle.strat_base.proofs.ListFacts.{Among, all_at, among_right}
 use Rattle.def_state.specs.Level.{is_distinct}
 use Rattle.def_state.proofs.LevelLemmas.{tagged_among, distinct_behind}
 use Rattle.def_split.proofs.ListLemmas.{distinct_head, distinct_tail}
@@ -83,10 +83,12 @@ module _ {X : Type 0} (f : X → List ℕ) where
     pub each : (u k : ℕ) → u < length owners → k < 16384 → eqb (get_or owners u 0) k ≡ (ltb k i && is_tagged (get_or (map f xs) k []) u)
 
   pub owned_none : (xs : List X) (n : ℕ) (owners : List ℕ) → length owners ≡ n → ((u : ℕ) → u < n → get_or owners u 0 ≡ 4294967295) → AreOwnersTo xs 0 owners
-  owned_none xs n owners size none = record { each = λ u k known low.
-      let at = none u (omega (arith, known, size)) in
-      ne_eqb (get_or owners u 0) k (λ same. absurd (omega (arith, same, at, low)))
-      ∙ sym (ap (λ (b : Bool). b && is_tagged (get_or (map f xs) k []) u) (le-ltb k 0 (omega arith))) }
+  owned_none xs n owners size none = record {
+    each = λ u k known low.
+        let at = none u (omega (arith, known, size)) in
+        ne_eqb (get_or owners u 0) k (λ same. absurd (omega (arith, same, at, low)))
+        ∙ sym (ap (λ (b : Bool). b && is_tagged (get_or (map f xs) k []) u) (le-ltb k 0 (omega arith)));
+  }
 
   pub owned_all : (xs : List X) (i : ℕ) (owners : List ℕ) → length xs ≤ i → AreOwnersTo xs i owners
       → (u k : ℕ) → u < length owners → k < 16384 → eqb (get_or owners u 0) k ≡ is_tagged (get_or (map f xs) k []) u
@@ -102,44 +104,46 @@ module _ {X : Type 0} (f : X → List ℕ) where
   -- one more tag
   pub owned_more : (xs : List X) → is_distinct (flat_map f xs) ≡ true → (i : ℕ) (x : X) (owners next : List ℕ) → i < length xs → x ≡ get_or xs i x → length next ≡ length owners
       → ((u : ℕ) → u < length owners → get_or next u 0 ≡ cond (is_tagged (f x) u) i (get_or owners u 0)) → AreOwnersTo xs i owners → AreOwnersTo xs (i + 1) next
-  owned_more xs apart i x owners next within is size claims to = record { each = λ u k known low.
-      let here : u < length owners = omega (arith, known, size) in
-      let tag : get_or (map f xs) i [] ≡ f x = tag_at xs i x within is in
-      ap (λ (n : ℕ). eqb n k) (claims u here)
-      ∙ elim (cases_Bool (is_tagged (f x) u)) [
-        | inl yes' ↦
-            ap (λ (b : Bool). eqb (cond b i (get_or owners u 0)) k) yes'
-            ∙ elim (cases_lt k i) [
-              | inl less ↦
-                  let off : is_tagged (get_or (map f xs) k []) u ≡ false = untagged (get_or (map f xs) k []) u (λ mine.
-                  one_tag xs apart k i u less mine (subst (λ (vs : List ℕ). Among u vs) (sym tag) (tagged_among (f x) u yes'))) in
-                  ne_eqb i k (λ same. absurd (omega (arith, same, less))) ∙ sym (ap (λ (b : Bool). ltb k (i + 1) && b) off ∙ and_off (ltb k (i + 1)))
-              | inr over ↦
-                  elim (cases_eq i k) [
-                    | inl same ↦
-                        let on : is_tagged (get_or (map f xs) k []) u ≡ true = ap (λ (n : ℕ). is_tagged (get_or (map f xs) n []) u) (sym same) ∙ ap (λ (vs : List ℕ). is_tagged vs u) tag ∙ yes' in
-                        eq-eqb i k same ∙ sym (ap (λ (b : Bool). b && is_tagged (get_or (map f xs) k []) u) (lt-ltb k (i + 1) (omega (arith, same))) ∙ on)
-                    | inr other ↦
-                        let past : i + 1 ≤ k = elim (cases_lt i k) [ inl less ↦ omega (arith, less) | inr le ↦ absurd (other (omega (arith, le, over))) ] in
-                        ne_eqb i k other ∙ sym (ap (λ (b : Bool). b && is_tagged (get_or (map f xs) k []) u) (le-ltb k (i + 1) past))
-                  ]
-            ]
-        | inr no' ↦
-            ap (λ (b : Bool). eqb (cond b i (get_or owners u 0)) k) no'
-            ∙ to.each u k here low
-            ∙ elim (cases_eq i k) [
-              | inl same ↦
-                  let off : is_tagged (get_or (map f xs) k []) u ≡ false = ap (λ (n : ℕ). is_tagged (get_or (map f xs) n []) u) (sym same) ∙ ap (λ (vs : List ℕ). is_tagged vs u) tag ∙ no' in
-                  ap (λ (b : Bool). ltb k i && b) off ∙ and_off (ltb k i) ∙ sym (ap (λ (b : Bool). ltb k (i + 1) && b) off ∙ and_off (ltb k (i + 1)))
-              | inr other ↦
-                  elim (cases_lt k i) [
-                    | inl less ↦ ap (λ (b : Bool). b && is_tagged (get_or (map f xs) k []) u) (lt-ltb k i less ∙ sym (lt-ltb k (i + 1) (omega (arith, less))))
-                    | inr over ↦
-                        let past : i + 1 ≤ k = elim (cases_lt i k) [ inl less ↦ omega (arith, less) | inr le ↦ absurd (other (omega (arith, le, over))) ] in
-                        ap (λ (b : Bool). b && is_tagged (get_or (map f xs) k []) u) (le-ltb k i over ∙ sym (le-ltb k (i + 1) past))
-                  ]
-            ]
-      ] }
+  owned_more xs apart i x owners next within is size claims to = record {
+    each = λ u k known low.
+        let here : u < length owners = omega (arith, known, size) in
+        let tag : get_or (map f xs) i [] ≡ f x = tag_at xs i x within is in
+        ap (λ (n : ℕ). eqb n k) (claims u here)
+        ∙ elim (cases_Bool (is_tagged (f x) u)) [
+          | inl yes' ↦
+              ap (λ (b : Bool). eqb (cond b i (get_or owners u 0)) k) yes'
+              ∙ elim (cases_lt k i) [
+                | inl less ↦
+                    let off : is_tagged (get_or (map f xs) k []) u ≡ false = untagged (get_or (map f xs) k []) u (λ mine.
+                    one_tag xs apart k i u less mine (subst (λ (vs : List ℕ). Among u vs) (sym tag) (tagged_among (f x) u yes'))) in
+                    ne_eqb i k (λ same. absurd (omega (arith, same, less))) ∙ sym (ap (λ (b : Bool). ltb k (i + 1) && b) off ∙ and_off (ltb k (i + 1)))
+                | inr over ↦
+                    elim (cases_eq i k) [
+                      | inl same ↦
+                          let on : is_tagged (get_or (map f xs) k []) u ≡ true = ap (λ (n : ℕ). is_tagged (get_or (map f xs) n []) u) (sym same) ∙ ap (λ (vs : List ℕ). is_tagged vs u) tag ∙ yes' in
+                          eq-eqb i k same ∙ sym (ap (λ (b : Bool). b && is_tagged (get_or (map f xs) k []) u) (lt-ltb k (i + 1) (omega (arith, same))) ∙ on)
+                      | inr other ↦
+                          let past : i + 1 ≤ k = elim (cases_lt i k) [ inl less ↦ omega (arith, less) | inr le ↦ absurd (other (omega (arith, le, over))) ] in
+                          ne_eqb i k other ∙ sym (ap (λ (b : Bool). b && is_tagged (get_or (map f xs) k []) u) (le-ltb k (i + 1) past))
+                    ]
+              ]
+          | inr no' ↦
+              ap (λ (b : Bool). eqb (cond b i (get_or owners u 0)) k) no'
+              ∙ to.each u k here low
+              ∙ elim (cases_eq i k) [
+                | inl same ↦
+                    let off : is_tagged (get_or (map f xs) k []) u ≡ false = ap (λ (n : ℕ). is_tagged (get_or (map f xs) n []) u) (sym same) ∙ ap (λ (vs : List ℕ). is_tagged vs u) tag ∙ no' in
+                    ap (λ (b : Bool). ltb k i && b) off ∙ and_off (ltb k i) ∙ sym (ap (λ (b : Bool). ltb k (i + 1) && b) off ∙ and_off (ltb k (i + 1)))
+                | inr other ↦
+                    elim (cases_lt k i) [
+                      | inl less ↦ ap (λ (b : Bool). b && is_tagged (get_or (map f xs) k []) u) (lt-ltb k i less ∙ sym (lt-ltb k (i + 1) (omega (arith, less))))
+                      | inr over ↦
+                          let past : i + 1 ≤ k = elim (cases_lt i k) [ inl less ↦ omega (arith, less) | inr le ↦ absurd (other (omega (arith, le, over))) ] in
+                          ap (λ (b : Bool). b && is_tagged (get_or (map f xs) k []) u) (le-ltb k i over ∙ sym (le-ltb k (i + 1) past))
+                    ]
+              ]
+        ];
+  }
     where
       and_off : (b : Bool) → (b && false) ≡ false
       and_off true = refl

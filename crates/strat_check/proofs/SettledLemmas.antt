@@ -1,7 +1,7 @@
 -- What is noted of arrays while a group is looked at, item by item.
-use Rattle.std.proofs.Common.{◌≡◌, ◌<◌, ◌+◌, ℕ, zero, suc, Bool, true, false, ◌&&◌, ◌||◌, not, eqb, cond, inl, inr, List, [], ◌∷◌, ◌++◌, length, map, filter, take, get_or, replicate, refl, sym, ap, ◌∙◌, arith, true≢false}
+use Rattle.std.proofs.Common.{◌≡◌, ◌<◌, ◌+◌, ℕ, zero, suc, Bool, true, false, ◌&&◌, ◌||◌, not, eqb, cond, inl, inr, List, [], ◌∷◌, ◌++◌, length, map, filter, take, get_or, replicate, refl, sym, ap, ◌∙◌, arith}
 use Rattle.std.specs.List.{list_any, list_all}
-use Rattle.std.proofs.lemmas.Bool.{and_parts, and_from, cases_Bool, cases_eq, ne_eqb, not-true, not_from_false, false_from_ne_true}
+use Rattle.std.proofs.lemmas.Bool.{and_parts, and_from, cases_Bool, cases_eq, ne_eqb, not-true, not_from_false}
 use Rattle.std.proofs.lemmas.List.{take_more, map-append}
 use Rattle.std.proofs.lemmas.List.Folds.{list_any-append}
 use Rattle.strat_arena.specs.ArenaView.{KeyValue}
@@ -9,13 +9,12 @@ use Rattle.strat_arena.specs.Items.{entry_of_item, entries_of}
 use Rattle.strat_arena.specs.declared.items.Item.{Item}
 use Rattle.strat_base.specs.Entries.{Entry, holds_entry}
 use Rattle.strat_base.specs.Tree.{Parents}
-use Rattle.strat_base.proofs.ListFacts.{Among, all_at, all_from, any_among, any_from, any_same, filter_among, among_filter}
+use Rattle.strat_base.proofs.ListFacts.{all_at, all_from, any_among, any_from, filter_among}
 use Rattle.def_state.specs.Live.{is_live, live}
 use Rattle.def_check.specs.Marked.{unmarked, is_from_run}
 use Rattle.strat_check.specs.Strays.{unmarked_where, has_stray, has_live_stray, strays_at}
-use Rattle.strat_check.specs.StrayGroups.{is_stray, noted, settled, AreSettled}
+use Rattle.strat_check.specs.StrayGroups.{is_stray, noted, with_answer, AreAllAsked}
 use Rattle.strat_check.specs.declared.strays.Strays.{Strays}
-use Rattle.strat_check.proofs.StrayLemmas.{not_all, among_unmarked, unmarked_among}
 
 pub all_repeated : {X : Type 0} (p : X → Bool) (n : ℕ) (x : X) → p x ≡ true → list_all p (replicate n x) ≡ true
 all_repeated p zero x is = refl
@@ -54,7 +53,7 @@ not_noted s = λ j. record { has_any = sym (or_false s.has_any) j; is_live = s.i
     or_false true = refl
     or_false false = refl
 
-settled_twice : (a b lives : Bool) (s : Strays) → settled b lives (settled a lives s) ≡ settled (a || b) lives s
+settled_twice : (a b lives : Bool) (s : Strays) → with_answer b lives (with_answer a lives s) ≡ with_answer (a || b) lives s
 settled_twice a b lives s = λ j. record { has_any = s.has_any; is_live = live_twice s.is_live s.is_due a b lives j; is_due = due_twice s.is_due a b j }
   where
     live_twice : (x due a b lives : Bool) → ((x || ((a && due) && lives)) || ((b && (due && not a)) && lives)) ≡ (x || (((a || b) && due) && lives))
@@ -81,14 +80,14 @@ settled_twice a b lives s = λ j. record { has_any = s.has_any; is_live = live_t
     due_twice false a b = refl
 
 pub settled_more : (p : Entry → Bool) (lives : Bool) (pairs : List KeyValue) (items : List Item) (i : ℕ) (d : Item) (old mid new : Strays) → i < length items
-    → mid ≡ settled (list_any p (entries_of pairs (take i items))) lives old → new ≡ settled (p (entry_of_item pairs (get_or items i d))) lives mid
-    → new ≡ settled (list_any p (entries_of pairs (take (i + 1) items))) lives old
+    → mid ≡ with_answer (list_any p (entries_of pairs (take i items))) lives old → new ≡ with_answer (p (entry_of_item pairs (get_or items i d))) lives mid
+    → new ≡ with_answer (list_any p (entries_of pairs (take (i + 1) items))) lives old
 settled_more p lives pairs items i d old mid new within before step =
-    step ∙ ap (settled (p (entry_of_item pairs (get_or items i d))) lives) before
+    step ∙ ap (with_answer (p (entry_of_item pairs (get_or items i d))) lives) before
     ∙ settled_twice (list_any p (entries_of pairs (take i items))) (p (entry_of_item pairs (get_or items i d))) lives old
-    ∙ ap (λ (b : Bool). settled b lives old) (sym (any_last p (entries_of pairs (take i items)) (entry_of_item pairs (get_or items i d))) ∙ sym (ap (list_any p) (entries_more pairs items i d within)))
+    ∙ ap (λ (b : Bool). with_answer b lives old) (sym (any_last p (entries_of pairs (take i items)) (entry_of_item pairs (get_or items i d))) ∙ sym (ap (list_any p) (entries_more pairs items i d within)))
 
-pub not_settled : (lives : Bool) (s : Strays) → s ≡ settled false lives s
+pub not_settled : (lives : Bool) (s : Strays) → s ≡ with_answer false lives s
 not_settled lives s = λ j. record { has_any = s.has_any; is_live = sym (or_false s.is_live) j; is_due = sym (and_true s.is_due) j }
   where
     or_false : (b : Bool) → (b || false) ≡ b
@@ -100,7 +99,7 @@ not_settled lives s = λ j. record { has_any = s.has_any; is_live = sym (or_fals
     and_true false = refl
 
 -- where nothing is due, nothing is to be asked
-pub none_due : (asked lives : Bool) (s : Strays) → s.is_due ≡ false → s ≡ settled asked lives s
+pub none_due : (asked lives : Bool) (s : Strays) → s.is_due ≡ false → s ≡ with_answer asked lives s
 none_due asked lives s none = λ j. record { has_any = s.has_any; is_live = live_same j; is_due = due_same j }
   where
     live_same : s.is_live ≡ (s.is_live || ((asked && s.is_due) && lives))
@@ -152,7 +151,7 @@ stray_has_entry p i group some =
 -- a group was looked at for strays, and then it was asked where it was due
 module _ (parents : Parents) (p : Entry → Bool) (tag : List ℕ) (i : ℕ) (group : List Entry) (old mid new : Strays) (clear : old.is_due ≡ false)
     (first : mid ≡ noted (list_any (is_stray (unmarked_where p group) i) group) old)
-    (then : new ≡ settled (list_any (is_from_run i) group) (has_live_stray parents p tag i group) mid) where
+    (then : new ≡ with_answer (list_any (is_from_run i) group) (has_live_stray parents p tag i group) mid) where
   pub any_noted : new.has_any ≡ (old.has_any || has_stray p i group)
   any_noted = ap (λ (s : Strays). s.has_any) then ∙ ap (λ (s : Strays). s.has_any) first ∙ ap (λ (b : Bool). old.has_any || b) (stray_is_any p i group)
 
@@ -188,12 +187,12 @@ module _ (parents : Parents) (p : Entry → Bool) (tag : List ℕ) (i : ℕ) (gr
       and_off false = refl
 
 -- nothing is due of any array, told by places
-pub settled_at : (found : List Strays) → AreSettled found → (i : ℕ) → (strays_at found i).is_due ≡ false
+pub settled_at : (found : List Strays) → AreAllAsked found → (i : ℕ) → (strays_at found i).is_due ≡ false
 settled_at [] all i = refl
 settled_at (s ∷ found) all zero = not-true s.is_due (and_parts (not s.is_due) (list_all (λ (x : Strays). not x.is_due) found) all).0
 settled_at (s ∷ found) all (suc i) = settled_at found (and_parts (not s.is_due) (list_all (λ (x : Strays). not x.is_due) found) all).1 i
 
-pub settled_from : (found : List Strays) → ((i : ℕ) → i < length found → (strays_at found i).is_due ≡ false) → AreSettled found
+pub settled_from : (found : List Strays) → ((i : ℕ) → i < length found → (strays_at found i).is_due ≡ false) → AreAllAsked found
 settled_from [] each = refl
 settled_from (s ∷ found) each =
     and_from (not s.is_due) (list_all (λ (x : Strays). not x.is_due) found) (not_from_false s.is_due (each 0 (omega arith))) (settled_from found (λ i low. each (suc i) (omega (arith, low))))
@@ -214,17 +213,17 @@ no_stray_here leads i e held = sym (ap (λ (b : Bool). is_from_run i e && not b)
     and_off false = refl
 
 -- it is asked of one array alone
-pub due_item : (place i : ℕ) (a b : Bool) (s : Strays) → (place ≡ i → a ≡ b) → settled (eqb place i) a s ≡ settled (eqb place i) b s
+pub due_item : (place i : ℕ) (a b : Bool) (s : Strays) → (place ≡ i → a ≡ b) → with_answer (eqb place i) a s ≡ with_answer (eqb place i) b s
 due_item place i a b s same =
     elim (cases_eq place i) [
-      | inl here ↦ ap (λ (x : Bool). settled (eqb place i) x s) (same here)
+      | inl here ↦ ap (λ (x : Bool). with_answer (eqb place i) x s) (same here)
       | inr apart ↦
-          ap (λ (x : Bool). settled x a s) (ne_eqb place i apart) ∙ sym (not_settled a s) ∙ not_settled b s ∙ sym (ap (λ (x : Bool). settled x b s) (ne_eqb place i apart))
+          ap (λ (x : Bool). with_answer x a s) (ne_eqb place i apart) ∙ sym (not_settled a s) ∙ not_settled b s ∙ sym (ap (λ (x : Bool). with_answer x b s) (ne_eqb place i apart))
     ]
 
-pub undue_item : (place i : ℕ) (lives : Bool) (found : List Strays) → false ≡ (strays_at found place).is_due → strays_at found i ≡ settled (eqb place i) lives (strays_at found i)
+pub undue_item : (place i : ℕ) (lives : Bool) (found : List Strays) → false ≡ (strays_at found place).is_due → strays_at found i ≡ with_answer (eqb place i) lives (strays_at found i)
 undue_item place i lives found none =
     elim (cases_eq place i) [
       | inl here ↦ none_due (eqb place i) lives (strays_at found i) (sym (none ∙ ap (λ (n : ℕ). (strays_at found n).is_due) here))
-      | inr apart ↦ not_settled lives (strays_at found i) ∙ sym (ap (λ (x : Bool). settled x lives (strays_at found i)) (ne_eqb place i apart))
+      | inr apart ↦ not_settled lives (strays_at found i) ∙ sym (ap (λ (x : Bool). with_answer x lives (strays_at found i)) (ne_eqb place i apart))
     ]

@@ -1,20 +1,19 @@
 -- The strays of an array are told group by group.
-use Rattle.std.proofs.Common.{◌≡◌, ◌<◌, ◌≤◌, ℕ, Bool, true, false, ltb, ◌&&◌, ◌||◌, not, inl, inr, List, [], ◌∷◌, ◌++◌, length, map, filter, get_or, Some, refl, sym, ap, ◌∙◌, subst, arith}
-use Rattle.std.specs.List.{list_any, list_all, slice_get}
-use Rattle.std.proofs.lemmas.Bool.{and_parts, and_from, lt-ltb, ltb-true}
+use Rattle.std.proofs.Common.{◌≡◌, ◌<◌, ℕ, Bool, true, false, ltb, ◌&&◌, ◌||◌, not, List, [], ◌∷◌, map, filter, refl, sym, ap, ◌∙◌, subst, arith}
+use Rattle.std.specs.List.{list_any, list_all}
+use Rattle.std.proofs.lemmas.Bool.{and_parts, and_from, lt-ltb}
 use Rattle.strat_base.specs.Tree.{Parents, path, IsTree}
-use Rattle.strat_base.specs.Entries.{Entry, is_ascending, holds_entry}
+use Rattle.strat_base.specs.Entries.{Entry, holds_entry}
 use Rattle.strat_base.proofs.ListFacts.{Among, all_at, all_from, all_same, among_flat, among_in_flat, among_filter, filter_among}
 use Rattle.strat_base.proofs.EntryLemmas.{held_among, among_held}
 use Rattle.strat_base.proofs.TreeLemmas.{path_le}
-use Rattle.def_state.specs.Level.{TaggedArray, Level}
 use Rattle.def_state.specs.Live.{is_live, live}
 use Rattle.def_state.proofs.LiveLemmas.{live_on_path, live_nearest}
 use Rattle.def_split.specs.Groups.{grouped_entries, AreGroups}
 use Rattle.def_split.proofs.GroupedLemmas.{same_group}
 use Rattle.def_split.proofs.ListLemmas.{bool_same, filter_both, filter_every, map_among, among_map}
 use Rattle.def_split.proofs.LiveSetLemmas.{live_from, live_fewer}
-use Rattle.def_check.specs.Marked.{unmarked, is_from_run, told_of_run, kept_below}
+use Rattle.def_check.specs.Marked.{unmarked, is_from_run, told_of_run}
 use Rattle.strat_check.specs.Strays.{unmarked_where, has_stray, has_live_stray}
 
 -- what is not so of all is otherwise for one

@@ -1,5 +1,5 @@
 -- A pass over the groups of a level's marked runs.
-use Rattle.std.specs.Prelude.{◌≡◌, ◌<◌, ◌≤◌, ℕ, ◌^◌, List, [], length, map, slice_index_or}
+use Rattle.std.specs.Prelude.{◌≡◌, ◌<◌, ◌≤◌, ℕ, ◌^◌, List, [], length, slice_index_or}
 use Rattle.std.specs.List.{list_any}
 use Rattle.strat_base.specs.Entries.{Entry}
 use Rattle.strat_base.specs.Tree.{Parents}
@@ -8,7 +8,7 @@ use Rattle.def_promote.specs.Merging.{MergesTo, Merges}
 use Rattle.def_check.specs.Marked.{is_marked_lead, leads_of_marked}
 use Rattle.strat_check.specs.MarkedGroups.{IsMerging}
 use Rattle.strat_check.specs.Sightings.{Sightings, versions_added, IsSighting}
-use Rattle.strat_check.specs.StrayGroups.{AreSettled}
+use Rattle.strat_check.specs.StrayGroups.{AreAllAsked}
 use Rattle.strat_check.specs.Strays.{has_stray, has_live_stray, strays_at}
 use Rattle.strat_check.specs.declared.level_count.LevelPass.{LevelPass}
 use Rattle.strat_check.specs.declared.strays.Strays.{Strays}
@@ -18,11 +18,11 @@ pub record IsLevelPass (n arrays : ℕ) (pass : LevelPass) : Type 0 where
   pub merging : IsMerging n pass.merging
   pub owners : length pass.owners.items ≡ n
   pub found : length pass.found.items ≡ arrays
-  pub settled : AreSettled pass.found.items
+  pub asked : AreAllAsked pass.found.items
 
 -- what was found in groups of marked entries: the leads were sighted, as long as they are not too many to be counted, and
 -- of each array it is kept what its strays are
-pub record AreCounted (parents : Parents) (tags : List (List ℕ)) (groups : List (List Entry))
+pub record AreGroupsCounted (parents : Parents) (tags : List (List ℕ)) (groups : List (List Entry))
     (found : List Strays) (s : Sightings) : Type 0 where
   pub sighted : versions_added (group_versions (leads_of_marked tags groups)) ≤ 2 ^ 48
       → IsSighting parents (group_versions (leads_of_marked tags groups)) s
@@ -36,11 +36,11 @@ pub record IsCountingLevel (parents : Parents) (tags : List (List ℕ))
     (runs left : List (List Entry)) (found : List Strays) (s : Sightings) : Type 0 where
   pub groups : List (List Entry)
   pub merged : MergesTo runs groups left
-  pub counted : AreCounted parents tags groups found s
+  pub counted : AreGroupsCounted parents tags groups found s
 
 -- all groups of runs were taken and counted
 pub record IsLevelCounted (parents : Parents) (tags : List (List ℕ)) (runs : List (List Entry))
     (found : List Strays) (s : Sightings) : Type 0 where
   pub groups : List (List Entry)
   pub merged : Merges runs groups
-  pub counted : AreCounted parents tags groups found s
+  pub counted : AreGroupsCounted parents tags groups found s

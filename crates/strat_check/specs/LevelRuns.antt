@@ -37,7 +37,7 @@ pub record OpensRun (n : ℕ) (disk : DiskView) (place : ℕ) (a : ArrayDesc) (o
 
 -- the runs of some arrays of a disk are opened, each marked with its place; each block of the arrays was read once at most,
 -- or is still to be read
-pub record AreOpened (n : ℕ) (disk : DiskView) (arrays : List ArrayDesc) (runs : List RunView)
+pub record AreLevelRuns (n : ℕ) (disk : DiskView) (arrays : List ArrayDesc) (runs : List RunView)
     (before now : ℕ) : Type 0 where
   pub left : (f : Image) → Exposes disk f → IsTrue (list_all (is_in_order f) arrays)
       → lefts f runs ≡ marked_runs 0 (map (kept_on f n) arrays)

@@ -1,5 +1,5 @@
 -- Which array of a level has a version in its tag.
-use Rattle.std.specs.Prelude.{◌≡◌, ◌<◌, ℕ, ◌==◌, List, [], length, map, slice_index, slice_index_or}
+use Rattle.std.specs.Prelude.{◌≡◌, ◌<◌, ℕ, ◌==◌, List, [], length, slice_index, slice_index_or}
 use Rattle.strat_base.specs.Entries.{is_tagged}
 
 -- for each version below their number, the place of the tag that has it

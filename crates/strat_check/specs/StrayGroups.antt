@@ -1,5 +1,5 @@
 -- A group of marked entries at hand, and what is found of an array in it.
-use Rattle.std.specs.Prelude.{◌≡◌, ◌≤◌, ℕ, ◌*◌, ◌/◌, ◌%◌, ◌==◌, ◌&&◌, ◌||◌, not, Bool, List, length, map, filter, slice_index_or, IsTrue}
+use Rattle.std.specs.Prelude.{◌≤◌, ℕ, ◌*◌, ◌/◌, ◌%◌, ◌==◌, ◌&&◌, ◌||◌, not, Bool, List, length, map, filter, IsTrue}
 use Rattle.std.specs.List.{list_all}
 use Rattle.strat_arena.specs.Items.{entries_of, have_pairs}
 use Rattle.strat_arena.specs.declared.items.Item.{Item}
@@ -8,7 +8,7 @@ use Rattle.def_check.specs.Marked.{unmarked, is_from_run}
 use Rattle.strat_live.specs.Counting.{are_below}
 use Rattle.strat_live.specs.Group.{is_descending}
 use Rattle.strat_check.specs.MarkedGroups.{is_owned}
-use Rattle.strat_check.specs.Strays.{unmarked_where, strays_at}
+use Rattle.strat_check.specs.Strays.{unmarked_where}
 use Rattle.strat_check.specs.declared.stray_group.StrayGroup.{StrayGroup}
 use Rattle.strat_check.specs.declared.strays.Strays.{Strays}
 
@@ -50,13 +50,13 @@ noted strays s = record {
 }
 
 -- and once it is asked, where it is due, whether one of these is live
-abbrev pub settled : Bool → Bool → Strays → Strays
-settled asked lives s = record {
+abbrev pub with_answer : Bool → Bool → Strays → Strays
+with_answer asked lives s = record {
   has_any = s.has_any;
   is_live = s.is_live || (asked && s.is_due && lives);
   is_due = s.is_due && not asked;
 }
 
 -- nothing is due
-abbrev pub AreSettled : List Strays → Type 0
-AreSettled found = IsTrue (list_all (λ s. not s.is_due) found)
+abbrev pub AreAllAsked : List Strays → Type 0
+AreAllAsked found = IsTrue (list_all (λ s. not s.is_due) found)

@@ -1,6 +1,6 @@
 -- Entries of a level's arrays that are no leads, told group by group of entries that are marked with their places.
-use Rattle.std.specs.Prelude.{◌≡◌, ◌<◌, ℕ, ◌+◌, ◌&&◌, ◌||◌, not, Bool, true, false, if◌then◌else◌, List, [], length, map, filter, slice_get, slice_index_or, Some, IsTrue}
-use Rattle.std.specs.List.{list_any, list_all}
+use Rattle.std.specs.Prelude.{◌≡◌, ◌<◌, ℕ, ◌||◌, not, Bool, false, List, [], length, map, filter, slice_get, slice_index_or, Some}
+use Rattle.std.specs.List.{list_all}
 use Rattle.strat_base.specs.Tree.{Parents}
 use Rattle.strat_base.specs.Entries.{Entry, holds_entry}
 use Rattle.def_state.specs.Level.{TaggedArray, Level}

@@ -12,7 +12,7 @@ ghost use Rattle.def_crash.specs.Moments.{Exposes, OnlyReads};
 ghost use Rattle.strat_promote.specs.Job.{blocks_listed};
 ghost use Rattle.strat_promote.specs.Leads.{misfit_in};
 ghost use Rattle.strat_promote.specs.Opening.{IsBlamed};
-ghost use Rattle.strat_check.specs.LevelRuns.{OpensRun, AreOpened};
+ghost use Rattle.strat_check.specs.LevelRuns.{OpensRun, AreLevelRuns};
 ghost use Rattle.strat_check.specs.MarkedRuns.{marked_seen};
 
 use crate::marked_run::MarkedRun;
@@ -60,7 +60,7 @@ pub(crate) fn open_runs<D: Disk>(
 ) -> Result<Vec<MarkedRun>, Trouble>
     requires fits { (a : Desc) → Contains arrays.now a → AreWithin a.extents }
     requires room { (length arrays.now ≤ 16384) × (versions ≤ 16384) }
-    ensures ok { IfOk result (λ runs. AreOpened versions (D.view disk.old) arrays.now
+    ensures ok { IfOk result (λ runs. AreLevelRuns versions (D.view disk.old) arrays.now
         (map marked_seen runs.items) (D.reads disk.old) (D.reads disk.new)) }
     ensures same { OnlyReads (D.view disk.old) (D.view disk.new) }
     ensures cause { HasCause Device (D.faults disk.old) (D.faults disk.new) result }

@@ -11,7 +11,7 @@ ghost use Rattle.def_state.specs.Live.{live};
 ghost use Rattle.def_check.specs.Marked.{is_from_run};
 ghost use Rattle.strat_live.specs.Group.{is_descending};
 ghost use Rattle.strat_check.specs.MarkedGroups.{is_owned};
-ghost use Rattle.strat_check.specs.StrayGroups.{group_entries, group_leads, IsStrayGroup, unmarked_item, items_told, is_stray, noted, settled, AreSettled};
+ghost use Rattle.strat_check.specs.StrayGroups.{group_entries, group_leads, IsStrayGroup, unmarked_item, items_told, is_stray, noted, with_answer, AreAllAsked};
 ghost use Rattle.strat_check.specs.Strays.{has_live_stray, strays_at, AreNoted};
 
 use crate::marked_run::PLACES;
@@ -214,7 +214,7 @@ fn settle_item(
         → IsTrue (list_all (λ v. nat_lt v (length tree.now.parents)) a.versions) }
     requires len { length found.old ≡ length arrays.now }
     ensures ok { OnOk result ((i : ℕ) → i < length found.old → strays_at found.new i
-        ≡ settled (is_from_run i (entry_of_item g.now.arena.now.pairs item.now))
+        ≡ with_answer (is_from_run i (entry_of_item g.now.arena.now.pairs item.now))
         (has_live_stray tree.now.parents (is_owned g.now.owners.now)
         (slice_index_or (map (λ a. a.versions) arrays.now) i []) i (group_entries g.now))
         (strays_at found.old i)) }
@@ -242,7 +242,7 @@ fn settle_all(
         → IsTrue (list_all (λ v. nat_lt v (length tree.now.parents)) a.versions) }
     requires len { length found.old ≡ length arrays.now }
     ensures ok { OnOk result ((i : ℕ) → i < length found.old → strays_at found.new i
-        ≡ settled (list_any (is_from_run i) (group_entries g.now))
+        ≡ with_answer (list_any (is_from_run i) (group_entries g.now))
         (has_live_stray tree.now.parents (is_owned g.now.owners.now)
         (slice_index_or (map (λ a. a.versions) arrays.now) i []) i (group_entries g.now))
         (strays_at found.old i)) }
@@ -264,13 +264,13 @@ pub(crate) fn note_group(
     found: &mut [Strays],
 ) -> Result<(), NoMemory>
     requires kept { IsStrayGroup g.now }
-    requires none { AreSettled found.old }
+    requires state { AreAllAsked found.old }
     requires fits { (a : Desc) → Contains arrays.now a
         → IsTrue (list_all (λ v. nat_lt v (length tree.now.parents)) a.versions) }
     requires len { length found.old ≡ length arrays.now }
     ensures ok { OnOk result (AreNoted tree.now.parents (is_owned g.now.owners.now)
         (map (λ a. a.versions) arrays.now) (group_entries g.now) found.old found.new) }
-    ensures none { OnOk result (AreSettled found.new) }
+    ensures state { OnOk result (AreAllAsked found.new) }
     ensures len { length found.new ≡ length found.old }
 {
     note_all(g, found);

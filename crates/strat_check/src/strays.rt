@@ -2,7 +2,7 @@
 
 ghost use Rattle.std.specs.Prelude.{◌≡◌, ◌<◌, ℕ, ◌==◌, true, false, replicate, length, slice_index_or, IfOk};
 ghost use Rattle.strat_check.specs.Strays.{strays_at};
-ghost use Rattle.strat_check.specs.StrayGroups.{noted, settled, AreSettled};
+ghost use Rattle.strat_check.specs.StrayGroups.{noted, with_answer, AreAllAsked};
 
 use std::alloc::Global;
 use strat_base::NoMemory;
@@ -21,7 +21,7 @@ pub struct Strays {
 /// Nothing was found of so many arrays.
 pub(crate) fn no_strays(alloc: Global, arrays: usize) -> Result<Vec<Strays>, NoMemory>
     ensures len { IfOk result (λ found. length found.items ≡ arrays) }
-    ensures none { IfOk result (λ found. AreSettled found.items) }
+    ensures state { IfOk result (λ found. AreAllAsked found.items) }
     ensures ok { IfOk result (λ found. (i : ℕ) → ((strays_at found.items i).has_any ≡ false)
         × ((strays_at found.items i).is_live ≡ false)) }
 {
@@ -61,7 +61,7 @@ pub(crate) fn settle(found: &mut [Strays], place: u32, lives: bool)
     requires fits { place < length found.old }
     requires found { (strays_at found.old place).is_due ≡ true }
     ensures ok { (i : ℕ) → i < length found.old
-        → strays_at found.new i ≡ settled (place == i) lives (strays_at found.old i) }
+        → strays_at found.new i ≡ with_answer (place == i) lives (strays_at found.old i) }
     ensures len { length found.new ≡ length found.old }
 {
     let at = place as usize;

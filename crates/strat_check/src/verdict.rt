@@ -5,11 +5,15 @@ ghost use Rattle.def_crash.specs.Faults.{ReadsAtMost, Rose};
 ghost use Rattle.def_crash.specs.Image.{Image};
 ghost use Rattle.def_crash.specs.Moments.{Exposes, OnlyReads};
 ghost use Rattle.def_check.specs.Checked.{checked};
-ghost use Rattle.strat_check.specs.Verdicts.{verdict_for, IsRight, VerdictHasCause};
+ghost use Rattle.strat_check.specs.Verdicts.{verdict_for, verdict_unread, verdict_told, IsRight, VerdictHasCause};
 ghost use Rattle.strat_check.specs.declared.verdict.Verdict.TheVariants as verdict;
 
+use crate::places::Broken;
+use crate::store_walk::check_store;
 use std::alloc::Global;
+use strat_base::Trouble;
 use strat_disk::Disk;
+use strat_open::{AttachFault, read_store};
 
 /// What a check of a disk answers.
 #[derive(Clone, Copy, Debug, PartialEq, Eq)]
@@ -28,7 +32,41 @@ pub enum Verdict {
     NoMemory,
 }
 
+/// The verdict on a store that could not be read.
+fn of_unread(fault: AttachFault) -> Verdict
+    ensures ok { result ≡ verdict_unread fault }
+{
+    match fault {
+        AttachFault::NotAStore => Verdict::NotAStore,
+        AttachFault::Device => Verdict::Device,
+        AttachFault::Damaged { block } => Verdict::Damaged { block },
+        AttachFault::NoMemory => Verdict::NoMemory,
+    }
+}
+
+/// The verdict on a store whose arrays were gone through, by the first breach, if there is one, or by what stopped it.
+fn of_told(told: Result<Option<Broken>, Trouble>) -> Verdict
+    ensures ok { result ≡ verdict_told told }
+{
+    match told {
+        Ok(None) => Verdict::Sound,
+        Ok(Some(Broken { rule, level, array })) => Verdict::Unsound { rule, level, array },
+        Err(Trouble::NoMemory) => Verdict::NoMemory,
+        Err(Trouble::Device) => Verdict::Device,
+        Err(Trouble::Damaged { block }) => Verdict::Damaged { block },
+    }
+}
+
 /// Checks the store on a disk, and leaves the disk as it is.
+///
+/// - Sound: the bytes read as a sound state. Unsound: as one that breaks this rule first, in the order m, a to l, the shallowest
+///   level first, its arrays in the manifest's order.
+/// - Damaged: the block that recovery refuses, or else the first block of an array that holds no entries.
+/// - NotAStore: no slot is open with the text of a store. Device: the disk counted a fault. NoMemory: it may come at any time.
+///
+/// It reads what `read_store` reads, and each block of an array three times at most. It takes the memory of `read_store`, 196 bytes for
+/// each version and 24 for each array, and one block, a key and the extents for each array of one level. The time is linear in
+/// the entries, times the logarithm of a level's arrays.
 pub fn check<D: Disk>(alloc: Global, disk: &mut D) -> Verdict
     ensures ok { IsRight (D.view disk.old) result }
     ensures found { ¬ Rose (D.faults disk.old) (D.faults disk.new)
@@ -38,7 +76,10 @@ pub fn check<D: Disk>(alloc: Global, disk: &mut D) -> Verdict
     ensures cause { VerdictHasCause result (D.faults disk.old) (D.faults disk.new) }
     ensures reads { ReadsAtMost 101715479 (D.reads disk.old) (D.reads disk.new) }
 {
-    let _ = alloc;
-    let _ = disk;
-    Verdict::NoMemory
+    let store = match read_store(alloc, disk) {
+        Ok(store) => store,
+        Err(fault) => return of_unread(fault),
+    };
+    let told = check_store(alloc, &store, disk);
+    of_told(told)
 }

@@ -1,7 +1,7 @@
 //! Disks that are no store, are damaged or fail, and sinks that fail.
 
 use crate::rows::{OF_NONE, OF_THIRTEEN, THIRTEEN_PUTS};
-use crate::support::{run, small_store, tells_levels, tells_summary};
+use crate::support::{run, small_store, tells_check, tells_levels, tells_summary};
 use std::alloc::Global;
 use strat_disk::{FuseDisk, MemDisk};
 use strat_io::MemSink;
@@ -16,6 +16,7 @@ fn no_store_is_told_of(rt: HostRuntime) {
     };
     assert!(rt; tells_levels(rt.alloc(), &mut disk, b"", Ended::NotAStore));
     assert!(rt; tells_summary(rt.alloc(), &mut disk, 1, 2, b"", Ended::NotAStore));
+    assert!(rt; tells_check(rt.alloc(), &mut disk, b"", Ended::NotAStore));
 }
 
 /// Sets a byte of a disk that is as long as that.
@@ -32,6 +33,7 @@ fn tells_damage(alloc: Global, disk: &mut MemDisk) -> bool {
     let ended = Ended::Damaged { block: 6 };
     alter(disk, 24576, 1)
         && tells_levels(alloc, disk, b"damaged block 6\n", ended)
+        && tells_check(alloc, disk, b"damaged block 6\n", ended)
         && tells_summary(alloc, disk, 1, 2, b"", ended)
 }
 
@@ -77,10 +79,25 @@ fn is_whole_after(alloc: Global, store: &MemDisk, calls: u64) -> Option<bool> {
     tells_levels(alloc, &mut stopped, b"", Ended::Device).then_some(false)
 }
 
-/// How many calls of the disk a report makes, where it is not whole after fewer.
-fn calls_of(alloc: Global, store: &MemDisk) -> Option<u64> {
+/// Whether a check is whole after so many calls of the disk; where the next one fails nothing is written.
+fn is_checked_after(alloc: Global, store: &MemDisk, calls: u64) -> Option<bool> {
+    let mut whole = FuseDisk::new(store.crash(0).ok()?, calls);
+    if tells_check(alloc, &mut whole, b"sound\n", Ended::Done) {
+        return Some(true);
+    }
+    let mut stopped = FuseDisk::new(store.crash(0).ok()?, calls);
+    tells_check(alloc, &mut stopped, b"", Ended::Device).then_some(false)
+}
+
+/// How many calls of the disk a report makes, or a check, where it is not whole after fewer.
+fn calls_of(alloc: Global, store: &MemDisk, checks: bool) -> Option<u64> {
     for calls in 0..100 {
-        if is_whole_after(alloc, store, calls)? {
+        let whole = if checks {
+            is_checked_after(alloc, store, calls)?
+        } else {
+            is_whole_after(alloc, store, calls)?
+        };
+        if whole {
             return Some(calls);
         }
     }
@@ -93,7 +110,8 @@ fn a_failing_disk_leaves_nothing_written(rt: HostRuntime) {
         assert!(rt; false);
         return;
     };
-    assert!(rt; matches!(calls_of(rt.alloc(), &disk), Some(4..=20)));
+    assert!(rt; matches!(calls_of(rt.alloc(), &disk, false), Some(4..=20)));
+    assert!(rt; matches!(calls_of(rt.alloc(), &disk, true), Some(7..=30)));
 }
 
 /// Whether a sink that takes one byte a call and fails at the call of this number holds the bytes before it.

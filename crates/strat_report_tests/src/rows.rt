@@ -1,6 +1,6 @@
 //! What is written of stores that were served.
 
-use crate::support::{new_store, run, small_store, tells_levels, tells_summary};
+use crate::support::{new_store, run, small_store, tells_check, tells_levels, tells_summary};
 use std::alloc::Global;
 use strat_disk::MemDisk;
 use strat_model::Ended;
@@ -142,12 +142,13 @@ versions 4 updates 6 clones 3\n\
 levels 1 arrays 2 stored 8 written 7\n\
 density 2/3\n";
 
-/// Whether a store that was served these frames is reported so.
+/// Whether a store that was served these frames is reported so, and is sound.
 fn row(alloc: Global, store: Option<MemDisk>, frames: &[u8], text: &[u8]) -> bool {
     match store {
         Some(mut disk) => {
             run(alloc, &mut disk, frames) == Some(Ended::Done)
                 && tells_levels(alloc, &mut disk, text, Ended::Done)
+                && tells_check(alloc, &mut disk, b"sound\n", Ended::Done)
         }
         None => false,
     }

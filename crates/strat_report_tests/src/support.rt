@@ -6,7 +6,7 @@ use std::alloc::Global;
 use strat_disk::{Disk, MemDisk};
 use strat_io::{MemSink, MemSource};
 use strat_model::Ended;
-use strat_report::{write_levels, write_summary};
+use strat_report::{write_check, write_levels, write_summary};
 use strat_serve::serve;
 use strat_store::format;
 
@@ -46,6 +46,21 @@ fn levels<D: Disk>(alloc: Global, disk: &mut D) -> Option<(Ended, MemSink)> {
 /// Whether a report of the levels writes this text and ends so.
 pub fn tells_levels<D: Disk>(alloc: Global, disk: &mut D, text: &[u8], ended: Ended) -> bool {
     match levels(alloc, disk) {
+        Some((how, sink)) => how == ended && sink.bytes() == text,
+        None => false,
+    }
+}
+
+/// How a check ends, and the sink that it filled.
+fn check<D: Disk>(alloc: Global, disk: &mut D) -> Option<(Ended, MemSink)> {
+    let mut sink = MemSink::new(alloc, &[], 4096).ok()?;
+    let how = write_check(alloc, disk, &mut sink);
+    Some((how, sink))
+}
+
+/// Whether a check writes this text and ends so.
+pub fn tells_check<D: Disk>(alloc: Global, disk: &mut D, text: &[u8], ended: Ended) -> bool {
+    match check(alloc, disk) {
         Some((how, sink)) => how == ended && sink.bytes() == text,
         None => false,
     }

@@ -1,4 +1,4 @@
-use Rattle.std.proofs.Common.{List, Option, Some, Ok, Err, inl, inr, refl, sym, ap, subst, ◌∙◌, arith}
+use Rattle.std.proofs.Common.{◌∷◌, List, Option, Some, Ok, Err, inl, inr, refl, sym, ap, subst, ◌∙◌, arith}
 use Rattle.def_bytes.specs.Damage.{Read}
 use Rattle.def_state.specs.Breach.{Breach}
 use Rattle.strat_io.specs.Streams.{Appends}

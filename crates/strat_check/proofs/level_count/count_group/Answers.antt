@@ -1,11 +1,11 @@
-use Rattle.std.proofs.Common.{◌≡◌, ◌<◌, ◌*◌, ◌∙◌, ◌++◌, ◌∷◌, [], ℕ, true, List, length, map, sym, ap, subst, arith}
+use Rattle.std.proofs.Common.{◌≡◌, ◌*◌, ◌∙◌, ◌++◌, ◌∷◌, [], ℕ, true, List, length, map, sym, ap, subst}
 use Rattle.strat_arena.specs.Items.{entries_of}
 use Rattle.strat_arena.specs.declared.items.Item.{Item}
 use Rattle.strat_base.specs.declared.descriptors.ArrayDesc.{ArrayDesc}
 use Rattle.strat_live.specs.Counting.{are_below}
 use Rattle.strat_merge.specs.Gathered.{are_under}
 use Rattle.strat_merge.specs.MergerFields.{views_of}
-use Rattle.strat_check.specs.LevelPasses.{AreCounted}
+use Rattle.strat_check.specs.LevelPasses.{AreGroupsCounted}
 use Rattle.strat_check.specs.MarkedGroups.{is_owned, owned_versions}
 use Rattle.strat_check.specs.MarkedRuns.{marked_seen}
 use Rattle.strat_check.specs.Strays.{AreNoted}
@@ -39,7 +39,7 @@ returns-clause-ok g c = λ _ f runs told own counting.
     record {
       groups = counting.groups ++ entries_of pairs items ∷ [];
       merged = next.ok more f runs counting.groups told counting.merged;
-      counted = subst (λ (xs : List Strays). AreCounted tree tags (counting.groups ++ entries_of pairs items ∷ []) xs c.add.new.self) (sym back)
+      counted = subst (λ (xs : List Strays). AreGroupsCounted tree tags (counting.groups ++ entries_of pairs items ∷ []) xs c.add.new.self) (sym back)
           (counted_more tree tags owners own pairs items low counting.groups found c.note_group.new.found c.args.sights.now c.add.new.self c.deref-2.result.now counting.counted noted
           (c.deref-2.ensures.value ∙ next.state more ∙ ap (λ (xs : List ℕ). owned_versions xs (entries_of pairs items)) c.deref.ensures.value) c.add.ensures.ok);
     }

@@ -1,19 +1,16 @@
-use Rattle.std.proofs.Common.{◌≡◌, ◌≤◌, ◌<◌, ◌∙◌, ℕ, true, ltb, List, [], length, map, sym, ap, subst, arith, IsTrue}
+use Rattle.std.proofs.Common.{◌≡◌, ◌∙◌, ℕ, true, ltb, List, [], length, map, sym, ap, subst, arith, IsTrue}
 use Rattle.std.specs.List.{list_all, flat_map, Contains}
-use Rattle.strat_array.specs.Within.{AreWithin}
 use Rattle.strat_base.specs.declared.descriptors.ArrayDesc.{ArrayDesc}
 use Rattle.strat_base.proofs.ResultFacts.{err_of}
-use Rattle.def_crash.specs.Image.{Image}
 use Rattle.def_crash.proofs.MomentLemmas.{reads_trans}
 use Rattle.def_state.specs.Level.{TaggedArray, is_distinct}
 use Rattle.def_check.specs.Marked.{marked_runs, kept_below}
 use Rattle.strat_merge.specs.Runs.{lefts, blocks_left, IsBadFor}
 use Rattle.strat_merge.specs.MergerFields.{views_of}
 use Rattle.strat_promote.specs.Opening.{IsBlamed}
-use Rattle.strat_check.specs.LevelPasses.{AreCounted, IsCountingLevel}
+use Rattle.strat_check.specs.LevelPasses.{AreGroupsCounted, IsCountingLevel}
 use Rattle.strat_check.specs.LevelRuns.{is_in_order, kept_on}
 use Rattle.strat_check.specs.MarkedRuns.{marked_seen}
-use Rattle.strat_check.specs.Owners.{AreOwners}
 use Rattle.strat_check.specs.declared.marked_run.MarkedRun.{MarkedRun}
 use Rattle.strat_check.proofs.LevelPassLemmas.{counted_none, level_counted}
 use Rattle.strat_check.proofs.LevelOnLemmas.{level_is, tags_apart}
@@ -70,7 +67,7 @@ returns-clause-ok g c = λ f on told is may old total.
     let counted = c.in_ok-count_groups.ensures.ok c.if-not-branch.false f runs (c.open_runs.ensures.same.same ∙ told) (c.in_ok-owners.ensures.ok apart) counting in
     let size : length c.as_slice-arrays.result.now ≡ length on.arrays = ap (λ (xs : List ArrayDesc). length xs) arrays ∙ are.len in
     level_counted tree c.count-versions.ensures.kept on may old (omega (arith, are.len, c.requires.room)) counted.groups counted.merged c.count_groups.new.pass.found.items c.count_groups.new.sights c.finish.new.self
-    (subst (λ (ts : List (List ℕ)). AreCounted tree ts counted.groups c.count_groups.new.pass.found.items c.count_groups.new.sights) tags counted.counted) (c.in_ok-count_groups.ensures.kept.found ∙ size) total c.finish.ensures.ok
+    (subst (λ (ts : List (List ℕ)). AreGroupsCounted tree ts counted.groups c.count_groups.new.pass.found.items c.count_groups.new.sights) tags counted.counted) (c.in_ok-count_groups.ensures.kept.found ∙ size) total c.finish.ensures.ok
 
 pub returns-then-not-branch-clause-same : goal.returns-then-not-branch-clause-same
 returns-then-not-branch-clause-same g c = reads_trans c.open_runs.ensures.same c.count_groups.ensures.reads.same

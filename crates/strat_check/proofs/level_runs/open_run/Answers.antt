@@ -1,8 +1,6 @@
-use Rattle.std.proofs.Common.{◌∙◌, refl, map, ap}
+use Rattle.std.proofs.Common.{◌∙◌, map, ap}
 use Rattle.std.proofs.lemmas.List.{map-append}
-use Rattle.strat_base.proofs.ResultFacts.{err_of}
 use Rattle.strat_check.specs.MarkedRuns.{marked_seen}
-use Rattle.strat_check.proofs.LevelRunLemmas.{front_reads, on_err}
 use Rattle.strat_check.proofs.level_runs.open_run.Goals as goal
 
 pub returns-clause-ok : goal.returns-clause-ok

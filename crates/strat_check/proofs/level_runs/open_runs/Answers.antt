@@ -1,11 +1,10 @@
-use Rattle.std.proofs.Common.{◌≡◌, ◌<◌, ◌≤◌, ◌+◌, ◌∙◌, ◌++◌, ◌∷◌, [], ℕ, List, map, length, take, sym, ap, subst, arith, length-take}
-use Rattle.std.proofs.lemmas.List.{take_all}
+use Rattle.std.proofs.Common.{◌≡◌, ◌∙◌, ℕ, List, map, length, take, sym, subst, arith, length-take}
 use Rattle.strat_base.proofs.ResultFacts.{err_of}
 use Rattle.strat_base.specs.declared.descriptors.ArrayDesc.{ArrayDesc}
 use Rattle.def_crash.proofs.MomentLemmas.{reads_trans}
-use Rattle.strat_check.specs.LevelRuns.{OpensRun, AreOpened}
+use Rattle.strat_check.specs.LevelRuns.{OpensRun, AreLevelRuns}
 use Rattle.strat_check.specs.MarkedRuns.{marked_seen}
-use Rattle.strat_check.proofs.LevelRunLemmas.{opened_none, opened_more, array_next, array_blamed, array_reads, on_err}
+use Rattle.strat_check.proofs.LevelRunLemmas.{opened_more, array_next, array_blamed, array_reads, on_err}
 use Rattle.strat_check.proofs.level_runs.open_runs.Goals as goal
 
 pub open_run-requires-clause-fits : goal.open_run-requires-clause-fits
@@ -27,7 +26,7 @@ returns-in_err-open_run-clause-err g c =
 pub loop-i-preserved : goal.loop-i-preserved
 loop-i-preserved g c =
     let size : length (take c.loop-i.i c.args.arrays.now) ≡ c.loop-i.i = omega (arith, c.loop-i-test.true, length-take {A = ArrayDesc}) in (
-      subst (λ (xs : List ArrayDesc). AreOpened c.args.versions (g.D.Disk.view c.args.disk.now) xs (map marked_seen c.open_run.new.runs.items) (g.D.Disk.reads c.args.disk.now) (g.D.Disk.reads c.open_run.new.disk))
+      subst (λ (xs : List ArrayDesc). AreLevelRuns c.args.versions (g.D.Disk.view c.args.disk.now) xs (map marked_seen c.open_run.new.runs.items) (g.D.Disk.reads c.args.disk.now) (g.D.Disk.reads c.open_run.new.disk))
           (sym (array_next c.args.arrays.now c.loop-i.i c.index-arrays-i.result c.loop-i-test.true c.index-arrays-i.is))
           (opened_more c.args.versions (g.D.Disk.view c.args.disk.now) (g.D.Disk.view c.loop-i.disk) (take c.loop-i.i c.args.arrays.now) c.index-arrays-i.result _ _ _ _ _ c.loop-i.invariant.0 c.loop-i.invariant.1
           (subst (λ (k : ℕ). OpensRun c.args.versions (g.D.Disk.view c.loop-i.disk) k c.index-arrays-i.result (map marked_seen c.loop-i.runs.items) (map marked_seen c.open_run.new.runs.items) (g.D.Disk.reads c.loop-i.disk) (g.D.Disk.reads c.open_run.new.disk))

@@ -1,4 +1,4 @@
-use Rattle.std.proofs.Common.{◌∙◌, get_or, arith}
+use Rattle.std.proofs.Common.{◌∙◌, get_or}
 use Rattle.std.proofs.lemmas.List.{length-set}
 use Rattle.strat_check.proofs.OwnerLemmas.{claimed_more, same_default}
 use Rattle.strat_check.proofs.owners.claim.Goals as goal

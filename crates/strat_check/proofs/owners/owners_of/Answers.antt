@@ -1,4 +1,4 @@
-use Rattle.std.proofs.Common.{◌≡◌, ◌∙◌, ◌<◌, ◌≤◌, ◌+◌, ℕ, List, cond, length, get_or, ltb, sym, ap, subst, arith, IsTrue}
+use Rattle.std.proofs.Common.{◌≡◌, ◌∙◌, ◌<◌, ◌+◌, ℕ, List, cond, length, get_or, ltb, sym, ap, subst, IsTrue}
 use Rattle.std.specs.List.{list_all}
 use Rattle.strat_base.specs.Entries.{is_tagged}
 use Rattle.std.proofs.lemmas.List.{get_or-replicate, length-replicate}

@@ -1,4 +1,4 @@
-use Rattle.std.proofs.Common.{◌≡◌, ◌∙◌, ◌<◌, ℕ, ltb, Bool, true, false, not, List, get_or, length, sym, ap, subst, IsTrue}
+use Rattle.std.proofs.Common.{◌≡◌, ◌∙◌, ℕ, ltb, true, false, not, List, get_or, length, sym, ap}
 use Rattle.std.specs.List.{list_all}
 use Rattle.std.proofs.lemmas.Bool.{ltb-true}
 use Rattle.strat_arena.specs.Items.{entry_of_item, entries_of, have_pairs}
@@ -50,8 +50,10 @@ returns-in-Some c =
     let of_key : is_of c.requires.kept.key (entry_of_item pairs (get_or c.args.told.now c.in-Some.at none)) ≡ true =
     all_at (is_of c.requires.kept.key) (entry_of_item pairs (get_or c.args.told.now c.in-Some.at none)) (entries_of pairs c.args.told.now) (keyed c.args.g.now c.requires.kept c.args.told.now c.requires.found)
     (among_map (entry_of_item pairs) c.args.told.now (get_or c.args.told.now c.in-Some.at none) (place_among c.args.told.now c.in-Some.at none within)) in
-    record { ok = ap not (c.is_lead.ensures.ok c.requires.kept.key c.requires.kept.keyed of_key
-        ∙ one_lives c.args.tree.now.parents c.count.ensures.kept c.args.v pairs c.args.told.now c.requires.kept.key (keyed c.args.g.now c.requires.kept c.args.told.now c.requires.found) (holds_entry (group_leads c.args.g.now)) (down c.args.g.now c.requires.kept c.args.told.now c.requires.found) c.in-Some.at none c.in-Some.ensures.ok) }
+    record {
+      ok = ap not (c.is_lead.ensures.ok c.requires.kept.key c.requires.kept.keyed of_key
+          ∙ one_lives c.args.tree.now.parents c.count.ensures.kept c.args.v pairs c.args.told.now c.requires.kept.key (keyed c.args.g.now c.requires.kept c.args.told.now c.requires.found) (holds_entry (group_leads c.args.g.now)) (down c.args.g.now c.requires.kept c.args.told.now c.requires.found) c.in-Some.at none c.in-Some.ensures.ok);
+    }
 
 pub returns-in-None : goal.returns-in-None
 returns-in-None c =

@@ -1,5 +1,5 @@
-use Rattle.std.proofs.Common.{◌≡◌, ◌∙◌, ℕ, Bool, true, List, eqb, sym, ap, subst}
-use Rattle.strat_arena.specs.Items.{entry_of_item, entries_of}
+use Rattle.std.proofs.Common.{◌≡◌, ◌∙◌, ℕ, Bool, true, List, sym, ap}
+use Rattle.strat_arena.specs.Items.{entry_of_item}
 use Rattle.strat_arena.specs.declared.items.Item.{Item}
 use Rattle.strat_base.specs.Entries.{holds_entry, is_of}
 use Rattle.strat_base.proofs.ListFacts.{all_at}

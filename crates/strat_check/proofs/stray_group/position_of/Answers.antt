@@ -1,4 +1,4 @@
-use Rattle.std.proofs.Common.{◌≡◌, ◌∙◌, ap, arith}
+use Rattle.std.proofs.Common.{◌∙◌, ap, arith}
 use Rattle.strat_arena.specs.declared.items.Item.{Item}
 use Rattle.strat_check.proofs.HeldLemmas.{none_equal}
 use Rattle.strat_check.proofs.OwnerLemmas.{same_default}

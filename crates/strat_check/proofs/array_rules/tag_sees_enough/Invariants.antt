@@ -1,0 +1,7 @@
+use Rattle.std.proofs.Common.{◌≡◌, drop}
+use Rattle.std.specs.List.{list_all}
+use Rattle.strat_check.specs.ArrayNumbers.{sees_enough}
+use Rattle.strat_check.proofs.array_rules.tag_sees_enough.Given as goal
+
+abbrev pub invariant-loop-v : goal.invariant-loop-v
+invariant-loop-v l = list_all (sees_enough l.mine l.entries) (drop l.v-index l.tag) ≡ list_all (sees_enough l.mine l.entries) l.tag
