@@ -16,7 +16,7 @@ use Rattle.def_crash.specs.Moments.{DiskView, Exposes, OnlyReads}
 use Rattle.def_bytes.specs.Arrays.{blocks_of, entries_on}
 use Rattle.def_check.specs.Marked.{marked, marked_runs}
 use Rattle.strat_merge.specs.Gathered.{are_under}
-use Rattle.strat_merge.specs.Runs.{RunView, blocks_left, IsBadFor, ReadsFront}
+use Rattle.strat_merge.specs.Runs.{RunView, blocks_left, IsBadFor}
 use Rattle.strat_promote.specs.Job.{blocks_listed}
 use Rattle.strat_promote.specs.Leads.{misfit_in}
 use Rattle.strat_promote.specs.Opening.{IsBlamed}
@@ -52,18 +52,6 @@ bad_of_one f run b bad = go bad.at bad.run bad.there bad.says
     go : (i : ℕ) (other : RunView) → slice_get (run ∷ []) i ≡ Some other → other.misfit f ≡ Some b → run.misfit f ≡ Some b
     go zero other there says = let same : run ≡ other = cc in ap (λ (r : RunView). r.misfit f) same ∙ says
     go (suc i) other there says = absurd (cc)
-
--- no run yet
-pub opened_none : (n : ℕ) (disk : DiskView) (reads : ℕ) → AreLevelRuns n disk [] [] reads reads
-opened_none n disk reads = record {
-  left = λ f exposed order. refl;
-  len = refl;
-  under = refl;
-  blames = λ f b exposed bad. absurd (cc);
-  within = λ b here. here;
-  later = omega arith;
-  most = omega arith;
-}
 
 -- one more run
 pub opened_more : (n : ℕ) (disk after : DiskView) (xs : List ArrayDesc) (a : ArrayDesc) (old new : List RunView) (first then last : ℕ) → AreLevelRuns n disk xs old first then → OnlyReads disk after
@@ -157,14 +145,6 @@ array_reads n start all i a runs first then last within is opened reads =
 pub on_err : {T E : Type 0} (r : Result T E) (P : Type 0) → P → OnErr r P
 on_err (Ok x) P p = tt
 on_err (Err e) P p = p
-
--- a run that was read in part was read at most so often
-pub front_reads : (old new : List ℕ) (before now : ℕ) → ReadsFront old new before now → ReadsAtMost (length old) before now
-front_reads old new before now front =
-    let later = front.later in
-    let most = front.most in
-    let size : length old ≡ length (front.read ++ new) = ap (λ (bs : List ℕ). length bs) front.split in
-    record { later = later; bound = omega (arith, most, size, length-append front.read new) }
 
 -- a block that a merge of the runs blames is one of the arrays'
 pub pass_blamed : (n : ℕ) (disk after : DiskView) (arrays : List ArrayDesc) (runs : List RunView) (first then : ℕ) → AreLevelRuns n disk arrays runs first then → OnlyReads disk after

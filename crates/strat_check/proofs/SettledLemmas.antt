@@ -1,12 +1,8 @@
 -- What is noted of arrays while a group is looked at, item by item.
-use Rattle.std.proofs.Common.{◌≡◌, ◌<◌, ◌+◌, ℕ, zero, suc, Bool, true, false, ◌&&◌, ◌||◌, not, eqb, cond, inl, inr, List, [], ◌∷◌, ◌++◌, length, map, filter, take, get_or, replicate, refl, sym, ap, ◌∙◌, arith}
+use Rattle.std.proofs.Common.{◌≡◌, ◌<◌, ℕ, zero, suc, Bool, true, false, ◌&&◌, ◌||◌, not, eqb, cond, inl, inr, List, [], ◌∷◌, ◌++◌, length, map, filter, replicate, refl, sym, ap, ◌∙◌, arith}
 use Rattle.std.specs.List.{list_any, list_all}
 use Rattle.std.proofs.lemmas.Bool.{and_parts, and_from, cases_Bool, cases_eq, ne_eqb, not-true, not_from_false}
-use Rattle.std.proofs.lemmas.List.{take_more, map-append}
 use Rattle.std.proofs.lemmas.List.Folds.{list_any-append}
-use Rattle.strat_arena.specs.ArenaView.{KeyValue}
-use Rattle.strat_arena.specs.Items.{entry_of_item, entries_of}
-use Rattle.strat_arena.specs.declared.items.Item.{Item}
 use Rattle.strat_base.specs.Entries.{Entry, holds_entry}
 use Rattle.strat_base.specs.Tree.{Parents}
 use Rattle.strat_base.proofs.ListFacts.{all_at, all_from, any_among, any_from, filter_among}
@@ -20,10 +16,6 @@ pub all_repeated : {X : Type 0} (p : X → Bool) (n : ℕ) (x : X) → p x ≡ t
 all_repeated p zero x is = refl
 all_repeated p (suc n) x is = and_from (p x) (list_all p (replicate n x)) is (all_repeated p n x is)
 
--- one more item of a group
-pub entries_more : (pairs : List KeyValue) (items : List Item) (i : ℕ) (d : Item) → i < length items → entries_of pairs (take (i + 1) items) ≡ entries_of pairs (take i items) ++ entry_of_item pairs (get_or items i d) ∷ []
-entries_more pairs items i d within = ap (entries_of pairs) (take_more items i d within) ∙ map-append (entry_of_item pairs) (take i items) (get_or items i d ∷ [])
-
 any_last : (p : Entry → Bool) (es : List Entry) (e : Entry) → list_any p (es ++ e ∷ []) ≡ (list_any p es || p e)
 any_last p es e = list_any-append p es (e ∷ []) ∙ ap (λ (b : Bool). list_any p es || b) (or_false (p e))
   where
@@ -31,61 +23,12 @@ any_last p es e = list_any-append p es (e ∷ []) ∙ ap (λ (b : Bool). list_an
     or_false true = refl
     or_false false = refl
 
-noted_twice : (a b : Bool) (s : Strays) → noted b (noted a s) ≡ noted (a || b) s
-noted_twice a b s = λ j. record { has_any = or_assoc s.has_any a b j; is_live = s.is_live; is_due = or_assoc s.is_due a b j }
-  where
-    or_assoc : (x a b : Bool) → ((x || a) || b) ≡ (x || (a || b))
-    or_assoc true a b = refl
-    or_assoc false a b = refl
-
-pub noted_more : (p : Entry → Bool) (pairs : List KeyValue) (items : List Item) (i : ℕ) (d : Item) (old mid new : Strays) → i < length items
-    → mid ≡ noted (list_any p (entries_of pairs (take i items))) old → new ≡ noted (p (entry_of_item pairs (get_or items i d))) mid
-    → new ≡ noted (list_any p (entries_of pairs (take (i + 1) items))) old
-noted_more p pairs items i d old mid new within before step =
-    step ∙ ap (noted (p (entry_of_item pairs (get_or items i d)))) before
-    ∙ noted_twice (list_any p (entries_of pairs (take i items))) (p (entry_of_item pairs (get_or items i d))) old
-    ∙ ap (λ (b : Bool). noted b old) (sym (any_last p (entries_of pairs (take i items)) (entry_of_item pairs (get_or items i d))) ∙ sym (ap (list_any p) (entries_more pairs items i d within)))
-
 pub not_noted : (s : Strays) → s ≡ noted false s
 not_noted s = λ j. record { has_any = sym (or_false s.has_any) j; is_live = s.is_live; is_due = sym (or_false s.is_due) j }
   where
     or_false : (b : Bool) → (b || false) ≡ b
     or_false true = refl
     or_false false = refl
-
-settled_twice : (a b lives : Bool) (s : Strays) → with_answer b lives (with_answer a lives s) ≡ with_answer (a || b) lives s
-settled_twice a b lives s = λ j. record { has_any = s.has_any; is_live = live_twice s.is_live s.is_due a b lives j; is_due = due_twice s.is_due a b j }
-  where
-    live_twice : (x due a b lives : Bool) → ((x || ((a && due) && lives)) || ((b && (due && not a)) && lives)) ≡ (x || (((a || b) && due) && lives))
-    live_twice true due a b lives = refl
-    live_twice false due true b lives = go b due lives
-      where
-        go : (b due lives : Bool) → ((due && lives) || ((b && (due && false)) && lives)) ≡ (due && lives)
-        go true true true = refl
-        go true true false = refl
-        go true false lives = refl
-        go false true true = refl
-        go false true false = refl
-        go false false lives = refl
-    live_twice false due false b lives = go b due lives
-      where
-        go : (b due lives : Bool) → ((b && (due && true)) && lives) ≡ ((b && due) && lives)
-        go true true lives = refl
-        go true false lives = refl
-        go false due lives = refl
-
-    due_twice : (due a b : Bool) → ((due && not a) && not b) ≡ (due && not (a || b))
-    due_twice true true b = refl
-    due_twice true false b = refl
-    due_twice false a b = refl
-
-pub settled_more : (p : Entry → Bool) (lives : Bool) (pairs : List KeyValue) (items : List Item) (i : ℕ) (d : Item) (old mid new : Strays) → i < length items
-    → mid ≡ with_answer (list_any p (entries_of pairs (take i items))) lives old → new ≡ with_answer (p (entry_of_item pairs (get_or items i d))) lives mid
-    → new ≡ with_answer (list_any p (entries_of pairs (take (i + 1) items))) lives old
-settled_more p lives pairs items i d old mid new within before step =
-    step ∙ ap (with_answer (p (entry_of_item pairs (get_or items i d))) lives) before
-    ∙ settled_twice (list_any p (entries_of pairs (take i items))) (p (entry_of_item pairs (get_or items i d))) lives old
-    ∙ ap (λ (b : Bool). with_answer b lives old) (sym (any_last p (entries_of pairs (take i items)) (entry_of_item pairs (get_or items i d))) ∙ sym (ap (list_any p) (entries_more pairs items i d within)))
 
 pub not_settled : (lives : Bool) (s : Strays) → s ≡ with_answer false lives s
 not_settled lives s = λ j. record { has_any = s.has_any; is_live = sym (or_false s.is_live) j; is_due = sym (and_true s.is_due) j }
@@ -97,21 +40,6 @@ not_settled lives s = λ j. record { has_any = s.has_any; is_live = sym (or_fals
     and_true : (b : Bool) → (b && true) ≡ b
     and_true true = refl
     and_true false = refl
-
--- where nothing is due, nothing is to be asked
-pub none_due : (asked lives : Bool) (s : Strays) → s.is_due ≡ false → s ≡ with_answer asked lives s
-none_due asked lives s none = λ j. record { has_any = s.has_any; is_live = live_same j; is_due = due_same j }
-  where
-    live_same : s.is_live ≡ (s.is_live || ((asked && s.is_due) && lives))
-    live_same = sym (ap (λ (b : Bool). s.is_live || ((asked && b) && lives)) none ∙ go s.is_live asked)
-      where
-        go : (x asked : Bool) → (x || ((asked && false) && lives)) ≡ x
-        go true asked = refl
-        go false true = refl
-        go false false = refl
-
-    due_same : s.is_due ≡ (s.is_due && not asked)
-    due_same = none ∙ sym (ap (λ (b : Bool). b && not asked) none)
 
 -- a group in which an array has a stray: one of its entries is it
 pub stray_is_any : (p : Entry → Bool) (i : ℕ) (group : List Entry) → list_any (is_stray (unmarked_where p group) i) group ≡ has_stray p i group
@@ -212,18 +140,15 @@ no_stray_here leads i e held = sym (ap (λ (b : Bool). is_from_run i e && not b)
     and_off true = refl
     and_off false = refl
 
--- it is asked of one array alone
-pub due_item : (place i : ℕ) (a b : Bool) (s : Strays) → (place ≡ i → a ≡ b) → with_answer (eqb place i) a s ≡ with_answer (eqb place i) b s
-due_item place i a b s same =
+-- where a stray is live by an earlier key, it says no more that one is
+pub known_item : (place i : ℕ) (a b : Bool) (s : Strays) → (place ≡ i → (s.is_live || a) ≡ (s.is_live || b)) → with_answer (eqb place i) a s ≡ with_answer (eqb place i) b s
+known_item place i a b s same =
     elim (cases_eq place i) [
-      | inl here ↦ ap (λ (x : Bool). with_answer (eqb place i) x s) (same here)
+      | inl here ↦ λ j. record { has_any = s.has_any; is_live = either (eqb place i && s.is_due) (same here) j; is_due = s.is_due && not (eqb place i) }
       | inr apart ↦
           ap (λ (x : Bool). with_answer x a s) (ne_eqb place i apart) ∙ sym (not_settled a s) ∙ not_settled b s ∙ sym (ap (λ (x : Bool). with_answer x b s) (ne_eqb place i apart))
     ]
-
-pub undue_item : (place i : ℕ) (lives : Bool) (found : List Strays) → false ≡ (strays_at found place).is_due → strays_at found i ≡ with_answer (eqb place i) lives (strays_at found i)
-undue_item place i lives found none =
-    elim (cases_eq place i) [
-      | inl here ↦ none_due (eqb place i) lives (strays_at found i) (sym (none ∙ ap (λ (n : ℕ). (strays_at found n).is_due) here))
-      | inr apart ↦ not_settled lives (strays_at found i) ∙ sym (ap (λ (x : Bool). with_answer x lives (strays_at found i)) (ne_eqb place i apart))
-    ]
+  where
+    either : (t : Bool) → (s.is_live || a) ≡ (s.is_live || b) → (s.is_live || (t && a)) ≡ (s.is_live || (t && b))
+    either true is = is
+    either false is = refl

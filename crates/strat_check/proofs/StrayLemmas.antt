@@ -70,9 +70,6 @@ module _ (groups : List (List Entry)) (grouped : AreGroups groups) where
 
   module _ (p q : Entry → Bool) (r : Entry → Bool) (s : List Entry → Entry → Bool)
       (each : (group : List Entry) → Among group groups → (e : Entry) → Among e (unmarked_where q group) → r e ≡ s group e) where
-    all_leads : List Entry
-    all_leads = grouped_entries (map (unmarked_where p) groups)
-
     -- that entries are among the leads is asked group by group
     held_told : list_all (holds_entry (grouped_entries (map (unmarked_where p) groups))) (filter r (unmarked_where q (grouped_entries groups)))
         ≡ list_all (λ group. list_all (holds_entry (unmarked_where p group)) (filter (s group) (unmarked_where q group))) groups

@@ -1,7 +1,7 @@
 //! The entries of a group that are no leads.
 
 ghost use Rattle.std.specs.List.{Contains, list_any, list_all};
-ghost use Rattle.std.specs.Prelude.{◌≡◌, ◌<◌, ◌≤◌, ℕ, List, ◌++◌, ◌∷◌, [], ◌/◌, ◌%◌, ◌==◌, nat_lt, not, length, map, slice_index_or, IfOk, IfSome, IfNone, OnOk, IsTrue};
+ghost use Rattle.std.specs.Prelude.{◌≡◌, ◌<◌, ◌≤◌, ℕ, List, ◌++◌, ◌∷◌, [], ◌/◌, ◌%◌, ◌==◌, ◌||◌, nat_lt, not, length, map, slice_index_or, IfOk, IfSome, IfNone, OnOk, IsTrue};
 ghost use Rattle.strat_arena.specs.Items.{entry_of_item, entries_of, have_pairs};
 ghost use Rattle.strat_arena.specs.declared.items.Item.{Item as Kept};
 ghost use Rattle.strat_base.specs.Entries.{is_of, is_same_value, holds_entry};
@@ -200,6 +200,28 @@ fn has_live_stray(
     Ok(is_any_live(g, &told, tag, tree))
 }
 
+/// The same, and it is not asked again where a stray of the array is live by an earlier key.
+fn lives_by_now(
+    alloc: Global,
+    g: &StrayGroup<'_>,
+    place: u32,
+    tag: &[Version],
+    tree: &Tree,
+    found: &[Strays],
+) -> Result<bool, NoMemory>
+    requires kept { IsStrayGroup g.now }
+    requires fits { IsTrue (list_all (λ v. nat_lt v (length tree.now.parents)) tag.now) }
+    requires room { place < length found.now }
+    ensures ok { IfOk result (λ lives. ((strays_at found.now place).is_live || lives)
+        ≡ ((strays_at found.now place).is_live || has_live_stray tree.now.parents
+        (is_owned g.now.owners.now) tag.now place (group_entries g.now))) }
+{
+    if found[place as usize].is_live {
+        return Ok(true);
+    }
+    has_live_stray(alloc, g, place, tag, tree)
+}
+
 /// Asks, where it is due, whether a stray of an item's array is live.
 fn settle_item(
     alloc: Global,
@@ -223,7 +245,7 @@ fn settle_item(
     let place = item.version % PLACES;
     if is_due(found, place) {
         let tag = arrays[place as usize].versions.as_slice();
-        let lives = has_live_stray(alloc, g, place, tag, tree)?;
+        let lives = lives_by_now(alloc, g, place, tag, tree, found)?;
         settle(found, place, lives);
     }
     Ok(())
