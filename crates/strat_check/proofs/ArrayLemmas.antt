@@ -19,7 +19,7 @@ use Rattle.def_check.specs.Told.{seen_by, MayBeCounted, AreLeadsOf, AreContentOf
 use Rattle.def_check.specs.Weights.{weight_of, weights_seen}
 use Rattle.def_check.proofs.ToldLemmas.{told_agreement, told_density, told_drawn, told_least}
 use Rattle.def_check.proofs.WeightLemmas.{versions_weigh, versions_count}
-use Rattle.strat_check.specs.ArrayNumbers.{own_sum, sees_same, sees_enough, leads_in, IsToldFrom, IsArrayCounted, IsArrayTold}
+use Rattle.strat_check.specs.ArrayNumbers.{own_sum, sees_same, sees_enough, leads_told, IsToldFrom, IsArrayCounted, IsArrayTold}
 use Rattle.strat_check.specs.Sightings.{Sightings, IsSighted}
 use Rattle.strat_check.specs.declared.strays.Strays.{Strays}
 use Rattle.strat_check.specs.declared.places.ArrayTold.{ArrayTold}
@@ -135,9 +135,9 @@ module _ (s : State) (on : Level) (a : TaggedArray) (groups : List (List Entry))
   leads_few : length (own_leads a) ≤ 2 ^ 48
   leads_few = let few = filter_few (λ (e : Entry). is_tagged a.tag e.version) a.content in let most = x.few in omega (arith, few, most)
 
-  leads_told : leads_in mine desc.versions ≡ length (own_leads a)
+  leads_told : leads_told mine desc.versions ≡ length (own_leads a)
   leads_told =
-      ap (λ (tag : List ℕ). leads_in mine tag) (sym x.tag) ∙ ap (λ (n : ℕ). min n (2 ^ 64 - 1)) own_is ∙ min_small (length (own_leads a)) (let few = leads_few in omega (arith, few))
+      ap (λ (tag : List ℕ). leads_told mine tag) (sym x.tag) ∙ ap (λ (n : ℕ). min n (2 ^ 64 - 1)) own_is ∙ min_small (length (own_leads a)) (let few = leads_few in omega (arith, few))
 
   -- c
   agreeing : (not strays.is_live && list_all (sees_same mine leads) desc.versions) ≡ agrees parents on a
@@ -163,7 +163,7 @@ module _ (s : State) (on : Level) (a : TaggedArray) (groups : List (List Entry))
       ∙ sym (told_density parents x.level.tree on x.level.may groups x.level.led a here x.counted.groups content)
 
   -- e
-  led : leb scan.entries (min (leads_in mine desc.versions * 2) (2 ^ 64 - 1)) ≡ is_led a
+  led : leb scan.entries (min (leads_told mine desc.versions * 2) (2 ^ 64 - 1)) ≡ is_led a
   led =
       (λ i. leb (x.scanned i) (min (leads_told i * 2) (2 ^ 64 - 1)))
       ∙ ap (leb (length a.content)) (min_small (length (own_leads a) * 2) (let few = leads_few in omega (arith, few)))
@@ -205,7 +205,7 @@ module _ (s : State) (on : Level) (a : TaggedArray) (groups : List (List Entry))
           lt-ltb e.version (length parents) (omega (arith, lt, same, old))
 
   -- k
-  described : (eqb desc.entries scan.entries && eqb desc.leads (leads_in mine desc.versions) && eqb desc.least (least (map (λ v. get_or mine.seen v 0) desc.versions))) ≡ is_described s a
+  described : (eqb desc.entries scan.entries && eqb desc.leads (leads_told mine desc.versions) && eqb desc.least (least (map (λ v. get_or mine.seen v 0) desc.versions))) ≡ is_described s a
   described =
       (λ i. eqb (sym x.entries i) (x.scanned i) && eqb (sym x.leads_are i) (leads_told i) && eqb (sym x.least_is i) (least_told i))
     where

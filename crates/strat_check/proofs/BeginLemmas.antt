@@ -20,7 +20,7 @@ use Rattle.def_state.specs.Setting.{set_all}
 use Rattle.def_state.specs.Sound.{has_child_below, has_ascending_entries, has_few_leads}
 use Rattle.def_state.specs.State.{State, versions_of, is_living, journal_updates}
 use Rattle.def_state.proofs.UpdateLemmas.{all_among, all_found}
-use Rattle.strat_check.specs.Children.{first_from, lowered}
+use Rattle.strat_check.specs.Children.{first_from, lowered_to_child}
 use Rattle.strat_check.specs.Places.{place_of, first_in_arrays, NoPlaces}
 use Rattle.strat_check.specs.Walked.{AreFirstChildren, IsFound}
 use Rattle.strat_check.specs.declared.level_walk.Findings.{Findings}
@@ -59,7 +59,7 @@ updates_same t updates =
         ]
 
 pub found_none : (s : State) (first : List ℕ) (pairs : List KeyValue) (items : List Item) (x : Findings) → AreFirstChildren s first → IsTree (versions_of s) → ((v : ℕ) → is_living s v ≡ true)
-    → entries_of pairs items ≡ set_all (journal_updates s) → x.lowest ≡ fold (λ n (item : Item). lowered first n item.version) (length (versions_of s)) items
+    → entries_of pairs items ≡ set_all (journal_updates s) → x.lowest ≡ fold (λ n (item : Item). lowered_to_child first n item.version) (length (versions_of s)) items
     → x.horizon ≡ length (versions_of s) → x.leads ≡ 0 → NoPlaces x.places → IsFound s [] x
 found_none s first pairs items x children tree living held lowest horizon leads none = record {
   firsts = record {

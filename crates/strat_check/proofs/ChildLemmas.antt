@@ -6,7 +6,7 @@ use Rattle.std.proofs.lemmas.Bool.{eqb-true, eq-eqb, cases_Bool}
 use Rattle.std.proofs.lemmas.List.{get_or-set_same, get_or-set_other}
 use Rattle.std.proofs.lemmas.Option.{slice_get-get_or}
 use Rattle.strat_base.specs.Tree.{Parents, parent_of}
-use Rattle.strat_check.specs.Children.{is_child_of, first_from, lowered, lowered_by_own}
+use Rattle.strat_check.specs.Children.{is_child_of, first_from, lowered_to_child, lowered_by_own}
 use Rattle.strat_check.proofs.RangeLemmas.{range_step}
 
 parent_is : (parents : Parents) (k : ℕ) (o : Option ℕ) → k < length parents → get_or parents k None ≡ o → parent_of parents k ≡ o

@@ -13,7 +13,7 @@ use Rattle.def_publish.specs.Occupied.{arrays_in}
 use Rattle.def_publish.proofs.DescribedLemmas.{blocks_counted}
 use Rattle.def_recovery.proofs.BadLemmas.{contained_at}
 use Rattle.strat_promote.specs.Job.{blocks_listed}
-use Rattle.strat_check.specs.Fit.{ends_within, is_fit_array, is_fit_level, IsFitLevel, blocks_in, are_fit}
+use Rattle.strat_check.specs.Fit.{ends_within, is_fit_array, is_fit_level, IsFitLevel, blocks_of_levels, are_fit}
 
 pub fit_level : (n : ℕ) (level : LevelDesc) → is_fit_level n level ≡ true → IsFitLevel n level
 fit_level n level fit =
@@ -58,7 +58,7 @@ listed_joined (a ∷ xs) ys =
     let right = length-append (blocks_of a.extents) (blocks_listed xs) in
     omega (arith, rest, left, right)
 
-pub levels_counted : (levels : List LevelDesc) → blocks_in levels ≡ length (blocks_listed (arrays_in levels))
+pub levels_counted : (levels : List LevelDesc) → blocks_of_levels levels ≡ length (blocks_listed (arrays_in levels))
 levels_counted [] = refl
 levels_counted (level ∷ levels) =
     let cons = sum_by-cons (λ (l : LevelDesc). sum_by (λ (a : ArrayDesc). sum_by (λ (x : Extent). x.len) a.extents) l.arrays) level levels in
@@ -74,11 +74,11 @@ array_few (b ∷ arrays) a (inr there) = let both = length-append (blocks_of b.e
 
 module _ (n : ℕ) (levels : List LevelDesc) (fit : are_fit n levels ≡ true) where
   pub fit_levels : list_all (is_fit_level n) levels ≡ true
-  fit_levels = (and_parts (list_all (is_fit_level n) levels) (leb (blocks_in levels) 33554432) fit).0
+  fit_levels = (and_parts (list_all (is_fit_level n) levels) (leb (blocks_of_levels levels) 33554432) fit).0
 
   pub blocks_few : length (blocks_listed (arrays_in levels)) ≤ 33554432
   blocks_few =
-      let most = leb-true (blocks_in levels) 33554432 (and_parts (list_all (is_fit_level n) levels) (leb (blocks_in levels) 33554432) fit).1 in
+      let most = leb-true (blocks_of_levels levels) 33554432 (and_parts (list_all (is_fit_level n) levels) (leb (blocks_of_levels levels) 33554432) fit).1 in
       let count = levels_counted levels in
       omega (arith, most, count)
 

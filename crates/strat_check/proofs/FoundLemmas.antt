@@ -21,7 +21,7 @@ use Rattle.def_state.specs.State.{State, versions_of, journal_updates}
 use Rattle.strat_check.specs.ArrayNumbers.{IsLevelSeen}
 use Rattle.strat_check.specs.Children.{lowered_by_own}
 use Rattle.strat_check.specs.LevelNumbers.{IsLevelToldFrom}
-use Rattle.strat_check.specs.Places.{place_of, first_unless, array_list, first_array, first_in_arrays, first_in_levels, after_array, KeepsLevel}
+use Rattle.strat_check.specs.Places.{place_of, first_unless, array_list, first_array_breach, first_in_arrays, first_in_levels, after_array, KeepsLevel}
 use Rattle.strat_check.specs.Sightings.{Sightings}
 use Rattle.strat_check.specs.Strays.{IsCountedLevel}
 use Rattle.strat_check.specs.Walked.{scan_of, AreArraysLooked, leads_of_arrays, AreArraysTold, AreFirstChildren, MayBeTold, IsNextLevel, IsFound}
@@ -130,7 +130,7 @@ module _ (s : State) (f : Image) (desc : LevelDesc) (on : Level) (done rest : Li
       ∙ sym (first_grown (λ (level : Level). breach_unless (test level) (breach rule level.number 0)) done on)
 
   arrays_grown : (rule : ℕ) (test : Level → TaggedArray → Bool) (old later new : Option Broken) → place_of old ≡ first_in_arrays rule test done
-      → place_of later ≡ first_array rule on.number (test on) on.arrays → place_of new ≡ option_or (place_of old) (place_of later) → place_of new ≡ first_in_arrays rule test (done ++ on ∷ [])
+      → place_of later ≡ first_array_breach rule on.number (test on) on.arrays → place_of new ≡ option_or (place_of old) (place_of later) → place_of new ≡ first_in_arrays rule test (done ++ on ∷ [])
   arrays_grown rule test old later new here there is =
       is ∙ (λ i. option_or (here i) (there i)) ∙ sym (first_grown (λ (level : Level). array_list rule level.number (test level) level.arrays) done on)
 

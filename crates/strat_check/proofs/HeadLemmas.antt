@@ -40,7 +40,7 @@ use Rattle.def_state.specs.Sound.{has_ascending_entries, IsWellFormed}
 use Rattle.def_state.specs.State.{State, versions_of, is_living}
 use Rattle.def_state.proofs.AppendedLemmas.{length-grown}
 use Rattle.def_state.proofs.UndroppedLemmas.{all_living}
-use Rattle.strat_check.specs.StoreScans.{content_of}
+use Rattle.strat_check.specs.StoreScans.{content_scanned}
 use Rattle.strat_check.specs.Walked.{MayBeTold}
 use Rattle.strat_check.proofs.WalkLemmas.{array_of, level_of, part_few}
 
@@ -166,7 +166,7 @@ module _ (c : Image) (h : Head) (s : State) (found : recover c ≡ Ok (Some h)) 
       let count = length-map m.parents (λ (p : ℕ). Some p) in
       omega (arith, le, same, parents, count)
 
-  pub may_be_told : array_breaches s 109 (λ level a. has_ascending_entries a) ≡ [] → sum_by content_of s.levels ≤ 2 ^ 48 → MayBeTold s
+  pub may_be_told : array_breaches s 109 (λ level a. has_ascending_entries a) ≡ [] → sum_by content_scanned s.levels ≤ 2 ^ 48 → MayBeTold s
   may_be_told ascend few = record {
     formed = formed;
     living = living;
@@ -181,7 +181,7 @@ module _ (c : Image) (h : Head) (s : State) (found : recover c ≡ Ok (Some h)) 
           disjoint = disjoint level among;
         };
     old = λ level has. old level (contained_among s.levels level has);
-    few = λ level has. let part = part_few content_of s.levels level (contained_among s.levels level has) in omega (arith, part, few);
+    few = λ level has. let part = part_few content_scanned s.levels level (contained_among s.levels level has) in omega (arith, part, few);
   }
 
 -- a block of entries that ascend is no bad one
@@ -194,8 +194,8 @@ none_bad c h s b e ascend bad =
     let its = level_of c d.0 level.0 level.2 in
     let array = some_there (array_on c) d.0.arrays level.0.arrays bad.array its.arrays d.2 in
     let up = passed_none (has_ascending_entries array.0) (breach 109 level.0.number array.0.id)
-        (empty_each (λ (x : TaggedArray). breach_unless (has_ascending_entries x) (breach 109 level.0.number x.id)) level.0.arrays array.0
-        (empty_each (λ (l : Level). flat_map (λ (x : TaggedArray). breach_unless (has_ascending_entries x) (breach 109 l.number x.id)) l.arrays) s.levels level.0 ascend level.1) array.1) in
+    (empty_each (λ (x : TaggedArray). breach_unless (has_ascending_entries x) (breach 109 level.0.number x.id)) level.0.arrays array.0
+    (empty_each (λ (l : Level). flat_map (λ (x : TaggedArray). breach_unless (has_ascending_entries x) (breach 109 l.number x.id)) l.arrays) s.levels level.0 ascend level.1) array.1) in
     let none = (read_whole c None (blocks_of bad.array.extents) array.0.content (array_of c bad.array array.0 array.2).read up).1 in
     let both : None ≡ Some b = sym none ∙ bad.misfit in
     cc

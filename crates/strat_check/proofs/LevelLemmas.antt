@@ -33,7 +33,7 @@ use Rattle.def_state.specs.Level.{TaggedArray, Level, own_leads, level_leads, ta
 use Rattle.def_state.specs.Sound.{has_child_below, shallower, has_room, has_old_horizon, is_above_frozen, is_numbered_from}
 use Rattle.def_state.specs.State.{State, versions_of, is_living, journal_updates}
 use Rattle.strat_check.specs.ArrayNumbers.{IsLevelSeen}
-use Rattle.strat_check.specs.Children.{is_child_of, first_from, lowered, lowered_by_own}
+use Rattle.strat_check.specs.Children.{is_child_of, first_from, lowered_to_child, lowered_by_own}
 use Rattle.strat_check.specs.LevelNumbers.{marked_with, marked_of, is_quiet}
 use Rattle.strat_check.specs.Sightings.{Sightings}
 use Rattle.strat_check.specs.Walked.{AreFirstChildren}
@@ -158,7 +158,7 @@ leb_min h x m =
     let two = leb-true h x parts.1 in
     le-leb h (min x m) (omega (arith, one, two)))
 
-lowered_le : (h : ℕ) (first : List ℕ) (v m : ℕ) → leb h (lowered first m v) ≡ (leb h m && leb h (get_or first v h))
+lowered_le : (h : ℕ) (first : List ℕ) (v m : ℕ) → leb h (lowered_to_child first m v) ≡ (leb h m && leb h (get_or first v h))
 lowered_le h [] v m = leb_min h m m ∙ bool_same (leb h m && leb h m) (leb h m && leb h h) (λ b. and_from (leb h m) (leb h h) (and_parts (leb h m) (leb h m) b).0 (leb_refl h)) (λ b. let p = (and_parts (leb h m) (leb h h) b).0 in and_from (leb h m) (leb h m) p p)
 lowered_le h (x ∷ first) zero m = leb_min h x m
 lowered_le h (x ∷ first) (suc v) m = lowered_le h first v m
@@ -172,10 +172,10 @@ and_true true = refl
 and_true false = refl
 
 pub lowest_of : {A : Type 0} (version : A → ℕ) (h : ℕ) (first : List ℕ) (m : ℕ) (xs : List A)
-    → leb h (fold (λ n x. lowered first n (version x)) m xs) ≡ (leb h m && list_all (λ x. leb h (get_or first (version x) h)) xs)
+    → leb h (fold (λ n x. lowered_to_child first n (version x)) m xs) ≡ (leb h m && list_all (λ x. leb h (get_or first (version x) h)) xs)
 lowest_of version h first m [] = and_true (leb h m)
 lowest_of version h first m (x ∷ xs) =
-    lowest_of version h first (lowered first m (version x)) xs
+    lowest_of version h first (lowered_to_child first m (version x)) xs
     ∙ ap (λ (b : Bool). b && list_all (λ y. leb h (get_or first (version y) h)) xs) (lowered_le h first (version x) m)
     ∙ and_assoc (leb h m) (leb h (get_or first (version x) h)) (list_all (λ y. leb h (get_or first (version y) h)) xs)
 
@@ -187,7 +187,7 @@ lowest_own h own first m (v ∷ vs) =
     ∙ ap (λ (b : Bool). b && list_all (λ u. eqb (get_or own u 0) 0 || leb h (get_or first u h)) vs) (go (eqb (get_or own v 0) 0))
     ∙ and_assoc (leb h m) (eqb (get_or own v 0) 0 || leb h (get_or first v h)) (list_all (λ u. eqb (get_or own u 0) 0 || leb h (get_or first u h)) vs)
   where
-    go : (b : Bool) → leb h (cond b m (lowered first m v)) ≡ (leb h m && (b || leb h (get_or first v h)))
+    go : (b : Bool) → leb h (cond b m (lowered_to_child first m v)) ≡ (leb h m && (b || leb h (get_or first v h)))
     go true = and_true (leb h m)
     go false = lowered_le h first v m
 

@@ -25,9 +25,9 @@ use Rattle.def_state.specs.Breach.{Breach, breach, breach_unless}
 use Rattle.def_state.specs.Level.{TaggedArray, Level}
 use Rattle.def_state.specs.Sound.{has_ascending_entries}
 use Rattle.strat_promote.specs.Job.{blocks_listed, IsBadInput}
-use Rattle.strat_check.specs.Places.{breach_of, place_of, first_unless, array_list, first_array, first_in_arrays}
+use Rattle.strat_check.specs.Places.{breach_of, place_of, first_unless, array_list, first_array_breach, first_in_arrays}
 use Rattle.strat_check.specs.Scanned.{IsScanned, have_low_versions, first_empty}
-use Rattle.strat_check.specs.StoreScans.{scans_of, content_of, IsScannedLevel, AreScannedLevels, HaveScans}
+use Rattle.strat_check.specs.StoreScans.{scans_of, content_scanned, IsScannedLevel, AreScannedLevels, HaveScans}
 use Rattle.strat_check.specs.Walked.{scan_of}
 use Rattle.strat_check.specs.declared.places.Broken.{Broken}
 use Rattle.strat_check.specs.declared.scan.Scan.{Scan}
@@ -98,7 +98,7 @@ pub record AreScannedArrays (f : Image) (n level : ℕ) (descs : List ArrayDesc)
   pub arrays : List TaggedArray
   pub on_disk : all_some (array_on f) descs ≡ Some arrays
   pub scanned : r.scans ≡ map (scan_of n) arrays
-  pub first : place_of r.unordered ≡ option_or (place_of before) (first_array 109 level has_ascending_entries arrays)
+  pub first : place_of r.unordered ≡ option_or (place_of before) (first_array_breach 109 level has_ascending_entries arrays)
   pub few : sum_by (λ (a : TaggedArray). length a.content) arrays ≤ 454 * length (blocks_listed descs)
 
 or_none : {A : Type 0} (o : Option A) → option_or o None ≡ o
@@ -138,7 +138,7 @@ array_scanned f n level descs i desc before was now scan at are s small scans pl
   scanned = scans ∙ (λ j. are.scanned j ++ scan_is j ∷ []) ∙ sym (map-append (scan_of n) are.arrays (a ∷ []));
   first =
       place ∙ (λ j. option_or (are.first j) (first_unless (s.ascends j) (breach 109 level desc.id)))
-      ∙ or_assoc (place_of before) (first_array 109 level has_ascending_entries are.arrays) (first_unless (is_ascending a.content) (breach 109 level a.id))
+      ∙ or_assoc (place_of before) (first_array_breach 109 level has_ascending_entries are.arrays) (first_unless (is_ascending a.content) (breach 109 level a.id))
       ∙ ap (option_or (place_of before)) (sym (first_grown (λ (b : TaggedArray). breach_unless (has_ascending_entries b) (breach 109 level b.id)) are.arrays a));
   few =
       let sum = sum_pushed (λ (b : TaggedArray). length b.content) are.arrays a in
@@ -185,10 +185,10 @@ levels_scanned f n descs i desc was now next at are one scans same = record {
   on_disk = some_more (level_on f) descs i desc are.levels one.level at are.on_disk one.on_disk;
   scanned = scans ∙ (λ j. are.scanned j ++ one.scanned j ∷ []) ∙ sym (map-append (scans_of n) are.levels (one.level ∷ []));
   first =
-      ap place_of same ∙ one.first ∙ ap (λ (o : Option Breach). option_or o (first_array 109 one.level.number has_ascending_entries one.level.arrays)) are.first
+      ap place_of same ∙ one.first ∙ ap (λ (o : Option Breach). option_or o (first_array_breach 109 one.level.number has_ascending_entries one.level.arrays)) are.first
       ∙ sym (first_grown (λ (level : Level). array_list 109 level.number has_ascending_entries level.arrays) are.levels one.level);
   few =
-      let sum = sum_pushed content_of are.levels one.level in
+      let sum = sum_pushed content_scanned are.levels one.level in
       let listed = ap (λ (bs : List ℕ). length bs) (arrays_more descs i desc at) in
       let both = length-append (blocks_listed (arrays_in (take i descs))) (blocks_listed desc.arrays) in
       let before' = are.few in
@@ -236,7 +236,7 @@ reads_all descs i k p q first =
     let a = first.later in
     let b = first.bound in
     let parts = ap (λ (ds : List LevelDesc). blocks_listed (arrays_in ds)) (sym (take-append-drop i descs)) ∙ ap blocks_listed (flat_joined (λ (d : LevelDesc). d.arrays) (take i descs) (drop i descs))
-        ∙ flat_joined (λ (x : ArrayDesc). blocks_of x.extents) (arrays_in (take i descs)) (arrays_in (drop i descs)) in
+    ∙ flat_joined (λ (x : ArrayDesc). blocks_of x.extents) (arrays_in (take i descs)) (arrays_in (drop i descs)) in
     let whole = ap (λ (bs : List ℕ). length bs) parts in
     let both = length-append (blocks_listed (arrays_in (take i descs))) (blocks_listed (arrays_in (drop i descs))) in
     let le : length (blocks_listed (arrays_in (take i descs))) ≤ length (blocks_listed (arrays_in descs)) = omega (arith, whole, both) in
@@ -284,3 +284,14 @@ scans_next n levels scans i on xs same on_at scan_at =
     let there : slice_get scans i ≡ Some (scans_of n on) = ap (λ (ss : List (List Scan)). slice_get ss i) same ∙ slice_get-map (scans_of n) levels i ∙ ap (option_map (scans_of n)) on_at in
     let both : Some xs ≡ Some (scans_of n on) = sym scan_at ∙ there in
     cc
+
+pub reads_few : (n m p q : ℕ) → ReadsAtMost n p q → n ≤ m → ReadsAtMost m p q
+reads_few n m p q r le = let b = r.bound in record { later = r.later; bound = omega (arith, b, le) }
+
+pub reads_thrice : (m n p q r : ℕ) → ReadsAtMost m p q → ReadsAtMost (2 * n) q r → m ≤ 33554432 → n ≤ 33554432 → ReadsAtMost 100663296 p r
+reads_thrice m n p q r first next few le =
+    let a = first.later in
+    let b = next.later in
+    let c = first.bound in
+    let d = next.bound in
+    record { later = omega (arith, a, b); bound = omega (arith, c, d, few, le) }

@@ -1,72 +1,77 @@
--- The verdict of a check.
-use Rattle.std.proofs.Common.{◌≡◌, ◌≢◌, ◌≤◌, ◌⊎◌, ◌∙◌, ℕ, List, [], ◌∷◌, Option, Some, None, Result, Ok, Err, inl, inr, refl, sym, ap, subst, arith}
-use Rattle.std.specs.Prelude.{slice_get, IsErrOf}
-use Rattle.def_crash.specs.Faults.{HasCause, Rose}
-use Rattle.def_crash.specs.Image.{Image}
-use Rattle.def_bytes.specs.Damage.{Read, and_then}
-use Rattle.def_recovery.specs.Head.{Head}
-use Rattle.def_recovery.specs.Opening.{recover, reads_as, opened, state_of}
-use Rattle.std.specs.Option.{option_and_then}
-use Rattle.def_state.specs.Breach.{Breach, breaches}
-use Rattle.def_state.specs.State.{State}
-use Rattle.def_check.specs.Checked.{checked, check_head}
-use Rattle.def_check.proofs.CheckedLemmas.{state_checked}
+-- The answer of a check.
+use Rattle.std.proofs.Common.{◌≡◌, ◌≢◌, ◌≤◌, ◌⊎◌, ℕ, inl, inr, List, [], ◌∷◌, Option, None, Some, Result, Ok, Err, IfOk, IsErrOf, refl, sym, ap, ◌∙◌, subst, arith}
+use Rattle.std.specs.List.{slice_get}
+use Rattle.std.specs.Option.{option_map}
 use Rattle.strat_base.specs.declared.failures.Trouble.{Trouble}
 use Rattle.strat_base.specs.declared.failures.Trouble.TheVariants as trouble
+use Rattle.def_bytes.specs.Damage.{Read, and_then}
+use Rattle.def_check.specs.Checked.{checked, check_head}
+use Rattle.def_check.proofs.CheckedLemmas.{state_checked}
+use Rattle.def_crash.specs.Faults.{Rose, HasCause}
+use Rattle.def_crash.specs.Image.{Image}
+use Rattle.def_crash.specs.Moments.{DiskView, Exposes}
+use Rattle.def_recovery.specs.Head.{Head}
+use Rattle.def_recovery.specs.Opening.{recover, state_of}
+use Rattle.def_state.specs.Breach.{Breach, breach, breaches}
+use Rattle.def_state.specs.State.{State}
 use Rattle.strat_open.specs.declared.attach_fault.AttachFault.{AttachFault}
-use Rattle.strat_open.specs.declared.attach_fault.AttachFault.TheVariants as attach
+use Rattle.strat_open.specs.declared.attach_fault.AttachFault.TheVariants as fault
+use Rattle.strat_check.specs.Places.{breach_of, place_of}
+use Rattle.strat_check.specs.Verdicts.{verdict_for, verdict_unread, verdict_told, IsRight, VerdictHasCause}
 use Rattle.strat_check.specs.declared.places.Broken.{Broken}
 use Rattle.strat_check.specs.declared.verdict.Verdict.{Verdict}
 use Rattle.strat_check.specs.declared.verdict.Verdict.TheVariants as verdict
-use Rattle.strat_check.specs.Places.{place_of}
-use Rattle.strat_check.specs.Verdicts.{verdict_for, verdict_unread, verdict_told, VerdictHasCause}
+use Rattle.strat_check.proofs.HeadLemmas.{read_as}
 
--- a verdict is the one for what a check finds, or memory or the device gave out
-abbrev IsFor : Image → Verdict → Type 0
-IsFor f v = (v ≡ verdict_for (checked f)) ⊎ (v ≡ verdict.NoMemory) ⊎ (v ≡ verdict.Device)
+-- where the store could not be read
 
--- what a check finds, by what recovery finds
-checked_by : (f : Image) (r : Read (Option Head)) → recover f ≡ r → checked f ≡ and_then r (check_head f)
-checked_by f r is = ap (λ (x : Read (Option Head)). and_then x (check_head f)) is
+pub fault_right : (disk : DiskView) (e : AttachFault) → (e ≡ fault.NotAStore → (f : Image) → Exposes disk f → recover f ≡ Ok None) → ((b : ℕ) → e ≡ fault.Damaged b → (f : Image) → Exposes disk f → recover f ≡ Err b)
+    → IsRight disk (verdict_unread e)
+fault_right disk fault.NotAStore none damaged = λ f exposed. inl (ap (λ (r : Read (Option Head)). verdict_for (and_then r (check_head f))) (sym (none refl f exposed)))
+fault_right disk fault.Device none damaged = λ f exposed. inr (inr refl)
+fault_right disk (fault.Damaged b) none damaged = λ f exposed. inl (ap (λ (r : Read (Option Head)). verdict_for (and_then r (check_head f))) (sym (damaged b refl f exposed)))
+fault_right disk fault.NoMemory none damaged = λ f exposed. inr (inl refl)
 
--- the verdict on a store that could not be read
-pub unread_is_right : (f : Image) (fault : AttachFault) → (fault ≡ attach.NotAStore → recover f ≡ Ok None)
-    → ((b : ℕ) → fault ≡ attach.Damaged b → recover f ≡ Err b) → IsFor f (verdict_unread fault)
-unread_is_right f attach.NotAStore none damaged = inl (sym (ap verdict_for (checked_by f (Ok None) (none refl))))
-unread_is_right f (attach.Damaged b) none damaged = inl (sym (ap verdict_for (checked_by f (Err b) (damaged b refl))))
-unread_is_right f attach.Device none damaged = inr (inr refl)
-unread_is_right f attach.NoMemory none damaged = inr (inl refl)
+pub fault_caused : {A : Type 0} (e : AttachFault) (before now : ℕ) → HasCause {T = A} fault.Device before now (Err e) → VerdictHasCause (verdict_unread e) before now
+fault_caused fault.NotAStore before now cause = record { later = cause.later; device = λ is. absurd (cc); other = λ no'. cause.other (λ is. absurd (cc)) }
+fault_caused fault.Device before now cause = record { later = cause.later; device = λ is. cause.device refl; other = λ no'. absurd (no' refl) }
+fault_caused (fault.Damaged b) before now cause = record { later = cause.later; device = λ is. absurd (cc); other = λ no'. cause.other (λ is. absurd (cc)) }
+fault_caused fault.NoMemory before now cause = record { later = cause.later; device = λ is. absurd (cc); other = λ no'. cause.other (λ is. absurd (cc)) }
 
--- the verdict for the first breach of a state
-first_breach : (broken : Option Broken) (found : List Breach) → place_of broken ≡ slice_get found 0 → verdict_told (Ok broken) ≡ verdict_for (Ok (Some found))
-first_breach None [] is = refl
-first_breach None (b ∷ found) is = absurd (let e : ◌≡◌ {A = Option Breach} None (Some b) = is in cc)
-first_breach (Some x) [] is = absurd (let e : ◌≡◌ {A = Option Breach} (place_of (Some x)) None = is in cc)
-first_breach (Some x) (b ∷ found) is =
-    let e : ◌≡◌ {A = Option Breach} (place_of (Some x)) (Some b) = is in
-    let rule : x.rule ≡ b.rule = cc in
-    let level : x.level ≡ b.level = cc in
-    let array : x.array ≡ b.array = cc in
-    ap (λ (n : ℕ). verdict.Unsound n x.level x.array) rule ∙ ap (λ (n : ℕ). verdict.Unsound b.rule n x.array) level ∙ ap (λ (n : ℕ). verdict.Unsound b.rule b.level n) array
+-- where it was read
 
--- a state that a store reads as
-read_as : (f : Image) (h : Head) (s : State) → recover f ≡ Ok (Some h) → state_of f h ≡ Some s → reads_as f ≡ Some s
-read_as f h s is state = ap (λ (r : Read (Option Head)). option_and_then (state_of f) (opened r)) is ∙ state
+told_for : (b : Option Broken) (found : List Breach) → place_of b ≡ slice_get found 0 → verdict_told (Ok b) ≡ verdict_for (Ok (Some found))
+told_for None [] same = refl
+told_for None (x ∷ found) same = absurd (cc)
+told_for (Some b) [] same = absurd (cc)
+told_for (Some b) (x ∷ found) same =
+    let is : breach_of b ≡ x = cc in
+    ap (λ (y : Breach). verdict.Unsound y.rule y.level y.array) is
 
--- the verdict on a store whose arrays were gone through
-pub told_is_right : (f : Image) (h : Head) (told : Result (Option Broken) Trouble) → recover f ≡ Ok (Some h)
-    → ((broken : Option Broken) → told ≡ Ok broken → (s : State) × (state_of f h ≡ Some s) × (place_of broken ≡ slice_get (breaches s) 0))
-    → ((b : ℕ) → told ≡ Err (trouble.Damaged b) → check_head f (Some h) ≡ Err b) → IsFor f (verdict_told told)
-told_is_right f h (Ok broken) is ok damaged =
-    let found = ok broken refl in
-    inl (first_breach broken (breaches found.0) found.2 ∙ sym (ap verdict_for (state_checked f found.0 (read_as f h found.0 is found.1))))
-told_is_right f h (Err trouble.NoMemory) is ok damaged = inr (inl refl)
-told_is_right f h (Err trouble.Device) is ok damaged = inr (inr refl)
-told_is_right f h (Err (trouble.Damaged b)) is ok damaged = inl (sym (ap verdict_for (checked_by f (Ok (Some h)) is ∙ damaged b refl)))
+pub told_right : (disk : DiskView) (h : Head) (r : Result (Option Broken) Trouble) → ((f : Image) → Exposes disk f → recover f ≡ Ok (Some h))
+    → IfOk r (λ b. (f : Image) → Exposes disk f → recover f ≡ Ok (Some h) → (s : State) × (state_of f h ≡ Some s) × (place_of b ≡ slice_get (breaches s) 0))
+    → ((b : ℕ) → IsErrOf r (trouble.Damaged b) → (f : Image) → Exposes disk f → recover f ≡ Ok (Some h) → check_head f (Some h) ≡ Err b) → IsRight disk (verdict_told r)
+told_right disk h (Ok b) found ok damaged = λ f exposed.
+    let at = ok f exposed (found f exposed) in
+    inl (told_for b (breaches at.0) at.2 ∙ ap verdict_for (sym (state_checked f at.0 (read_as f h at.0 (found f exposed) at.1))))
+told_right disk h (Err trouble.NoMemory) found ok damaged = λ f exposed. inr (inl refl)
+told_right disk h (Err trouble.Device) found ok damaged = λ f exposed. inr (inr refl)
+told_right disk h (Err (trouble.Damaged b)) found ok damaged = λ f exposed.
+    inl (ap verdict_for (sym (ap (λ (r : Read (Option Head)). and_then r (check_head f)) (found f exposed) ∙ damaged b refl f exposed (found f exposed))))
 
--- where the device counted no fault it is not blamed
-pub not_device : (f : Image) (v : Verdict) (before now : ℕ) → VerdictHasCause v before now → ¬ Rose before now → IsFor f v
-    → (v ≡ verdict_for (checked f)) ⊎ (v ≡ verdict.NoMemory)
-not_device f v before now cause calm (inl is) = inl is
-not_device f v before now cause calm (inr (inl is)) = inr is
-not_device f v before now cause calm (inr (inr is)) = absurd (calm (cause.device is))
+pub told_caused : (r : Result (Option Broken) Trouble) (before now : ℕ) → HasCause trouble.Device before now r → VerdictHasCause (verdict_told r) before now
+told_caused (Ok None) before now cause = record { later = cause.later; device = λ is. absurd (cc); other = λ no'. cause.ok }
+told_caused (Ok (Some b)) before now cause = record { later = cause.later; device = λ is. absurd (cc); other = λ no'. cause.ok }
+told_caused (Err trouble.NoMemory) before now cause = record { later = cause.later; device = λ is. absurd (cc); other = λ no'. cause.other (λ is. absurd (cc)) }
+told_caused (Err trouble.Device) before now cause = record { later = cause.later; device = λ is. cause.device refl; other = λ no'. absurd (no' refl) }
+told_caused (Err (trouble.Damaged b)) before now cause = record { later = cause.later; device = λ is. absurd (cc); other = λ no'. cause.other (λ is. absurd (cc)) }
+
+-- without a fault the answer is what a check finds, or memory ran out
+
+pub found_from : (disk : DiskView) (answer : Verdict) (before now : ℕ) → IsRight disk answer → VerdictHasCause answer before now → (Rose before now → ⊥)
+    → (f : Image) → Exposes disk f → (answer ≡ verdict_for (checked f)) ⊎ (answer ≡ verdict.NoMemory)
+found_from disk answer before now right cause calm f exposed =
+    elim (right f exposed) [
+      | inl is ↦ inl is
+      | inr other ↦ elim other [ inl short ↦ inr short | inr device ↦ absurd (calm (cause.device device)) ]
+    ]

@@ -25,7 +25,7 @@ use Rattle.def_state.specs.Sound.{has_ascending_entries, is_described}
 use Rattle.def_state.specs.State.{State, versions_of}
 use Rattle.strat_check.specs.ArrayCounts.{IsSightOf}
 use Rattle.strat_check.specs.ArrayNumbers.{IsToldFrom, IsArrayCounted, IsArrayTold}
-use Rattle.strat_check.specs.Places.{place_of, first_unless, array_list, first_array, after_array, NoArrayPlaces, KeepsArray}
+use Rattle.strat_check.specs.Places.{place_of, first_unless, array_list, first_array_breach, after_array, NoArrayPlaces, KeepsArray}
 use Rattle.strat_check.specs.Sightings.{Sightings}
 use Rattle.strat_check.specs.Walked.{scan_of, IsArrayLooked, AreArraysLooked, ArePlacesOf, leads_of_arrays, AreArraysTold}
 use Rattle.strat_check.specs.declared.strays.Strays.{Strays}
@@ -132,12 +132,12 @@ part_few f (y ∷ xs) x (inr there) = let cons = sum_by-cons f y xs in let rest 
 
 module _ (s : State) (on : Level) (before now : ArraysTold) (i : ℕ) (a : TaggedArray) (level id : ℕ) (one : ArrayTold) where
   place_grown : (rule : ℕ) (test : TaggedArray → Bool) (old new : Option Broken) (passes : Bool) → level ≡ on.number → id ≡ a.id → slice_get on.arrays i ≡ Some a
-      → place_of old ≡ first_array rule on.number test (take i on.arrays) → passes ≡ test a → place_of new ≡ after_array old passes rule level id
-      → place_of new ≡ first_array rule on.number test (take (i + 1) on.arrays)
+      → place_of old ≡ first_array_breach rule on.number test (take i on.arrays) → passes ≡ test a → place_of new ≡ after_array old passes rule level id
+      → place_of new ≡ first_array_breach rule on.number test (take (i + 1) on.arrays)
   place_grown rule test old new passes number same at was told is =
       is ∙ (λ j. option_or (was j) (first_unless (told j) (breach rule (number j) (same j))))
       ∙ sym (first_grown (λ (b : TaggedArray). breach_unless (test b) (breach rule on.number b.id)) (take i on.arrays) a)
-      ∙ ap (λ (xs : List TaggedArray). first_array rule on.number test xs) (sym (take_at on.arrays i a at))
+      ∙ ap (λ (xs : List TaggedArray). first_array_breach rule on.number test xs) (sym (take_at on.arrays i a at))
 
   pub arrays_more : level ≡ on.number → id ≡ a.id → slice_get on.arrays i ≡ Some a → AreArraysTold s on (take i on.arrays) before → IsArrayTold s on a one
       → KeepsArray before.places now.places level id one → now.leads ≡ min (before.leads + one.leads) (2 ^ 64 - 1) → AreArraysTold s on (take (i + 1) on.arrays) now

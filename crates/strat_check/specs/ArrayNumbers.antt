@@ -42,8 +42,8 @@ least_if [] = None
 least_if (n ∷ ns) = Some (least (n ∷ ns))
 
 -- the leads of a tag, in 64 bits
-abbrev pub leads_in : Sightings → List ℕ → ℕ
-leads_in mine tag = min (own_sum mine tag) (2 ^ 64 - 1)
+abbrev pub leads_told : Sightings → List ℕ → ℕ
+leads_told mine tag = min (own_sum mine tag) (2 ^ 64 - 1)
 
 -- what is told of an array from these numbers
 pub record IsToldFrom (desc : ArrayDesc) (scan : Scan) (strays : Strays) (mine leads : Sightings)
@@ -52,12 +52,12 @@ pub record IsToldFrom (desc : ArrayDesc) (scan : Scan) (strays : Strays) (mine l
       ≡ (not strays.is_live && list_all (sees_same mine leads) desc.versions)
   pub dense : told.is_dense ≡ list_all (sees_enough mine scan.entries) desc.versions
   pub led : told.is_led
-      ≡ nat_le scan.entries (min (leads_in mine desc.versions * 2) (2 ^ 64 - 1))
+      ≡ nat_le scan.entries (min (leads_told mine desc.versions * 2) (2 ^ 64 - 1))
   pub drawn : told.is_drawn ≡ (scan.is_within && not strays.has_any)
   pub described : told.is_described ≡ ((desc.entries == scan.entries)
-      && (desc.leads == leads_in mine desc.versions)
+      && (desc.leads == leads_told mine desc.versions)
       && (desc.least == least (map (λ v. slice_index mine.seen v) desc.versions)))
-  pub leads_are : told.leads ≡ leads_in mine desc.versions
+  pub leads_are : told.leads ≡ leads_told mine desc.versions
 
 -- the level of a state of which an array and its leads were counted, and what was
 pub record IsLevelSeen (s : State) (on : Level) (groups : List (List Entry)) (leads : Sightings)
@@ -81,7 +81,8 @@ pub record IsArrayCounted (s : State) (on : Level) (a : TaggedArray) (groups : L
   pub scanned : scan.entries ≡ length a.content
   pub within : scan.is_within ≡ have_low_versions (length (versions_of s)) a.content
   pub few : length a.content ≤ 2 ^ 48
-  pub strayed : AreStraysOf (versions_of s) (length (versions_of s)) (grouped_entries groups) a strays
+  pub strayed : AreStraysOf (versions_of s) (length (versions_of s)) (grouped_entries groups) a
+      strays
   pub counted : IsSightOf (versions_of s) a.content mine
   pub size : length mine.own ≡ length (versions_of s)
 

@@ -15,9 +15,9 @@ first_from parents c v =
     (length parents)
 
 -- the lesser of a number and the least child of a version
-abbrev pub lowered : List ℕ → ℕ → ℕ → ℕ
-lowered first n v = min (slice_index_or first v n) n
+abbrev pub lowered_to_child : List ℕ → ℕ → ℕ → ℕ
+lowered_to_child first n v = min (slice_index_or first v n) n
 
 -- the same, where the version has entries of its own
 abbrev pub lowered_by_own : List ℕ → List ℕ → ℕ → ℕ → ℕ
-lowered_by_own own first n v = if slice_index own v == 0 then n else lowered first n v
+lowered_by_own own first n v = if slice_index own v == 0 then n else lowered_to_child first n v

@@ -21,13 +21,14 @@ is_fit_level versions level =
     && list_all (is_fit_array level.horizon) level.arrays
 
 -- how many blocks the arrays of levels have
-abbrev pub blocks_in : List LevelDesc → ℕ
-blocks_in levels = sum_by (λ level. sum_by (λ a. sum_by (λ x. x.len) a.extents) level.arrays) levels
+abbrev pub blocks_of_levels : List LevelDesc → ℕ
+blocks_of_levels levels =
+    sum_by (λ level. sum_by (λ a. sum_by (λ x. x.len) a.extents) level.arrays) levels
 
 -- the passes may go over the arrays of these levels, in a store of so many versions
 abbrev pub are_fit : ℕ → List LevelDesc → Bool
 are_fit versions levels =
-    list_all (is_fit_level versions) levels && nat_le (blocks_in levels) 33554432
+    list_all (is_fit_level versions) levels && nat_le (blocks_of_levels levels) 33554432
 
 -- a level has a number, a horizon within so many versions, few arrays, and these have versions below the horizon
 pub record IsFitLevel (versions : ℕ) (level : LevelDesc) : Type 0 where

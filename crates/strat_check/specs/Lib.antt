@@ -19,5 +19,5 @@ pub mod StoreScans
 pub mod StrayGroups
 pub mod Strays
 pub mod Sums
-pub mod Walked
 pub mod Verdicts
+pub mod Walked

@@ -27,8 +27,8 @@ array_list rule level test arrays =
     flat_map (λ a. breach_unless (test a) (breach rule level a.id)) arrays
 
 -- the first breach of a rule in some arrays of a level
-abbrev pub first_array : ℕ → ℕ → (TaggedArray → Bool) → List TaggedArray → Option Breach
-first_array rule level test arrays = slice_get (array_list rule level test arrays) 0
+abbrev pub first_array_breach : ℕ → ℕ → (TaggedArray → Bool) → List TaggedArray → Option Breach
+first_array_breach rule level test arrays = slice_get (array_list rule level test arrays) 0
 
 -- the first breach of a rule of arrays in some levels
 abbrev pub first_in_arrays : ℕ → (Level → TaggedArray → Bool) → List Level → Option Breach

@@ -8,7 +8,7 @@ use Rattle.def_state.specs.Level.{TaggedArray, Level, own_leads, level_leads, ha
 use Rattle.def_state.specs.Sound.{has_child_below, has_room, has_old_horizon, is_above_frozen, is_described, IsWellFormed}
 use Rattle.def_state.specs.State.{State, versions_of, is_living, journal_updates}
 use Rattle.strat_check.specs.ArrayNumbers.{IsLevelSeen}
-use Rattle.strat_check.specs.Places.{place_of, first_array, first_in_arrays, first_in_levels}
+use Rattle.strat_check.specs.Places.{place_of, first_array_breach, first_in_arrays, first_in_levels}
 use Rattle.strat_check.specs.Scanned.{have_low_versions}
 use Rattle.strat_check.specs.Sightings.{Sightings}
 use Rattle.strat_check.specs.Strays.{AreStraysOf}
@@ -37,7 +37,8 @@ pub record IsArrayLooked (s : State) (on : Level) (a : TaggedArray) (groups : Li
   pub here : Contains on.arrays a
   pub scanned : scan ≡ scan_of (length (versions_of s)) a
   pub few : length a.content ≤ 2 ^ 48
-  pub strayed : AreStraysOf (versions_of s) (length (versions_of s)) (grouped_entries groups) a strays
+  pub strayed : AreStraysOf (versions_of s) (length (versions_of s)) (grouped_entries groups) a
+      strays
 
 -- all arrays of a level of a state were
 pub record AreArraysLooked (s : State) (on : Level) (groups : List (List Entry))
@@ -53,11 +54,11 @@ pub record AreArraysLooked (s : State) (on : Level) (groups : List (List Entry))
 pub record ArePlacesOf (s : State) (on : Level) (arrays : List TaggedArray) (p : ArrayPlaces)
     : Type 0 where
   pub agreeing : place_of p.agreeing
-      ≡ first_array 99 on.number (agrees (versions_of s) on) arrays
-  pub dense : place_of p.dense ≡ first_array 100 on.number (is_dense (versions_of s)) arrays
-  pub led : place_of p.led ≡ first_array 101 on.number is_led arrays
-  pub drawn : place_of p.drawn ≡ first_array 102 on.number (is_drawn on) arrays
-  pub described : place_of p.described ≡ first_array 107 on.number (is_described s) arrays
+      ≡ first_array_breach 99 on.number (agrees (versions_of s) on) arrays
+  pub dense : place_of p.dense ≡ first_array_breach 100 on.number (is_dense (versions_of s)) arrays
+  pub led : place_of p.led ≡ first_array_breach 101 on.number is_led arrays
+  pub drawn : place_of p.drawn ≡ first_array_breach 102 on.number (is_drawn on) arrays
+  pub described : place_of p.described ≡ first_array_breach 107 on.number (is_described s) arrays
 
 -- the leads of some arrays
 abbrev pub leads_of_arrays : List TaggedArray → ℕ

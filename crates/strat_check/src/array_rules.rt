@@ -5,10 +5,10 @@ ghost use Rattle.std.specs.Prelude.{◌≡◌, ◌<◌, ◌-◌, ◌*◌, ◌^�
 ghost use Rattle.def_state.specs.Level.{least};
 ghost use Rattle.strat_check.specs.ArrayNumbers.{own_sum, sees_same, sees_enough, lesser_of, IsToldFrom};
 
-use crate::strays::Strays;
 use crate::places::ArrayTold;
 use crate::scan::Scan;
 use crate::sights::Sights;
+use crate::strays::Strays;
 use strat_base::{ArrayDesc, Version};
 
 /// How many entries the versions of a tag have of their own, or 2^64 - 1 where there are more. O(tag).

@@ -4,7 +4,7 @@
 ghost use Rattle.std.specs.List.{fold, range_with_len};
 ghost use Rattle.std.specs.Prelude.{◌≡◌, ◌<◌, ◌≤◌, ◌-◌, ℕ, length, min, slice_index_or, IfOk};
 ghost use Rattle.strat_base.specs.Tree.{IsTree};
-ghost use Rattle.strat_check.specs.Children.{first_from, lowered, lowered_by_own};
+ghost use Rattle.strat_check.specs.Children.{first_from, lowered_to_child, lowered_by_own};
 
 use crate::sights::Sights;
 use std::alloc::Global;
@@ -48,7 +48,7 @@ pub fn first_children(alloc: Global, tree: &Tree) -> Result<Vec<u32>, NoMemory>
 
 /// The lesser of a number and the least child of a version. O(1).
 fn lower(lowest: u32, first: &[u32], v: Version) -> u32
-    ensures ok { result ≡ lowered first.now lowest v }
+    ensures ok { result ≡ lowered_to_child first.now lowest v }
 {
     match first.get(v as usize) {
         Some(child) if *child < lowest => *child,
@@ -59,7 +59,7 @@ fn lower(lowest: u32, first: &[u32], v: Version) -> u32
 /// The least of a number and the least children of the versions of items. O(items).
 pub fn lower_by_items(lowest: u32, first: &[u32], items: &[Item]) -> u32
     ensures ok { result
-        ≡ fold (λ n item. lowered first.now n item.version) lowest items.now }
+        ≡ fold (λ n item. lowered_to_child first.now n item.version) lowest items.now }
 {
     let mut least = lowest;
     for item in items {

@@ -3,7 +3,7 @@
 
 ghost use Rattle.std.specs.List.{flat_map, list_all, sum_by};
 ghost use Rattle.std.specs.Prelude.{◌≡◌, ◌-◌, ◌^◌, ◌&&◌, nat_lt, nat_le, min, length};
-ghost use Rattle.strat_check.specs.Fit.{ends_within, is_fit_array, is_fit_level, blocks_in, are_fit};
+ghost use Rattle.strat_check.specs.Fit.{ends_within, is_fit_array, is_fit_level, blocks_of_levels, are_fit};
 
 use strat_base::{ArrayDesc, Extent, LevelDesc, Version};
 
@@ -100,7 +100,8 @@ fn count_extents(extents: &[Extent]) -> u64
 
 /// How many blocks arrays have, or 2^64 - 1 where they are more. O(extents).
 fn count_arrays(arrays: &[ArrayDesc]) -> u64
-    ensures ok { result ≡ min (sum_by (λ a. sum_by (λ x. x.len) a.extents) arrays.now) (2 ^ 64 - 1) }
+    ensures ok { result
+        ≡ min (sum_by (λ a. sum_by (λ x. x.len) a.extents) arrays.now) (2 ^ 64 - 1) }
 {
     let mut blocks = 0u64;
     for array in arrays {
@@ -111,7 +112,7 @@ fn count_arrays(arrays: &[ArrayDesc]) -> u64
 
 /// How many blocks the arrays of levels have, or 2^64 - 1 where they are more. O(extents).
 fn count_levels(levels: &[LevelDesc]) -> u64
-    ensures ok { result ≡ min (blocks_in levels.now) (2 ^ 64 - 1) }
+    ensures ok { result ≡ min (blocks_of_levels levels.now) (2 ^ 64 - 1) }
 {
     let mut blocks = 0u64;
     for level in levels {

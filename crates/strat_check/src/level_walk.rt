@@ -87,7 +87,8 @@ impl Findings {
     /// What was found with one more level. O(1).
     fn with(self, level: &LevelDesc, told: LevelTold, arrays: ArraysTold, lowest: u32) -> Findings
         ensures ok { KeepsLevel self.places result.places level.now.number told arrays.places }
-        ensures found { (result.lowest ≡ lowest) × (result.horizon ≡ min self.horizon level.now.horizon) }
+        ensures found { (result.lowest ≡ lowest)
+            × (result.horizon ≡ min self.horizon level.now.horizon) }
         ensures len { result.leads ≡ min (self.leads + arrays.leads) (2 ^ 64 - 1) }
     {
         Findings {
@@ -216,7 +217,7 @@ pub fn tell_level<D: Disk>(
         → AreFirstChildren s tables.old.first.items → level_on f level.now ≡ Some on
         → IsNextLevel s done rest on scans.now → IsFound s done before
         → IsFound s (done ++ on ∷ []) after) }
-    ensures len { HaveRoomFor tree.now.parents tables.new }
+    ensures room { HaveRoomFor tree.now.parents tables.new }
     ensures kept { tables.new.first ≡ tables.old.first }
     ensures damaged { (b : ℕ) → IsErrOf result (trouble.Damaged b) → (f : Image)
         → Exposes (D.view disk.old) f → IsBadInput f level.now.arrays b }

@@ -60,13 +60,7 @@ pub fn kept(place: Option<Broken>, passes: bool, broken: Broken) -> Option<Broke
 {
     match place {
         Some(earlier) => Some(earlier),
-        None => {
-            if passes {
-                None
-            } else {
-                Some(broken)
-            }
-        }
+        None => { if passes { None } else { Some(broken) } }
     }
 }
 
@@ -103,10 +97,13 @@ impl ArrayPlaces {
             dense: kept(self.dense, told.is_dense, broken_by(b'd', level, array)),
             led: kept(self.led, told.is_led, broken_by(b'e', level, array)),
             drawn: kept(self.drawn, told.is_drawn, broken_by(b'f', level, array)),
-            described: kept(self.described, told.is_described, broken_by(b'k', level, array)),
+            described: kept(
+                self.described,
+                told.is_described,
+                broken_by(b'k', level, array),
+            ),
         }
     }
-
 
     /// These places, and behind them those of a later level. O(1).
     pub fn and(self, later: ArrayPlaces) -> ArrayPlaces

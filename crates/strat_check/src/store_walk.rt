@@ -93,7 +93,8 @@ impl StoreScans {
 
     /// One more level, scanned behind these. The only error is want of memory. O(1) on average.
     fn add(&mut self, next: LevelScans) -> Result<(), NoMemory>
-        ensures ok { OnOk result (self.new.levels.items ≡ self.old.levels.items ++ next.scans ∷ []) }
+        ensures ok { OnOk result
+            (self.new.levels.items ≡ self.old.levels.items ++ next.scans ∷ []) }
         ensures found { OnOk result (self.new.unordered ≡ next.unordered) }
     {
         self.unordered = next.unordered;
@@ -143,7 +144,7 @@ fn scan_levels<D: Disk>(
     requires fits { (a : ArrayDesc) → Contains (arrays_in levels.now) a → AreWithin a.extents }
     ensures ok { IfOk result (λ r. (f : Image) → Exposes (D.view disk.old) f
         → AreScannedLevels f versions levels.now r) }
-    ensures len { IfOk result (λ r. HaveScans levels.now r.levels.items) }
+    ensures kept { IfOk result (λ r. HaveScans levels.now r.levels.items) }
     ensures damaged { (b : ℕ) → IsErrOf result (trouble.Damaged b) → (f : Image)
         → Exposes (D.view disk.old) f
         → find (is_unread f) (blocks_listed (arrays_in levels.now)) ≡ Some b }
@@ -166,7 +167,7 @@ fn begin(alloc: Global, store: &Reading) -> Result<(Tables, Findings), NoMemory>
     ensures ok { IfOk result (λ r. (f : Image) (s : State) → state_of f store.now ≡ Some s
         → recover f ≡ Ok (Some store.now)
         → AreFirstChildren s r.0.first.items × IsFound s [] r.1) }
-    ensures len { IfOk result (λ r. HaveRoomFor (head_versions store.now) r.0) }
+    ensures room { IfOk result (λ r. HaveRoomFor (head_versions store.now) r.0) }
 {
     let tree = store.tree();
     let first = first_children(alloc, tree)?;
@@ -180,7 +181,14 @@ fn begin(alloc: Global, store: &Reading) -> Result<(Tables, Findings), NoMemory>
         horizon: tree.count(),
         leads: 0,
     };
-    Ok((Tables { leads, array, first }, found))
+    Ok((
+        Tables {
+            leads,
+            array,
+            first,
+        },
+        found,
+    ))
 }
 
 /// Tells the rules of all levels: two reads of each block of their arrays. Errors as of `tell_level`.

@@ -21,7 +21,7 @@ pub struct Strays {
 /// Nothing was found of so many arrays.
 pub(crate) fn no_strays(alloc: Global, arrays: usize) -> Result<Vec<Strays>, NoMemory>
     ensures len { IfOk result (λ found. length found.items ≡ arrays) }
-    ensures state { IfOk result (λ found. AreAllAsked found.items) }
+    ensures kept { IfOk result (λ found. AreAllAsked found.items) }
     ensures ok { IfOk result (λ found. (i : ℕ) → ((strays_at found.items i).has_any ≡ false)
         × ((strays_at found.items i).is_live ≡ false)) }
 {

@@ -9,7 +9,7 @@ use Rattle.strat_base.specs.Tree.{Parents, IsTree}
 use Rattle.def_recovery.proofs.HeadLemmas.{counts_said}
 use Rattle.def_state.specs.Setting.{set_all}
 use Rattle.def_state.specs.State.{versions_of, update_of}
-use Rattle.strat_check.specs.Children.{lowered}
+use Rattle.strat_check.specs.Children.{lowered_to_child}
 use Rattle.strat_check.proofs.BeginLemmas.{children_from, found_none}
 use Rattle.strat_check.proofs.HeadLemmas.{parts_of, living}
 use Rattle.strat_check.proofs.store_walk.begin.Goals as goal
@@ -25,6 +25,6 @@ returns-clause-ok c = λ f s made found.
     ap (entries_of pairs) c.items.ensures.ok ∙ c.zero.ensures.ok ∙ ap (λ (j : List Change). set_all (filter_map update_of j)) (sym (parts_of f c.args.store.now s made).3) in (
       children,
       found_none s c.in_ok-first.first.items pairs c.items.result.now _ children tree (living f c.args.store.now s found made) held
-          (c.lower_by_items-lowest.ensures.ok ∙ (λ i. fold (λ n' (item : Item). lowered (c.deref.ensures.value i) n' item.version) ((c.count.ensures.ok ∙ n) i) c.items.result.now))
+          (c.lower_by_items-lowest.ensures.ok ∙ (λ i. fold (λ n' (item : Item). lowered_to_child (c.deref.ensures.value i) n' item.version) ((c.count.ensures.ok ∙ n) i) c.items.result.now))
           (c.count-4.ensures.ok ∙ n) refl c.new-3.ensures.ok,
     )

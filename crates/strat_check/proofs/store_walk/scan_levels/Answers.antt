@@ -68,8 +68,8 @@ pub returns-clause-ok : goal.returns-clause-ok
 returns-clause-ok g c = λ f exposed.
     subst (λ (xs : List LevelDesc). AreScannedLevels f c.args.versions xs c.loop-i.found) (take_all c.loop-i.i c.args.levels.now (omega (arith, c.loop-i-test.false))) (c.loop-i.invariant.scanned f exposed)
 
-pub returns-clause-len : goal.returns-clause-len
-returns-clause-len g c = subst (λ (xs : List LevelDesc). HaveScans xs c.loop-i.found.levels.items) (take_all c.loop-i.i c.args.levels.now (omega (arith, c.loop-i-test.false))) c.loop-i.invariant.len
+pub returns-clause-kept : goal.returns-clause-kept
+returns-clause-kept g c = subst (λ (xs : List LevelDesc). HaveScans xs c.loop-i.found.levels.items) (take_all c.loop-i.i c.args.levels.now (omega (arith, c.loop-i-test.false))) c.loop-i.invariant.len
 
 pub returns-clause-reads : goal.returns-clause-reads
 returns-clause-reads g c = reads_one _ _ _ (reads_all c.args.levels.now c.loop-i.i 1 _ _ c.loop-i.invariant.reads)

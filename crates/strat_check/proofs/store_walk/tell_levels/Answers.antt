@@ -72,7 +72,7 @@ loop-i-preserved g c =
           (subst (λ (xs : List ℕ). AreFirstChildren s xs) (ap (λ (v : Vec ℕ). v.items) (sym inv.first)) children) on.2
           (record { may = may; split = parted s.levels c.loop-i.i on.0 on.1; scanned = c.as_slice.ensures.ok ∙ scans_next (length (versions_of s)) s.levels c.args.scans.now c.loop-i.i on.0 c.index-scans-i.result scanned on.1 scan_at })
           (inv.told f s exposed same mem_is children on_disk may scanned begun));
-      room = c.tell_level.ensures.len;
+      room = c.tell_level.ensures.room;
       first = c.tell_level.ensures.kept ∙ inv.first;
       same = reads_trans inv.same c.tell_level.ensures.same;
       faults = c.in_ok-found.ensures.cause.ok ∙ inv.faults;
