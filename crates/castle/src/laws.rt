@@ -1,7 +1,7 @@
 //! What the program's other runs come to: those that format, report and carry out a workload. Each law is the contract of
 //! a function that does nothing.
 
-ghost use Rattle.std.specs.Prelude.{◌≡◌, ◌≢◌, ◌≤◌, ◌⊎◌, ℕ, List, [], ◌∷◌, length, take, Ok, Err, None, Some, Contains, codes};
+ghost use Rattle.std.specs.Prelude.{◌≡◌, ◌≢◌, ◌≤◌, ◌<◌, ◌⊎◌, ℕ, List, [], ◌∷◌, length, take, Ok, Err, None, Some, Contains, codes};
 ghost use Rattle.def_crash.specs.Faults.{Rose};
 ghost use Rattle.def_crash.specs.Image.{Image};
 ghost use Rattle.def_crash.specs.Moments.{Exposes, Images, Since};
@@ -145,7 +145,8 @@ pub fn a_checking_run_says_what_the_state_breaks<D: Viewed>()
     ensures sink { (path : List ℕ) (status : ℕ) (x y : Streams) (d e : D) (f : Image)
         → Runs (Some (Check path)) 1099511627776 status (beside x (D.view d)) (beside y (D.view e))
         → Exposes (D.view d) f → status ≡ 7
-        → AppendsFront x.held y.held (check_text (checked f)) }
+        → (n : ℕ) × (n < length (check_text (checked f)))
+        × Appends x.held y.held (take n (check_text (checked f))) }
     ensures same { (path : List ℕ) (status : ℕ) (x y : Streams) (d e : D)
         → Runs (Some (Check path)) 1099511627776 status (beside x (D.view d)) (beside y (D.view e))
         → ((D.view e).content ≡ (D.view d).content)

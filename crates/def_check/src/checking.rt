@@ -1,6 +1,6 @@
 //! Laws of what a check finds. Each is the contract of a function that does nothing.
 
-ghost use Rattle.std.specs.Prelude.{◌≡◌, ◌↔◌, ◌⊎◌, ℕ, List, [], ◌∷◌, Some, None, Ok, Err, IsTrue};
+ghost use Rattle.std.specs.Prelude.{◌≡◌, ◌≢◌, ◌↔◌, ◌⊎◌, ℕ, List, [], ◌∷◌, Some, None, Ok, Err, IsTrue};
 ghost use Rattle.std.specs.List.{Contains};
 ghost use Rattle.strat_base.specs.declared.descriptors.ArrayDesc.{ArrayDesc};
 ghost use Rattle.def_crash.specs.Image.{Image};
@@ -30,6 +30,13 @@ pub fn a_check_blames_a_bad_block()
     ensures { (c : Image) (b : ℕ) → checked c ≡ Err b → (recover c ≡ Err b)
         ⊎ ((h : Head) × (recover c ≡ Ok (Some h))
         × ((a : ArrayDesc) × Contains (descriptors h.manifest) a × IsUnread c a b)) }
+{}
+
+/// Three rules are never the first that a check names: recovery refuses a store whose tags meet; leads are single where that
+/// rule and the order of entries are kept; and where descriptors are right recovery has tested that there are few leads.
+pub fn three_rules_are_never_named()
+    ensures { (c : Image) (b : Breach) (later : List Breach) → checked c ≡ Ok (Some (b ∷ later))
+        → (b.rule ≢ 97) × (b.rule ≢ 103) × (b.rule ≢ 108) }
 {}
 
 /// A disk that was just formatted and one after a checkpoint are sound; a disk of zeros is no store; a descriptor that lies breaks
