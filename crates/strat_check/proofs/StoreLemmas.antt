@@ -287,10 +287,10 @@ scans_next n levels scans i on xs same on_at scan_at =
 pub reads_few : (n m p q : ℕ) → ReadsAtMost n p q → n ≤ m → ReadsAtMost m p q
 reads_few n m p q r le = let b = r.bound in record { later = r.later; bound = omega (arith, b, le) }
 
-pub reads_thrice : (m n p q r : ℕ) → ReadsAtMost m p q → ReadsAtMost (2 * n) q r → m ≤ 33554432 → n ≤ 33554432 → ReadsAtMost 100663296 p r
-reads_thrice m n p q r first next few le =
+pub reads_thrice : (m n p q r : ℕ) → ReadsAtMost m p q → ReadsAtMost (2 * n) q r → m ≡ n → ReadsAtMost (3 * n) p r
+reads_thrice m n p q r first next same =
     let a = first.later in
     let b = next.later in
     let c = first.bound in
     let d = next.bound in
-    record { later = omega (arith, a, b); bound = omega (arith, c, d, few, le) }
+    record { later = omega (arith, a, b); bound = omega (arith, c, d, same) }

@@ -1,12 +1,14 @@
 -- The answer of a check.
-use Rattle.std.proofs.Common.{◌≡◌, ◌⊎◌, ℕ, inl, inr, List, [], ◌∷◌, Option, None, Some, Result, Ok, Err, IfOk, IsErrOf, refl, sym, ap, ◌∙◌}
+use Rattle.std.proofs.Common.{◌≡◌, ◌≢◌, ◌+◌, ◌*◌, ◌⊎◌, ℕ, length, inl, inr, List, [], ◌∷◌, Option, None, Some, Result, Ok, Err, IfOk, IsErrOf, refl, sym, ap, ◌∙◌, subst, arith}
 use Rattle.std.specs.List.{slice_get}
 use Rattle.strat_base.specs.declared.failures.Trouble.{Trouble}
 use Rattle.strat_base.specs.declared.failures.Trouble.TheVariants as trouble
 use Rattle.def_bytes.specs.Damage.{Read, and_then}
-use Rattle.def_check.specs.Checked.{checked, check_head}
+use Rattle.def_bytes.specs.Chain.{chain_length}
+use Rattle.def_bytes.specs.Layout.{region_blocks}
+use Rattle.def_check.specs.Checked.{checked, check_head, listed_blocks}
 use Rattle.def_check.proofs.CheckedLemmas.{state_checked}
-use Rattle.def_crash.specs.Faults.{Rose, HasCause}
+use Rattle.def_crash.specs.Faults.{Rose, HasCause, ReadsAtMost}
 use Rattle.def_crash.specs.Image.{Image}
 use Rattle.def_crash.specs.Moments.{DiskView, Exposes}
 use Rattle.def_recovery.specs.Head.{Head}
@@ -16,7 +18,7 @@ use Rattle.def_state.specs.State.{State}
 use Rattle.strat_open.specs.declared.attach_fault.AttachFault.{AttachFault}
 use Rattle.strat_open.specs.declared.attach_fault.AttachFault.TheVariants as fault
 use Rattle.strat_check.specs.Places.{breach_of, place_of}
-use Rattle.strat_check.specs.Verdicts.{verdict_for, verdict_unread, verdict_told, IsRight, VerdictHasCause}
+use Rattle.strat_check.specs.Verdicts.{verdict_for, verdict_unread, verdict_told, reads_of_check, IsRight, VerdictHasCause}
 use Rattle.strat_check.specs.declared.places.Broken.{Broken}
 use Rattle.strat_check.specs.declared.verdict.Verdict.{Verdict}
 use Rattle.strat_check.specs.declared.verdict.Verdict.TheVariants as verdict
@@ -74,3 +76,27 @@ found_from disk answer before now right cause calm f exposed =
       | inl is ↦ inl is
       | inr other ↦ elim other [ inl short ↦ inr short | inr device ↦ absurd (calm (cause.device device)) ]
     ]
+
+-- how often a check read that told something of a store
+
+pub reads_both : (m n p q r : ℕ) → ReadsAtMost m p q → ReadsAtMost n q r → ReadsAtMost (m + n) p r
+reads_both m n p q r first next =
+    let a = first.later in
+    let b = next.later in
+    let c = first.bound in
+    let d = next.bound in
+    record { later = omega (arith, a, b); bound = omega (arith, c, d) }
+
+pub unread_tells : (disk : DiskView) (e : AttachFault) → (e ≡ fault.NotAStore → (f : Image) → Exposes disk f → recover f ≡ Ok None) → ((b : ℕ) → e ≡ fault.Damaged b → (f : Image) → Exposes disk f → recover f ≡ Err b)
+    → (f : Image) (h : Head) → Exposes disk f → recover f ≡ Ok (Some h) → verdict_unread e ≢ verdict.NoMemory → verdict_unread e ≢ verdict.Device → ⊥
+unread_tells disk fault.NotAStore none damaged f h exposed found memory device = let both : ◌≡◌ {A = Read (Option Head)} (Ok None) (Ok (Some h)) = sym (none refl f exposed) ∙ found in cc
+unread_tells disk fault.Device none damaged f h exposed found memory device = device refl
+unread_tells disk (fault.Damaged b) none damaged f h exposed found memory device = let both : ◌≡◌ {A = Read (Option Head)} (Err b) (Ok (Some h)) = sym (damaged b refl f exposed) ∙ found in cc
+unread_tells disk fault.NoMemory none damaged f h exposed found memory device = memory refl
+
+pub reads_of_store : (f : Image) (h k : Head) (p q r : ℕ) → recover f ≡ Ok (Some k) → recover f ≡ Ok (Some h) → ReadsAtMost (chain_length k.sb.length + region_blocks k.sb.mem + 3) p q → ReadsAtMost (3 * length (listed_blocks k.manifest)) q r
+    → ReadsAtMost (reads_of_check h) p r
+reads_of_store f h k p q r read found first next =
+    let both : ◌≡◌ {A = Read (Option Head)} (Ok (Some k)) (Ok (Some h)) = sym read ∙ found in
+    let same : k ≡ h = cc in
+    subst (λ (x : Head). ReadsAtMost (reads_of_check x) p r) same (reads_both _ _ p q r first next)

@@ -1,11 +1,14 @@
 -- What a check answers.
-use Rattle.std.specs.Prelude.{◌≡◌, ◌≢◌, ◌≤◌, ◌⊎◌, ℕ, List, [], ◌∷◌, Option, Some, None, Result, Ok, Err}
+use Rattle.std.specs.Prelude.{◌≡◌, ◌≢◌, ◌≤◌, ◌⊎◌, ℕ, ◌+◌, ◌*◌, List, [], ◌∷◌, length, Option, Some, None, Result, Ok, Err}
 use Rattle.def_crash.specs.Faults.{Rose}
 use Rattle.def_crash.specs.Image.{Image}
 use Rattle.def_crash.specs.Moments.{DiskView, Exposes}
+use Rattle.def_bytes.specs.Chain.{chain_length}
 use Rattle.def_bytes.specs.Damage.{Read}
+use Rattle.def_bytes.specs.Layout.{region_blocks}
 use Rattle.def_state.specs.Breach.{Breach}
-use Rattle.def_check.specs.Checked.{checked}
+use Rattle.def_check.specs.Checked.{checked, listed_blocks}
+use Rattle.def_recovery.specs.Head.{Head}
 use Rattle.strat_base.specs.declared.failures.Trouble.{Trouble}
 use Rattle.strat_base.specs.declared.failures.Trouble.TheVariants as trouble
 use Rattle.strat_open.specs.declared.attach_fault.AttachFault.{AttachFault}
@@ -46,3 +49,8 @@ pub record VerdictHasCause (answer : Verdict) (before now : ℕ) : Type 0 where
   pub later : before ≤ now
   pub device : answer ≡ verdict.Device → Rose before now
   pub other : answer ≢ verdict.Device → now ≡ before
+
+-- how often a check of a store reads at most: what recovery reads, and each block of an array three times
+abbrev pub reads_of_check : Head → ℕ
+reads_of_check h =
+    chain_length h.sb.length + region_blocks h.sb.mem + 3 + 3 * length (listed_blocks h.manifest)

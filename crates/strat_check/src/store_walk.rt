@@ -304,7 +304,9 @@ pub fn check_store<D: Disk>(
         → check_head f (Some store.now) ≡ Err b }
     ensures same { OnlyReads (D.view disk.old) (D.view disk.new) }
     ensures cause { HasCause trouble.Device (D.faults disk.old) (D.faults disk.new) result }
-    ensures reads { ReadsAtMost 100663296 (D.reads disk.old) (D.reads disk.new) }
+    ensures reads { ReadsAtMost 100663296 (D.reads disk.old) (D.reads disk.new)
+        × ReadsAtMost (3 * length (blocks_listed (descriptors store.now.manifest)))
+        (D.reads disk.old) (D.reads disk.new) }
 {
     let levels = store.manifest().levels.as_slice();
     if !are_fit(levels, store.versions()) {

@@ -1,11 +1,13 @@
 //! What a check answers.
 
-ghost use Rattle.std.specs.Prelude.{◌≡◌, ◌⊎◌};
+ghost use Rattle.std.specs.Prelude.{◌≡◌, ◌≢◌, ◌⊎◌, Ok, Some};
 ghost use Rattle.def_crash.specs.Faults.{ReadsAtMost, Rose};
 ghost use Rattle.def_crash.specs.Image.{Image};
 ghost use Rattle.def_crash.specs.Moments.{Exposes, OnlyReads};
 ghost use Rattle.def_check.specs.Checked.{checked};
-ghost use Rattle.strat_check.specs.Verdicts.{verdict_for, verdict_unread, verdict_told, IsRight, VerdictHasCause};
+ghost use Rattle.def_recovery.specs.Head.{Head};
+ghost use Rattle.def_recovery.specs.Opening.{recover};
+ghost use Rattle.strat_check.specs.Verdicts.{verdict_for, verdict_unread, verdict_told, reads_of_check, IsRight, VerdictHasCause};
 ghost use Rattle.strat_check.specs.declared.verdict.Verdict.TheVariants as verdict;
 
 use crate::places::Broken;
@@ -74,7 +76,10 @@ pub fn check<D: Disk>(alloc: Global, disk: &mut D) -> Verdict
         → (result ≡ verdict_for (checked f)) ⊎ (result ≡ verdict.NoMemory) }
     ensures same { OnlyReads (D.view disk.old) (D.view disk.new) }
     ensures cause { VerdictHasCause result (D.faults disk.old) (D.faults disk.new) }
-    ensures reads { ReadsAtMost 101715479 (D.reads disk.old) (D.reads disk.new) }
+    ensures reads { ReadsAtMost 101715479 (D.reads disk.old) (D.reads disk.new)
+        × ((f : Image) (h : Head) → Exposes (D.view disk.old) f → recover f ≡ Ok (Some h)
+        → result ≢ verdict.NoMemory → result ≢ verdict.Device
+        → ReadsAtMost (reads_of_check h) (D.reads disk.old) (D.reads disk.new)) }
 {
     let store = match read_store(alloc, disk) {
         Ok(store) => store,

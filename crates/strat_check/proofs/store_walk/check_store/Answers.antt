@@ -56,11 +56,17 @@ returns-in_err-scanned-clause-damaged g c = λ b torn f exposed found.
 
 pub returns-in_err-scanned-clause-reads : goal.returns-in_err-scanned-clause-reads
 returns-in_err-scanned-clause-reads g c =
-    reads_few _ _ _ _ c.scan_levels.ensures.reads (let few = blocks_few c.versions.result c.as_slice-levels.result.now (fit g (goal.at.returns-in_err-scanned-clause-reads g c).After-scan_levels) in omega (arith, few))
+    let after = (goal.at.returns-in_err-scanned-clause-reads g c).After-scan_levels in
+    let few = blocks_few c.versions.result c.as_slice-levels.result.now (fit g after) in
+    let same = ap (λ (ls : List LevelDesc). length (blocks_listed (arrays_in ls))) (levels_same g after) in
+    (reads_few _ _ _ _ c.scan_levels.ensures.reads (omega (arith, few)), reads_few _ _ _ _ c.scan_levels.ensures.reads (omega (arith, same)))
 
 pub returns-then-is_some-clause-reads : goal.returns-then-is_some-clause-reads
 returns-then-is_some-clause-reads g c =
-    reads_few _ _ _ _ c.scan_levels.ensures.reads (let few = blocks_few c.versions.result c.as_slice-levels.result.now (fit g (goal.at.returns-then-is_some-clause-reads g c).After-scan_levels) in omega (arith, few))
+    let after = (goal.at.returns-then-is_some-clause-reads g c).After-scan_levels in
+    let few = blocks_few c.versions.result c.as_slice-levels.result.now (fit g after) in
+    let same = ap (λ (ls : List LevelDesc). length (blocks_listed (arrays_in ls))) (levels_same g after) in
+    (reads_few _ _ _ _ c.scan_levels.ensures.reads (omega (arith, few)), reads_few _ _ _ _ c.scan_levels.ensures.reads (omega (arith, same)))
 
 pub returns-then-is_some-clause-ok : goal.returns-then-is_some-clause-ok
 returns-then-is_some-clause-ok g c = λ f exposed found.
@@ -105,4 +111,5 @@ returns-clause-reads g c =
     let after = (goal.at.returns-clause-reads g c).After-scan_levels in
     let few = blocks_few c.versions.result c.as_slice-levels.result.now (fit g after) in
     let same = ap (λ (ls : List LevelDesc). length (blocks_listed (arrays_in ls))) (levels_same g after) in
-    reads_thrice _ _ _ _ _ c.scan_levels.ensures.reads c.tell_store.ensures.reads few (omega (arith, few, same))
+    let reads = reads_thrice _ _ _ _ _ c.scan_levels.ensures.reads c.tell_store.ensures.reads same in
+    (reads_few _ _ _ _ reads (omega (arith, few, same)), reads)

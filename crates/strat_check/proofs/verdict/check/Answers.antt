@@ -1,10 +1,11 @@
-use Rattle.std.proofs.Common.{ℕ, Err, sym, ap, ◌∙◌, subst}
+use Rattle.std.proofs.Common.{ℕ, Err, sym, ap, ◌∙◌, subst, arith}
 use Rattle.strat_base.proofs.ResultFacts.{if_ok_then}
 use Rattle.def_crash.proofs.MomentLemmas.{reads_trans}
 use Rattle.strat_open.specs.declared.attach_fault.AttachFault.{AttachFault}
 use Rattle.strat_check.specs.Verdicts.{verdict_told, IsRight, VerdictHasCause}
 use Rattle.strat_check.specs.declared.verdict.Verdict.{Verdict}
-use Rattle.strat_check.proofs.VerdictLemmas.{fault_right, fault_caused, told_right, told_caused, found_from}
+use Rattle.strat_check.proofs.StoreLemmas.{reads_few}
+use Rattle.strat_check.proofs.VerdictLemmas.{reads_both, unread_tells, reads_of_store, fault_right, fault_caused, told_right, told_caused, found_from}
 use Rattle.strat_check.proofs.verdict.check.Given.{Over}
 use Rattle.strat_check.proofs.verdict.check.Goals as goal
 use Rattle.strat_check.proofs.verdict.check.Goals.{After-of_unread, After-of_told}
@@ -28,6 +29,14 @@ pub returns-in-Err-clause-found : goal.returns-in-Err-clause-found
 returns-in-Err-clause-found g c =
     let at = (goal.at.returns-in-Err-clause-found g c).After-of_unread in
     found_from (g.D.Disk.view c.args.disk.now) c.of_unread.result (g.D.Disk.faults c.args.disk.now) (g.D.Disk.faults c.read_store.new.disk) (unread g at) (unread_caused g at)
+
+pub returns-in-Err-clause-reads : goal.returns-in-Err-clause-reads
+returns-in-Err-clause-reads g c = (
+  reads_few _ _ _ _ c.read_store.ensures.reads.0 (omega arith),
+  λ f h exposed found memory device.
+      absurd (unread_tells (g.D.Disk.view c.args.disk.now) c.in-Err.fault (λ is. c.in-Err.ensures.none (ap (λ (e : AttachFault). Err e) is)) (λ b is. c.in-Err.ensures.damaged b (ap (λ (e : AttachFault). Err e) is)) f h exposed found
+      (λ is. memory (c.of_unread.ensures.ok ∙ is)) (λ is. device (c.of_unread.ensures.ok ∙ is))),
+)
 
 -- the store was read
 
@@ -58,3 +67,9 @@ returns-clause-same g c = reads_trans c.read_store.ensures.same c.check_store-to
 
 pub returns-clause-cause : goal.returns-clause-cause
 returns-clause-cause g c = told_why g (goal.at.returns-clause-cause g c).After-of_told
+
+pub returns-clause-reads : goal.returns-clause-reads
+returns-clause-reads g c = (
+  reads_both _ _ _ _ _ c.read_store.ensures.reads.0 c.check_store-told.ensures.reads.0,
+  λ f h exposed found memory device. reads_of_store f h _ _ _ _ (c.in-Ok.ensures.found f exposed) found c.in-Ok.ensures.reads.1 c.check_store-told.ensures.reads.1,
+)
