@@ -111,8 +111,8 @@ fn count_groups<D: Disk>(
     Ok(false)
 }
 
-/// Counts what each version sees of an array, all of whose entries ascend: each block is read once. Takes memory for a
-/// block, a group and 8 bytes a version. Device: the disk counted a fault. Damaged: this block of the array holds no
+/// Counts what each version sees of an array, all of whose entries ascend: each block is read once. O(versions), and for
+/// each entry O(log versions) comparisons. Takes a block, the entries of a key and 20 bytes a version. Device: the disk counted a fault. Damaged: this block of the array holds no
 /// entries, or none that come after those before it.
 pub fn count_array<D: Disk>(
     alloc: Global,

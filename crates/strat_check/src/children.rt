@@ -1,5 +1,5 @@
-//! The least of the children of some versions: a level below whose horizon none of them has a child has a horizon that is no
-//! greater.
+//! The least children of versions, by which it is told whether one of some versions has a child below a horizon: exactly if the
+//! least of their children is below it.
 
 ghost use Rattle.std.specs.List.{fold, range_with_len};
 ghost use Rattle.std.specs.Prelude.{◌≡◌, ◌<◌, ◌≤◌, ◌-◌, ℕ, length, min, slice_index_or, IfOk};

@@ -142,7 +142,7 @@ fn count_groups<D: Disk>(
 
 /// Goes through the arrays of a level key by key: afterwards the sights are those of its leads, and the answer is what was
 /// found of each array. Each block is read once at most; for each entry O(log arrays) comparisons, and what it takes to
-/// look at its group. Takes a block and a key for each array, 4 bytes a version, and what the entries of a key take.
+/// look at its group. Takes a block and a key for each array, 20 bytes a version, and what the entries of a key take.
 ///
 /// `NoMemory` where there is none for them; `Device` only where the disk failed; `Damaged` names a block of an array
 /// that is bad for it.

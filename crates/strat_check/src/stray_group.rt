@@ -277,7 +277,8 @@ fn settle_all(
 }
 
 /// Notes of each array whether it has a stray in a group, and whether one is live at a version of its tag. O(items), each
-/// with O(log items) comparisons; and for an array with a stray what it takes to ask whether one is live.
+/// with O(log items) comparisons. For an array with a stray also O(items), and for each version of its tag O(log versions)
+/// for each of its items at most.
 pub(crate) fn note_group(
     alloc: Global,
     g: &StrayGroup<'_>,

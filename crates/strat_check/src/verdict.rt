@@ -66,9 +66,11 @@ fn of_told(told: Result<Option<Broken>, Trouble>) -> Verdict
 /// - Damaged: the block that recovery refuses, or else the first block of an array that holds no entries.
 /// - NotAStore: no slot is open with the text of a store. Device: the disk counted a fault. NoMemory: it may come at any time.
 ///
-/// It reads what `read_store` reads, and each block of an array three times at most. It takes the memory of `read_store`, 196 bytes for
-/// each version and 24 for each array, and one block, a key and the extents for each array of one level. The time is linear in
-/// the entries, times the logarithm of a level's arrays.
+/// It reads what `read_store` reads, and each block of an array three times at most. It takes the memory of `read_store`,
+/// 136 bytes for each version, 24 for each array, the entries of one key, and one block, a key and the extents for each
+/// array of one level. The time is linear in the entries, times a logarithm of versions and arrays, and linear in the
+/// versions for each array. If rule f is broken, each key with a stray costs as much as the tag of its array has versions,
+/// times the entries of the key in that array.
 pub fn check<D: Disk>(alloc: Global, disk: &mut D) -> Verdict
     ensures ok { IsRight (D.view disk.old) result }
     ensures found { ¬ Rose (D.faults disk.old) (D.faults disk.new)
