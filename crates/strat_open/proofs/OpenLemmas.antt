@@ -7,7 +7,7 @@ use Rattle.def_crash.specs.Faults.{HasCause, Rose}
 use Rattle.def_crash.specs.Image.{Image, Outside}
 use Rattle.def_crash.specs.Moments.{DiskView, Exposes, Images, Since, Passes, TearsOnly, IsDurable, KeepsImages, OnlyReads}
 use Rattle.def_crash.specs.Trail.{Trail}
-use Rattle.def_crash.proofs.MomentLemmas.{each_then, leaves_refl, leaves_tears, passes_trans, reads_trans, settled_at, since_now, at_told, reads_keep_durable}
+use Rattle.def_crash.proofs.MomentLemmas.{each_then, leaves_refl, leaves_tears, now_since_start, passes_trans, reads_trans, settled_at, since_now, at_told, reads_keep_durable}
 use Rattle.def_crash.proofs.TrailLemmas.{trail_of_one}
 use Rattle.strat_cursor.specs.Held.{no_cursors}
 use Rattle.def_bytes.specs.Chained.{manifest_at}
@@ -65,6 +65,12 @@ module _ (old : DiskView) (f : Image) (x : Contents) (sb : Super) (stale : Bool)
     shut_stands time leaves shut =
         gate_stands old new x few each_reads torn_there is.sound time f exposed durable leaves
         (subst (λ (s : Super). (c : Image) → Images new c → c (region_at s.mem (other_region s.region)) ≢ 0xa7) (sym same) shut)
+
+-- and where nothing had to be shut it was shut already
+pub quiet_shut : (f : Image) (stale : Bool) (mem region count : ℕ) → (IsTrue stale ↔ IsStale f mem region count) → count < mem → stale ≡ false → (c : Image) → c ≡ f
+    → c (region_at mem (other_region region)) ≢ 0xa7
+quiet_shut f stale mem region count is few calm c same up =
+    true≢false (sym (is.1 (few, ap (λ (d : Image). d (region_at mem (other_region region))) (sym same) ∙ up)) ∙ calm)
 
 -- where nothing was written no byte was torn
 pub quiet_tears : (v : DiskView) (at n : ℕ) → TearsOnly v v at n
@@ -176,6 +182,13 @@ module _ (before synced read now : DiskView) (r : OpenStore) (syncs : OnlyReads 
       let is : t.0 ≡ f = settled_at read f (all.same ∙ exposed) (reads_keep_durable synced read looks settled) t.0 t.1 in
       inr (subst (λ (d : Image). Outside (region_at r.sb.mem (other_region r.sb.region)) 1 d c) is t.2))
 
+  -- at the end each image is the content, but for that gate
+  left_alone : (f : Image) → Exposes before f → (c : Image) → Images now c → Outside (region_at r.sb.mem (other_region r.sb.region)) 1 f c
+  left_alone f exposed c left =
+      let t = torn.each c (now_since_start read now c passes left) in
+      let is : t.0 ≡ f = settled_at read f (looks.same ∙ syncs.same ∙ exposed) (reads_keep_durable synced read looks settled) t.0 t.1 in
+      subst (λ (d : Image). Outside (region_at r.sb.mem (other_region r.sb.region)) 1 d c) is t.2
+
   gate_alone : (f : Image) → Exposes before f → ChangesGateAlone before now f r.slot (super_of r.sb)
   gate_alone f exposed = record { newest = (found f exposed).newest; images = at_gate f exposed }
 
@@ -195,8 +208,10 @@ module _ (before synced read now : DiskView) (r : OpenStore) (syncs : OnlyReads 
   })
 
   pub opened_as : ((f : Image) (x : Contents) → Exposes read f → IsDurable read → x.sb ≡ super_of r.sb → ReadsAsSound f r.journal.stale x → ContentsStand now x)
+      → ((f : Image) → Exposes read f → IsDurable read → length r.journal.list < r.sb.mem → (IsTrue r.journal.stale ↔ IsStale f r.sb.mem r.sb.region (length r.journal.list))
+      → (c : Image) → Images now c → c (region_at r.sb.mem (other_region r.sb.region)) ≢ 0xa7)
       → r.memory.cursors ≡ no_cursors → ((cached : Blocks) → IsConsistent (held_of r cached)) → (cap : ℕ) → IsOpenedAs before now (held_of r (empty_cache cap))
-  opened_as stands none whole cap = record {
+  opened_as stands shuts none whole cap = record {
     going = refl;
     closed = none;
     found = λ f exposed. (found f exposed).head;
@@ -206,6 +221,8 @@ module _ (before synced read now : DiskView) (r : OpenStore) (syncs : OnlyReads 
         let kept = whole (empty_cache cap) in
         let is = found f exposed in
         gate_on read now (held_of r (empty_cache cap)) f kept.belonging kept.lawful.region_most (looks.same ∙ syncs.same ∙ exposed) (reads_keep_durable synced read looks settled) is.newest is.chain torn passes;
+    alone = left_alone;
+    shut = λ f exposed few. shuts f (looks.same ∙ syncs.same ∙ exposed) (reads_keep_durable synced read looks settled) few (found f exposed).stale;
     stands = λ f t exposed shows.
         let is = found f exposed in (
           opened_contents f r is t shows,

@@ -1,11 +1,11 @@
 -- What a crash leaves of a disk on which a store was opened and carried out commands.
-use Rattle.std.specs.Prelude.{◌≡◌, ◌≤◌, ◌⊎◌, ℕ, List, [], ◌∷◌, Some, false, Ok}
+use Rattle.std.specs.Prelude.{◌≡◌, ◌≢◌, ◌≤◌, ◌<◌, ◌⊎◌, ℕ, List, [], ◌∷◌, length, Some, false, Ok}
 use Rattle.def_crash.specs.Image.{Image, Outside}
 use Rattle.def_crash.specs.Moments.{DiskView, Exposes, Images, Since, KeepsImages}
 use Rattle.def_crash.specs.Trail.{At, Trail}
 use Rattle.strat_cursor.specs.Held.{no_cursors}
 use Rattle.def_bytes.specs.Chained.{manifest_at}
-use Rattle.def_bytes.specs.Layout.{region_at, other_region}
+use Rattle.def_bytes.specs.Layout.{region_at, other_region, open_flag}
 use Rattle.def_bytes.specs.SuperBlock.{Super, newest_in}
 use Rattle.strat_model.specs.Table.{Table}
 use Rattle.def_recovery.specs.Opening.{recover}
@@ -58,6 +58,11 @@ pub record IsOpenedAs (before now : DiskView) (s : Held) : Type 0 where
       → manifest_at s.sb.format f s.sb.manifest s.sb.length ≡ Ok s.chained
   pub gate : (f : Image) → Exposes before f → ChangesGateAlone before now f s.slot s.sb
   pub on_disk : (f : Image) → Exposes before f → IsOnDisk now s
+  -- whatever the content shows, a crash leaves it but for that gate, which is shut where the active region has room
+  pub alone : (f : Image) → Exposes before f → (c : Image) → Images now c
+      → Outside (region_at s.sb.mem (other_region s.sb.region)) 1 f c
+  pub shut : (f : Image) → Exposes before f → length s.log.list < s.sb.mem → (c : Image)
+      → Images now c → c (region_at s.sb.mem (other_region s.sb.region)) ≢ open_flag
   pub stands : (f : Image) (t : Table) → Exposes before f → ShowsTable f t
       → (x : Contents) × StandsWith now s x × (table_of (contents_state x) ≡ t)
   pub follows : (f : Image) (t : Table) → Exposes before f → ShowsTable f t

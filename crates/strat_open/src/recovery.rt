@@ -1,6 +1,6 @@
 //! Recovering a store over levels: what its manifest and its journal say is taken into memory.
 
-ghost use Rattle.std.specs.Prelude.{◌≡◌, ◌≢◌, ◌≤◌, ◌+◌, ◌-◌, ◌*◌, ℕ, [], length, map, fold, Ok, Err, Some, None, IfOk, IfErr, OnOk, IsErrOf, IsTrue, false, ◌↔◌, is_some};
+ghost use Rattle.std.specs.Prelude.{◌≡◌, ◌≢◌, ◌≤◌, ◌<◌, ◌+◌, ◌-◌, ◌*◌, ℕ, [], length, map, fold, Ok, Err, Some, None, IfOk, IfErr, OnOk, IsErrOf, IsTrue, false, ◌↔◌, is_some};
 ghost use Rattle.std.specs.List.{list_all};
 ghost use Rattle.strat_array.specs.Kept.{Blocks};
 ghost use Rattle.strat_base.specs.Change.{is_lawful};
@@ -11,7 +11,7 @@ ghost use Rattle.def_crash.specs.Moments.{Exposes, Images, Since, Passes, TearsO
 ghost use Rattle.strat_cursor.specs.Held.{no_cursors};
 ghost use Rattle.def_bytes.specs.Chain.{chain_length};
 ghost use Rattle.def_bytes.specs.Chained.{manifest_at};
-ghost use Rattle.def_bytes.specs.Layout.{region_blocks, region_at, other_region, newest_format};
+ghost use Rattle.def_bytes.specs.Layout.{region_blocks, region_at, other_region, newest_format, open_flag};
 ghost use Rattle.def_bytes.specs.SuperBlock.{IsLawful, newest_in};
 ghost use Rattle.strat_model.specs.Table.{Table};
 ghost use Rattle.strat_gate.specs.SuperView.{super_of};
@@ -285,6 +285,12 @@ fn shut_other<D: Disk>(disk: &mut D, sb: &SuperBlock, journal: &Journal) -> Resu
     ensures kept { OnOk result ((f : Image) (x : Contents) → Exposes (D.view disk.old) f
         → IsDurable (D.view disk.old) → x.sb ≡ super_of sb.now → ReadsAsSound f journal.now.stale x
         → ContentsStand (D.view disk.new) x) }
+    ensures durable { OnOk result ((f : Image) → Exposes (D.view disk.old) f
+        → IsDurable (D.view disk.old) → length journal.now.list < sb.now.mem
+        → (IsTrue journal.now.stale
+        ↔ IsStale f sb.now.mem sb.now.region (length journal.now.list))
+        → (c : Image) → Images (D.view disk.new) c
+        → c (region_at sb.now.mem (other_region sb.now.region)) ≢ open_flag) }
     ensures images { TearsOnly (D.view disk.old) (D.view disk.new)
         (region_at sb.now.mem (other_region sb.now.region)) 1 }
     ensures same { journal.now.stale ≡ false → disk.new ≡ disk.old }

@@ -1,6 +1,7 @@
 use Rattle.std.proofs.Common.{sym, ◌∙◌}
 use Rattle.strat_gate.specs.SuperView.{super_of}
-use Rattle.strat_open.proofs.OpenLemmas.{quiet_reads, quiet_stands, quiet_tears, shut_reads, shut_stands}
+use Rattle.def_crash.proofs.MomentLemmas.{settled_at}
+use Rattle.strat_open.proofs.OpenLemmas.{quiet_reads, quiet_shut, quiet_stands, quiet_tears, shut_reads, shut_stands}
 use Rattle.strat_open.proofs.recovery.shut_other.Goals as goal
 
 pub returns-in_err-close_region-clause-trail : goal.returns-in_err-close_region-clause-trail
@@ -26,3 +27,11 @@ returns-else-stale-clause-kept g c = λ f x exposed settled same is.
 
 pub returns-else-stale-clause-images : goal.returns-else-stale-clause-images
 returns-else-stale-clause-images g c = quiet_tears (g.D.Disk.view c.args.disk.now) _ 1
+
+pub returns-in_ok-close_region-clause-durable : goal.returns-in_ok-close_region-clause-durable
+returns-in_ok-close_region-clause-durable g c = λ f exposed settled few is. c.in_ok-close_region.ensures.durable f exposed settled
+
+pub returns-else-stale-clause-durable : goal.returns-else-stale-clause-durable
+returns-else-stale-clause-durable g c = λ f exposed settled few is image left.
+    quiet_shut f c.args.journal.now.stale _ _ _ is few (sym c.stale.ensures ∙ c.if-stale.false) image
+    (settled_at (g.D.Disk.view c.args.disk.now) f exposed settled image left)
