@@ -30,6 +30,7 @@ ghost use Rattle.strat_memory.specs.Held.{IsConsistent, StandsAt, StandsWith, ar
 ghost use Rattle.strat_memory.specs.Memory.{KeepsRows, info_told};
 ghost use Rattle.strat_cursor.specs.Looking.{AreOfOldArrays, LooksThrough, ReadsArrays};
 ghost use Rattle.strat_memory.specs.Paying.{StoreTwoSince};
+ghost use Rattle.strat_store.specs.Filtering.{KeepsFilter, SkipsRefusing};
 ghost use Rattle.strat_store.specs.Ranging.{HasPairsFor, ReadsForLook, TellsFrom, arrays_wanted};
 ghost use Rattle.strat_store.specs.Staging.{FollowsBatch, IsStaged, held_joined, may_stage, replies_staged, reply_of_commit, with_staged};
 ghost use Rattle.strat_memory.specs.RecoveredFields.{held_of, empty_cache};
@@ -162,6 +163,8 @@ fn query<D: Disk>(
         (request_of command.now) result }
     ensures damaged { (b : ℕ) → result ≡ reply.Refused (why.Damaged b)
         → IsDamagedIn (D.view disk.old).content held.old.memory held.old.published.levels b }
+    ensures refused { SkipsRefusing (held_of held.old cache.old) (request_of command.now)
+        (D.reads disk.old) (D.reads disk.new) }
 {
     match *command {
         Command::Get { version, key } => get(held, cache, scratch, disk, version, key, out),
@@ -227,6 +230,8 @@ fn answer<D: Disk>(
         (request_of command.now) result }
     ensures damaged { (b : ℕ) → result ≡ reply.Refused (why.Damaged b)
         → IsDamagedIn (D.view disk.old).content held.old.memory held.old.published.levels b }
+    ensures refused { SkipsRefusing (held_of held.old cache.old) (request_of command.now)
+        (D.reads disk.old) (D.reads disk.new) }
 {
     match change_asked(command) {
         Some(asked) => change(alloc, held, disk, &asked),
@@ -261,7 +266,8 @@ impl Store {
     /// five times at most. It takes its memory before anything of the store is replaced; without it the answer is
     /// `NoMemory`, and the store is as it was.
     ///
-    /// A get asks level 0, and then one array of each level at most. A scan goes through level 0 and one array of each
+    /// A get asks level 0, and then one array of each level at most. It reads nothing of an array whose filter refuses the key;
+    /// an array that this run made has a filter, if there was memory for it. A scan goes through level 0 and one array of each
     /// level, pair by pair. In an array of fewer than 2^n blocks either reads n + 4 at most to search, and each once more at
     /// most. It reads no array that is not asked at the version. These take no memory but for blocks that are cached.
     ///
@@ -307,6 +313,8 @@ impl Store {
         ensures cause { FailsAsTold (D.faults disk.old) (D.faults disk.new) result
             × TellsTroubleOf (D.view disk.old) self.old (request_of command.now) result }
         ensures reads { ReadsForLook self.old (request_of command.now)
+            (D.reads disk.old) (D.reads disk.new) }
+        ensures refused { SkipsRefusing self.old (request_of command.now)
             (D.reads disk.old) (D.reads disk.new) }
         ensures damaged { (b : ℕ) → result ≡ reply.Refused (why.Damaged b)
             → IsDamagedIn (D.view disk.old).content self.old.memory self.old.levels b }

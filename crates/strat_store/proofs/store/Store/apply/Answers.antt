@@ -63,7 +63,7 @@ returns-clause-found g c =
 pub returns-clause-trail : goal.returns-clause-trail
 returns-clause-trail g c =
     rw (← c.self.view_is) (λ x stands.
-    let trail = c.answer-told.ensures.trail x (record { stands = stands.stands; held = stands.held; cached = stands.cached }) in
+    let trail = c.answer-told.ensures.trail x (record { stands = stands.stands; held = stands.held; cached = stands.cached; filtered = stands.filtered }) in
     (trail, stored_since (g.D.Disk.view c.answer-told.new.disk) (g.D.Disk.view c.args.disk.now).moment _ _ trail))
 
 pub returns-clause-reads : goal.returns-clause-reads
