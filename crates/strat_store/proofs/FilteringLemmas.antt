@@ -1,11 +1,11 @@
 -- Filters are of the keys of the arrays that a store stands on: a get that asks them finds what one does that asks none.
-use Rattle.std.proofs.Common.{◌≡◌, ℕ, Bool, true, false, inl, inr, List, [], ◌∷◌, map, Option, Some, None, refl, sym, ap, ◌∙◌, subst, true≢false}
-use Rattle.std.proofs.lemmas.Bool.{not-true}
-use Rattle.std.specs.Prelude.{if◌then◌else◌}
+use Rattle.std.proofs.Common.{◌≡◌, ◌≤◌, ◌<◌, ◌+◌, ℕ, zero, suc, Bool, true, false, eqb, get_or, inl, inr, List, [], ◌∷◌, length, map, Contains, Option, Some, None, refl, sym, ap, ◌∙◌, subst, arith, true≢false}
+use Rattle.std.proofs.lemmas.Bool.{eqb-refl, eqb-true, not-true}
+use Rattle.std.specs.Prelude.{if◌then◌else◌, is_some}
 use Rattle.std.specs.List.{list_any, find, filter_map, cons_option}
-use Rattle.std.specs.Option.{option_map, option_or, unwrap_or}
+use Rattle.std.specs.Option.{option_and_then, option_map, option_or, unwrap_or}
 use Rattle.strat_base.proofs.EntryLemmas.{bytes_same}
-use Rattle.strat_base.proofs.ListFacts.{Among, any_among, find_some}
+use Rattle.strat_base.proofs.ListFacts.{Among, any_among, any_from, find_some}
 use Rattle.strat_base.specs.Entries.{Entry, is_of}
 use Rattle.strat_base.specs.Tree.{Parents, below}
 use Rattle.strat_base.specs.declared.descriptors.ArrayDesc.{ArrayDesc}
@@ -14,20 +14,29 @@ use Rattle.strat_filter.proofs.BitLemmas.{none_is_lost}
 use Rattle.strat_filter.specs.Bits.{may_hold}
 use Rattle.strat_filter.specs.Keys.{IsFilterOf}
 use Rattle.def_crash.specs.Image.{Image}
+use Rattle.def_crash.specs.Moments.{DiskView}
 use Rattle.def_bytes.specs.Arrays.{all_some, blocks_of, entries_on}
 use Rattle.def_recovery.proofs.OpeningLemmas.{map_some}
-use Rattle.def_recovery.specs.Asked.{on_disk}
+use Rattle.def_recovery.proofs.HeadLemmas.{state_with}
+use Rattle.def_recovery.specs.Asked.{asked, on_disk}
+use Rattle.def_recovery.specs.Head.{Head}
 use Rattle.def_recovery.specs.Opened.{array_on, level_on}
-use Rattle.def_publish.proofs.ListLemmas.{among_contained}
+use Rattle.def_recovery.specs.Opening.{state_of}
+use Rattle.def_publish.proofs.ListLemmas.{among_contained, contained_among}
+use Rattle.def_publish.specs.Contents.{Contents}
 use Rattle.def_state.proofs.LookUpLemmas.{none_live, place_in}
 use Rattle.def_state.specs.Level.{TaggedArray, Level}
 use Rattle.def_state.specs.LookUp.{first_live, looked_up}
 use Rattle.def_state.specs.Reading.{live_of}
-use Rattle.strat_level.specs.Levels.{is_for}
+use Rattle.def_state.specs.State.{State}
+use Rattle.strat_cursor.proofs.PickLemmas.{level_next}
+use Rattle.strat_cursor.specs.Looking.{levels_there}
+use Rattle.strat_level.specs.Levels.{is_for, level_numbered}
 use Rattle.strat_memory.specs.Filters.{AreFiltersOf, LevelFilters, filter_at, is_refused, refuses}
+use Rattle.strat_memory.specs.Held.{Held, IsConsistent, StandsWith, contents_held}
 use Rattle.strat_publish.proofs.LookLawLemmas.{made_of}
 use Rattle.strat_store.proofs.LookLemmas.{find_numbered}
-use Rattle.strat_store.specs.Filtering.{on_disk_filtered, shown_unless_refused}
+use Rattle.strat_store.specs.Filtering.{KeepsFilter, KeepsFilterAt, asked_filtered, has_id, on_disk_filtered, shown_unless_refused}
 
 -- the key of an entry is among the keys
 key_among : (key : List ℕ) (e : Entry) (entries : List Entry) → Among e entries → is_of key e ≡ true → Among key (map (λ (x : Entry). x.key) entries)
@@ -106,3 +115,89 @@ module _ (c : Image) (filters : List LevelFilters) (parents : Parents) (v : ℕ)
       ap (λ (o : Option (List Entry)). live_of parents (unwrap_or o []) v key) entries.1
       ∙ ap (λ (t : TaggedArray). live_of parents t.content v key) entries.2
       ∙ none_live parents v key array.0.content (none_of bits.0 array.0.content key is bits.2)
+
+pub state_filtered : (c : Image) (h : Head) (s : State) (filters : List LevelFilters) (parents : Parents) (zeros : List (List Entry)) (v : ℕ) (key : List ℕ) → state_of c h ≡ Some s → AreFiltersOf s.levels filters
+    → asked_filtered c filters parents zeros h.manifest.levels v key ≡ asked c parents zeros h.manifest.levels v key
+state_filtered c h s filters parents zeros v key is right =
+    let made = map_some (state_with h) (all_some (level_on c) h.manifest.levels) s is in
+    let levels : s.levels ≡ made.0 = sym (ap (λ (x : State). x.levels) made.2) in
+    ap (λ (o : Option Entry). option_and_then (λ x. x.value) o)
+    (filtered_agrees c filters parents v key zeros h.manifest.levels
+    (are_silent c filters parents v key h.manifest.levels made.0 made.1 (subst (λ (ls : List Level). AreFiltersOf ls filters) levels right)))
+
+-- a level in its place is one of those that are there
+at_there : (levels : List (Option LevelDesc)) (i : ℕ) (level : LevelDesc) → get_or levels i None ≡ Some level → Among level (levels_there levels)
+at_there [] i level e = absurd (cc)
+at_there (None ∷ levels) zero level e = absurd (cc)
+at_there (Some l ∷ levels) zero level e = let same : l ≡ level = cc in inl (sym same)
+at_there (None ∷ levels) (suc i) level e = at_there levels i level e
+at_there (Some l ∷ levels) (suc i) level e = inr (at_there levels i level e)
+
+numbered_there : (levels : List (Option LevelDesc)) (number : ℕ) (level : LevelDesc) → level_numbered levels number ≡ Some level → Among level (levels_there levels)
+numbered_there levels zero level e = absurd (cc)
+numbered_there levels (suc i) level e =
+    let next : i + 1 ≡ suc i = omega arith in
+    at_there levels i level (sym (level_next levels i) ∙ ap (λ (n : ℕ). level_numbered levels n) next ∙ e)
+
+-- the filter that a store keeps of an array is of the entries of the array
+kept_at : (v : DiskView) (s : Held) (levels : List Level) (f : Image) (id : ℕ) (entries : List Entry) → IsConsistent s → StandsWith v s (contents_held s levels) → v.content ≡ Some f → (keeps : KeepsFilter s.filters s.levels id)
+    → entries_on f (blocks_of keeps.1.array.extents) ≡ Some entries → IsFilterOf keeps.1.bits entries
+kept_at v s levels f id entries whole w exposed keeps read =
+    let g : Image = w.stands.content in
+    let some : Some g ≡ Some f = sym w.stands.exposed ∙ exposed in
+    let here : g ≡ f = cc in
+    let k = keeps.1 in
+    let a : ArrayDesc = k.array in
+    let of = subst (λ (ds : List LevelDesc). Among k.level ds) whole.placed.listed_are (numbered_there s.levels keeps.0 k.level k.placed) in
+    let level = made_of (level_on g) s.chained.manifest.levels levels k.level (w.stands.reads g w.stands.left).lies.arrays of in
+    let arrays = map_some (λ xs. record { number = k.level.number; horizon = k.level.horizon; arrays = xs }) (all_some (array_on g) k.level.arrays) level.0 level.1 in
+    let array = made_of (array_on g) k.level.arrays arrays.0 a arrays.1 (contained_among k.level.arrays a k.listed) in
+    let made = map_some (λ entries. record { id = a.id; tag = a.versions; content = entries; entries = a.entries; leads = a.leads; least = a.least }) (entries_on g (blocks_of a.extents)) array.0 array.1 in
+    let number : keeps.0 ≡ level.0.number = sym (whole.placed.numbered keeps.0 k.level k.placed) ∙ ap (λ (l : Level). l.number) arrays.2 in
+    let name : id ≡ array.0.id = sym k.named ∙ ap (λ (t : TaggedArray). t.id) made.2 in
+    let kept : filter_at s.filters level.0.number array.0.id ≡ Some k.bits = sym (λ i. filter_at s.filters (number i) (name i)) ∙ k.kept in
+    let is = w.filtered.each level.0 array.0 k.bits (among_contained levels level.0 level.2) (among_contained level.0.arrays array.0 (subst (λ (l : Level). Among array.0 l.arrays) arrays.2 array.2)) kept in
+    let one : Some made.0 ≡ Some entries = sym made.1 ∙ ap (λ (c : Image). entries_on c (blocks_of a.extents)) here ∙ read in
+    let same : made.0 ≡ entries = cc in
+    subst (λ (es : List Entry). IsFilterOf k.bits es) (sym (ap (λ (t : TaggedArray). t.content) made.2) ∙ same) is
+
+pub kept_of : (v : DiskView) (s : Held) (x : Contents) (f : Image) (id : ℕ) (entries : List Entry) → IsConsistent s → StandsWith v s x → v.content ≡ Some f → (keeps : KeepsFilter s.filters s.levels id)
+    → entries_on f (blocks_of keeps.1.array.extents) ≡ Some entries → IsFilterOf keeps.1.bits entries
+kept_of v s x f id entries whole w exposed keeps read = kept_at v s x.levels f id entries whole (subst (StandsWith v s) w.held w) exposed keeps read
+
+-- a filter that is kept is told of
+pub keeps_from : (filters : List LevelFilters) (levels : List (Option LevelDesc)) (number id : ℕ) (level : LevelDesc) → level_numbered levels number ≡ Some level → is_some (filter_at filters number id) ≡ true
+    → list_any (has_id id) level.arrays ≡ true → KeepsFilterAt filters levels number id
+keeps_from filters levels number id level placed some any = by (filter_at filters number id) refl
+  where
+    by : (o : Option (List Bool)) → filter_at filters number id ≡ o → KeepsFilterAt filters levels number id
+    by None none = absurd (true≢false (sym some ∙ ap (λ (o : Option (List Bool)). is_some o) none))
+    by (Some bits) kept =
+        let at = any_among (has_id id) level.arrays any in
+        record { level = level; array = at.0; bits = bits; placed = placed; listed = among_contained level.arrays at.0 at.1; named = eqb-true at.0.id id at.2; kept = kept }
+
+pub keeps_to : (filters : List LevelFilters) (levels : List (Option LevelDesc)) (number id : ℕ) (level : LevelDesc) → level_numbered levels number ≡ Some level → KeepsFilterAt filters levels number id
+    → (is_some (filter_at filters number id) ≡ true) × (list_any (has_id id) level.arrays ≡ true)
+keeps_to filters levels number id level placed keeps =
+    let one : Some keeps.level ≡ Some level = sym keeps.placed ∙ placed in
+    let same : keeps.level ≡ level = cc in
+    let among = contained_among level.arrays keeps.array (subst (λ (l : LevelDesc). Contains l.arrays keeps.array) same keeps.listed) in (
+      ap (λ (o : Option (List Bool)). is_some o) keeps.kept,
+      any_from (has_id id) keeps.array level.arrays among (ap (λ (n : ℕ). eqb n id) keeps.named ∙ eqb-refl id),
+    )
+
+past_last : (levels : List (Option LevelDesc)) (i : ℕ) → length levels ≤ i → get_or levels i None ≡ None
+past_last [] i past = refl
+past_last (level ∷ levels) zero past = absurd (omega (arith, past))
+past_last (level ∷ levels) (suc i) past = past_last levels i (omega (arith, past))
+
+-- no filter is kept of the arrays of level 0, or of a level past the last
+pub keeps_past : (filters : List LevelFilters) (levels : List (Option LevelDesc)) (number id : ℕ) → length levels < number → KeepsFilterAt filters levels number id → ⊥
+keeps_past filters levels zero id past keeps = absurd (omega (arith, past))
+keeps_past filters levels (suc i) id past keeps =
+    let next : i + 1 ≡ suc i = omega arith in
+    let none : Some keeps.level ≡ None = sym keeps.placed ∙ ap (λ (n : ℕ). level_numbered levels n) (sym next) ∙ level_next levels i ∙ past_last levels i (omega (arith, past)) in
+    absurd (cc)
+
+pub keeps_none : (filters : List LevelFilters) (levels : List (Option LevelDesc)) (id : ℕ) → KeepsFilterAt filters levels 0 id → ⊥
+keeps_none filters levels id keeps = let none : None ≡ Some keeps.level = keeps.placed in absurd (cc)

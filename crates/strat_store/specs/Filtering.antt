@@ -1,5 +1,5 @@
 -- What a get finds in the levels of a store where it asks the filters of their arrays first.
-use Rattle.std.specs.Prelude.{◌≡◌, ℕ, Bool, true, if◌then◌else◌, List, [], map, Contains, Option, Some, None, unwrap_or, option_and_then}
+use Rattle.std.specs.Prelude.{◌≡◌, ℕ, ◌==◌, Bool, true, if◌then◌else◌, List, [], map, Contains, Option, Some, None, unwrap_or, option_and_then}
 use Rattle.strat_base.specs.Entries.{Entry}
 use Rattle.strat_base.specs.Tree.{Parents}
 use Rattle.strat_base.specs.declared.descriptors.ArrayDesc.{ArrayDesc}
@@ -62,10 +62,13 @@ SkipsRefusing s (Get version key) before now =
     AllRefuse s.filters s.memory.parents s.levels version key → now ≡ before
 SkipsRefusing s _ before now = Unit {0}
 
--- a level has an array of a number, and a filter of it is kept
-pub record KeepsFilter (filters : List LevelFilters) (levels : List (Option LevelDesc)) (id : ℕ)
-    : Type 0 where
-  pub number : ℕ
+-- an array has this number
+abbrev pub has_id : ℕ → ArrayDesc → Bool
+has_id id a = a.id == id
+
+-- the level of a number has an array of an id, and a filter of it is kept
+pub record KeepsFilterAt (filters : List LevelFilters) (levels : List (Option LevelDesc))
+    (number id : ℕ) : Type 0 where
   pub level : LevelDesc
   pub array : ArrayDesc
   pub bits : List Bool
@@ -73,3 +76,7 @@ pub record KeepsFilter (filters : List LevelFilters) (levels : List (Option Leve
   pub listed : Contains level.arrays array
   pub named : array.id ≡ id
   pub kept : filter_at filters number id ≡ Some bits
+
+-- one of the levels does
+abbrev pub KeepsFilter : List LevelFilters → List (Option LevelDesc) → ℕ → Type 0
+KeepsFilter filters levels id = (number : ℕ) × KeepsFilterAt filters levels number id

@@ -40,6 +40,7 @@ ghost use Rattle.strat_open.specs.declared.attach_fault.AttachFault.TheVariants 
 
 use crate::changing::change;
 use crate::cursors::{reply_to_close_cursor, reply_to_next_pairs, reply_to_open_cursor};
+use crate::filtering::keeps_filter;
 use crate::get::get;
 use crate::scan::scan_range;
 use crate::staging::{Replies, append_staged, stage_change};
@@ -256,6 +257,15 @@ impl Store {
         ensures { result ≡ self.now.spent }
     {
         self.spent
+    }
+
+    /// Whether the store keeps a filter of an array of its levels. It keeps one of each array that it made since it was opened,
+    /// if there was memory for it, and of no other. O(arrays of the levels).
+    pub fn has_filter(&self, id: u64) -> bool
+        ensures ok { result ≡ true → KeepsFilter self.now.filters self.now.levels id }
+        ensures none { result ≡ false → ¬ KeepsFilter self.now.filters self.now.levels id }
+    {
+        keeps_filter(&self.held.filters, &self.held.published.levels, id)
     }
 
     /// Carries out one command. The pairs of its answer are in `out`, which is emptied first.

@@ -11,7 +11,7 @@ use Rattle.strat_store.specs.Cursoring.{IsAppliedAt, LeavesCursors, cursors_afte
 use Rattle.strat_memory.specs.RecoveredFields.{held_of}
 use Rattle.strat_store.specs.Applying.{held_after}
 use Rattle.strat_store.proofs.AppliedLemmas.{change_applied}
-use Rattle.strat_store.proofs.ApplyLemmas.{look_follows, look_no_change, pairs_wanted, reads_no_look, tells_from_wanted, tells_of_change, wanted_for}
+use Rattle.strat_store.proofs.ApplyLemmas.{look_follows, look_no_change, pairs_wanted, reads_no_look, skips_no_get, tells_from_wanted, tells_of_change, wanted_for}
 use Rattle.strat_store.proofs.LeavingLemmas.{left_queried, leaves_wanted, untouched_by}
 use Rattle.strat_store.proofs.QueryLemmas.{query_leaves}
 use Rattle.strat_store.proofs.store.answer.Goals as goal
@@ -87,3 +87,6 @@ returns-in-None-clause-same g c =
 
 pub returns-in-Some-clause-found : goal.returns-in-Some-clause-found
 returns-in-Some-clause-found g c = λ old f exposed calm. tells_from_wanted f (held_of c.args.held.now c.args.cache.now) (request_of c.args.command.now) _ _ c.in-Some.ensures
+
+pub returns-in-Some-clause-refused : goal.returns-in-Some-clause-refused
+returns-in-Some-clause-refused g c = skips_no_get (held_of c.args.held.now c.args.cache.now) (request_of c.args.command.now) _ _ _ c.in-Some.ensures

@@ -228,3 +228,27 @@ returns-in_default-clause-same g c = absurd (changes_left c.args.command.now c.r
 
 pub returns-in_default-clause-cause : goal.returns-in_default-clause-cause
 returns-in_default-clause-cause g c = absurd (changes_left c.args.command.now c.requires.none c.in_default.not-Get c.in_default.not-Scan c.in_default.not-Info c.in_default.not-Stat c.in_default.not-OpenCursor c.in_default.not-NextPairs c.in_default.not-CloseCursor)
+
+pub returns-in-Get-clause-refused : goal.returns-in-Get-clause-refused
+returns-in-Get-clause-refused g c = rw (c.in-Get.is) c.get.ensures.refused
+
+pub returns-in-Scan-clause-refused : goal.returns-in-Scan-clause-refused
+returns-in-Scan-clause-refused g c = rw (c.in-Scan.is) tt
+
+pub returns-in-Info-clause-refused : goal.returns-in-Info-clause-refused
+returns-in-Info-clause-refused g c = rw (c.in-Info.is) tt
+
+pub returns-in-Stat-clause-refused : goal.returns-in-Stat-clause-refused
+returns-in-Stat-clause-refused g c = rw (c.in-Stat.is) tt
+
+pub returns-in-OpenCursor-clause-refused : goal.returns-in-OpenCursor-clause-refused
+returns-in-OpenCursor-clause-refused g c = rw (c.in-OpenCursor.is) tt
+
+pub returns-in-NextPairs-clause-refused : goal.returns-in-NextPairs-clause-refused
+returns-in-NextPairs-clause-refused g c = rw (c.in-NextPairs.is) tt
+
+pub returns-in-CloseCursor-clause-refused : goal.returns-in-CloseCursor-clause-refused
+returns-in-CloseCursor-clause-refused g c = rw (c.in-CloseCursor.is) tt
+
+pub returns-in_default-clause-refused : goal.returns-in_default-clause-refused
+returns-in_default-clause-refused g c = absurd (changes_left c.args.command.now c.requires.none c.in_default.not-Get c.in_default.not-Scan c.in_default.not-Info c.in_default.not-Stat c.in_default.not-OpenCursor c.in_default.not-NextPairs c.in_default.not-CloseCursor)
