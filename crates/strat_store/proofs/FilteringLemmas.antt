@@ -16,7 +16,7 @@ use Rattle.strat_filter.specs.Keys.{IsFilterOf}
 use Rattle.def_crash.specs.Image.{Image}
 use Rattle.def_crash.specs.Moments.{DiskView}
 use Rattle.def_bytes.specs.Arrays.{all_some, blocks_of, entries_on}
-use Rattle.def_recovery.proofs.OpeningLemmas.{map_some}
+use Rattle.def_recovery.proofs.OpeningLemmas.{each_some, map_some}
 use Rattle.def_recovery.proofs.HeadLemmas.{state_with}
 use Rattle.def_recovery.specs.Asked.{asked, on_disk}
 use Rattle.def_recovery.specs.Head.{Head}
@@ -29,14 +29,23 @@ use Rattle.def_state.specs.Level.{TaggedArray, Level}
 use Rattle.def_state.specs.LookUp.{first_live, looked_up}
 use Rattle.def_state.specs.Reading.{live_of}
 use Rattle.def_state.specs.State.{State}
-use Rattle.strat_cursor.proofs.PickLemmas.{level_next}
 use Rattle.strat_cursor.specs.Looking.{levels_there}
 use Rattle.strat_level.specs.Levels.{is_for, level_numbered}
 use Rattle.strat_memory.specs.Filters.{AreFiltersOf, LevelFilters, filter_at, is_refused, refuses}
 use Rattle.strat_memory.specs.Held.{Held, IsConsistent, StandsWith, contents_held}
-use Rattle.strat_publish.proofs.LookLawLemmas.{made_of}
-use Rattle.strat_store.proofs.LookLemmas.{find_numbered}
+use Rattle.strat_store.proofs.LookLemmas.{find_numbered, next_level}
 use Rattle.strat_store.specs.Filtering.{KeepsFilter, KeepsFilterAt, asked_filtered, has_id, on_disk_filtered, shown_unless_refused}
+
+-- what an image makes of an item of a list is in the list that it makes
+made_of : {A B : Type 0} (h : A → Option B) (xs : List A) (ys : List B) (x : A) → all_some h xs ≡ Some ys → Among x xs → (y : B) × (h x ≡ Some y) × Among y ys
+made_of h [] ys x all there = absurd there
+made_of h (z ∷ xs) ys x all (inl here) =
+    let parts = each_some h z xs ys all in
+    (parts.0, ap h here ∙ parts.2, subst (λ (l : List _). Among parts.0 l) parts.4 (inl refl))
+made_of h (z ∷ xs) ys x all (inr there) =
+    let parts = each_some h z xs ys all in
+    let rest = made_of h xs parts.1 x parts.3 there in
+    (rest.0, rest.1, subst (λ (l : List _). Among rest.0 l) parts.4 (inr rest.2))
 
 -- the key of an entry is among the keys
 key_among : (key : List ℕ) (e : Entry) (entries : List Entry) → Among e entries → is_of key e ≡ true → Among key (map (λ (x : Entry). x.key) entries)
@@ -137,7 +146,7 @@ numbered_there : (levels : List (Option LevelDesc)) (number : ℕ) (level : Leve
 numbered_there levels zero level e = absurd (cc)
 numbered_there levels (suc i) level e =
     let next : i + 1 ≡ suc i = omega arith in
-    at_there levels i level (sym (level_next levels i) ∙ ap (λ (n : ℕ). level_numbered levels n) next ∙ e)
+    at_there levels i level (sym (next_level levels i) ∙ ap (λ (n : ℕ). level_numbered levels n) next ∙ e)
 
 -- the filter that a store keeps of an array is of the entries of the array
 kept_at : (v : DiskView) (s : Held) (levels : List Level) (f : Image) (id : ℕ) (entries : List Entry) → IsConsistent s → StandsWith v s (contents_held s levels) → v.content ≡ Some f → (keeps : KeepsFilter s.filters s.levels id)
@@ -196,7 +205,7 @@ pub keeps_past : (filters : List LevelFilters) (levels : List (Option LevelDesc)
 keeps_past filters levels zero id past keeps = absurd (omega (arith, past))
 keeps_past filters levels (suc i) id past keeps =
     let next : i + 1 ≡ suc i = omega arith in
-    let none : Some keeps.level ≡ None = sym keeps.placed ∙ ap (λ (n : ℕ). level_numbered levels n) (sym next) ∙ level_next levels i ∙ past_last levels i (omega (arith, past)) in
+    let none : Some keeps.level ≡ None = sym keeps.placed ∙ ap (λ (n : ℕ). level_numbered levels n) (sym next) ∙ next_level levels i ∙ past_last levels i (omega (arith, past)) in
     absurd (cc)
 
 pub keeps_none : (filters : List LevelFilters) (levels : List (Option LevelDesc)) (id : ℕ) → KeepsFilterAt filters levels 0 id → ⊥

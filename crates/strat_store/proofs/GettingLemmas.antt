@@ -44,7 +44,7 @@ use Rattle.strat_publish.proofs.LookLawLemmas.{in_order}
 use Rattle.strat_memory.proofs.MemoryLawLemmas.{key_unknown, key_found, known_of, living_of}
 use Rattle.strat_store.proofs.FilteringLemmas.{AreSilent, are_silent, filtered_agrees}
 use Rattle.strat_store.specs.Applying.{is_fault, IsLookedUp}
-use Rattle.strat_store.specs.Filtering.{AreNumbered, asked_filtered, on_disk_filtered}
+use Rattle.strat_store.specs.Filtering.{AreNumberedByPlace, asked_filtered, on_disk_filtered}
 use Rattle.strat_publish.specs.Outcomes.{IsDamagedIn}
 use Rattle.strat_store.specs.Getting.{reply_of_get}
 use Rattle.strat_memory.specs.Filters.{LevelFilters}
@@ -70,13 +70,13 @@ answer_of e key out seen.None tells =
 -- what a look-up through level 0 and levels says of what it found
 abbrev pub FindsIt : Option Image → List LevelFilters → Parents → List Entry → List (Option LevelDesc) → ℕ → List ℕ → Blocks → TheirPairs → Seen → Type 0
 FindsIt content filters parents entries levels n key c out told =
-    (f : Image) (next : ℕ) → content ≡ Some f → AreInOrder f (arrays_asked parents levels n) → HaveOwnIds (arrays_there levels) → AreNumbered levels → AreCachedFrom f next (arrays_asked parents levels n) c
+    (f : Image) (next : ℕ) → content ≡ Some f → AreInOrder f (arrays_asked parents levels n) → HaveOwnIds (arrays_there levels) → AreNumberedByPlace levels → AreCachedFrom f next (arrays_asked parents levels n) c
     → TellsFound (looked_up (on_disk_filtered f filters) parents (entries ∷ []) (levels_there levels) n key) key [] out told
 
 -- unless a fault ended the look-up it is so
 pub answer_told : (content : Option Image) (filters : List LevelFilters) (parents : Parents) (entries : List Entry) (levels : List (Option LevelDesc)) (n : ℕ) (key : List ℕ) (c : Blocks) (out : TheirPairs) (r : Result Seen Fault)
     → IfOk r (FindsIt content filters parents entries levels n key c out) → is_fault (reply_of_get r) ≡ false
-    → (f : Image) (next : ℕ) → content ≡ Some f → AreInOrder f (arrays_asked parents levels n) → HaveOwnIds (arrays_there levels) → AreNumbered levels → AreCachedFrom f next (arrays_asked parents levels n) c
+    → (f : Image) (next : ℕ) → content ≡ Some f → AreInOrder f (arrays_asked parents levels n) → HaveOwnIds (arrays_there levels) → AreNumberedByPlace levels → AreCachedFrom f next (arrays_asked parents levels n) c
     → as_told (reply_of_get r) out ≡ found key (asked_filtered f filters parents (entries ∷ []) (levels_there levels) n key)
 answer_told content filters parents entries levels n key c out (Ok told) tells none f next exposed ordered own numbered cached =
     answer_of (looked_up (on_disk_filtered f filters) parents (entries ∷ []) (levels_there levels) n key) key out told (tells f next exposed ordered own numbered cached)

@@ -19,9 +19,9 @@ use Rattle.def_crash.specs.Faults.{ReadsAtMost}
 use Rattle.def_crash.specs.Image.{Image}
 use Rattle.def_crash.specs.Moments.{DiskView}
 use Rattle.def_bytes.specs.Arrays.{blocks_of, entries_on}
-use Rattle.strat_level.specs.Levels.{desc_for, is_for}
+use Rattle.strat_level.specs.Levels.{desc_for, is_for, level_numbered}
 use Rattle.strat_memory.specs.Filters.{LevelFilters, refuses}
-use Rattle.strat_store.specs.Filtering.{AreNumbered, filtered_says, on_disk_filtered, shown_unless_refused}
+use Rattle.strat_store.specs.Filtering.{AreNumberedByPlace, filtered_says, on_disk_filtered, shown_unless_refused}
 use Rattle.def_state.specs.LookUp.{array_asked, looked_up, first_live}
 use Rattle.def_state.specs.Reading.{live_of}
 use Rattle.strat_cursor.specs.Looking.{levels_there, arrays_asked, arrays_there, AreInOrder, AreCachedFrom, LooksThrough, HaveFewBlocks, HaveOwnIds, MayBeAsked, asked_of_level, array_says, decides, reads_of_arrays}
@@ -91,7 +91,7 @@ adds_none old new seen.Put adds none = absurd (true≢false none)
 -- a look-up so far: the levels that were asked say nothing
 pub record Passing (old now : DiskView) (filters : List LevelFilters) (levels : List (Option LevelDesc)) (parents : Parents) (key : List ℕ) (v above : ℕ) (c d : Blocks) : Type 0 where
   pub looks : LooksThrough old now (arrays_there levels) c d
-  pub silent : (f : Image) (next : ℕ) → old.content ≡ Some f → AreInOrder f (arrays_asked parents levels v) → HaveOwnIds (arrays_there levels) → AreNumbered levels → AreCachedFrom f next (arrays_asked parents levels v) c
+  pub silent : (f : Image) (next : ℕ) → old.content ≡ Some f → AreInOrder f (arrays_asked parents levels v) → HaveOwnIds (arrays_there levels) → AreNumberedByPlace levels → AreCachedFrom f next (arrays_asked parents levels v) c
       → looked_up (on_disk_filtered f filters) parents [] (levels_there (drop above levels)) v key ≡ looked_up (on_disk_filtered f filters) parents [] (levels_there levels) v key
 
 module _ (old mid : DiskView) (filters : List LevelFilters) (levels : List (Option LevelDesc)) (parents : Parents) (key : List ℕ) (v above : ℕ) (c d : Blocks) where
@@ -99,7 +99,7 @@ module _ (old mid : DiskView) (filters : List LevelFilters) (levels : List (Opti
   asks = asked_of_level parents levels (above + 1) v
 
   -- an array that is asked after others
-  pub may_be_asked : Passing old mid filters levels parents key v above c d → (f : Image) (next : ℕ) → old.content ≡ Some f → AreInOrder f (arrays_asked parents levels v) → HaveOwnIds (arrays_there levels) → AreNumbered levels → AreCachedFrom f next (arrays_asked parents levels v) c
+  pub may_be_asked : Passing old mid filters levels parents key v above c d → (f : Image) (next : ℕ) → old.content ≡ Some f → AreInOrder f (arrays_asked parents levels v) → HaveOwnIds (arrays_there levels) → AreNumberedByPlace levels → AreCachedFrom f next (arrays_asked parents levels v) c
       → (a : ArrayDesc) → asks ≡ Some a → MayBeAsked f d a
   may_be_asked passing f next exposed ordered own numbered cached a is =
       let of = asked_among parents levels (above + 1) v a is in
@@ -111,7 +111,7 @@ module _ (old mid : DiskView) (filters : List LevelFilters) (levels : List (Opti
         cached = still_one old.content f (arrays_there levels) c d exposed own passing.looks.cached a (asked_there parents levels (above + 1) v a is) (λ index block x there at. cached.same a index block x of there at);
       }
 
-  left_first : (f : Image) → above < length levels → AreNumbered levels
+  left_first : (f : Image) → above < length levels → AreNumberedByPlace levels
       → looked_up (on_disk_filtered f filters) parents [] (levels_there (drop above levels)) v key ≡ option_or (filtered_says f filters parents (above + 1) v key asks) (looked_up (on_disk_filtered f filters) parents [] (levels_there (drop (above + 1) levels)) v key)
   left_first f within numbered =
       ap (λ (ls : List (Option LevelDesc)). looked_up (on_disk_filtered f filters) parents [] (levels_there ls) v key) (drop_more levels above None within)
@@ -132,7 +132,7 @@ module _ (old mid : DiskView) (filters : List LevelFilters) (levels : List (Opti
     }
 
     pub passing_answers : above < length levels → Passing old mid filters levels parents key v above c d → Asked → decides told ≡ true
-        → (f : Image) (next : ℕ) → old.content ≡ Some f → AreInOrder f (arrays_asked parents levels v) → HaveOwnIds (arrays_there levels) → AreNumbered levels → AreCachedFrom f next (arrays_asked parents levels v) c
+        → (f : Image) (next : ℕ) → old.content ≡ Some f → AreInOrder f (arrays_asked parents levels v) → HaveOwnIds (arrays_there levels) → AreNumberedByPlace levels → AreCachedFrom f next (arrays_asked parents levels v) c
         → TellsFound (looked_up (on_disk_filtered f filters) parents [] (levels_there levels) v key) key before after told
     passing_answers within passing answers some f next exposed ordered own numbered cached =
         let tells = answers f (passing.looks.disk.same ∙ exposed) (may_be_asked passing f next exposed ordered own numbered cached) in
@@ -170,7 +170,7 @@ one_read n a before now reads = record { later = reads.later; bound = omega (ari
 
 -- where the whole of the levels was passed, nothing is found
 pub passed_all : (old now : DiskView) (filters : List LevelFilters) (levels : List (Option LevelDesc)) (parents : Parents) (key : List ℕ) (v above : ℕ) (c d : Blocks) → length levels ≤ above → Passing old now filters levels parents key v above c d
-    → (f : Image) (next : ℕ) → old.content ≡ Some f → AreInOrder f (arrays_asked parents levels v) → HaveOwnIds (arrays_there levels) → AreNumbered levels → AreCachedFrom f next (arrays_asked parents levels v) c
+    → (f : Image) (next : ℕ) → old.content ≡ Some f → AreInOrder f (arrays_asked parents levels v) → HaveOwnIds (arrays_there levels) → AreNumberedByPlace levels → AreCachedFrom f next (arrays_asked parents levels v) c
     → looked_up (on_disk_filtered f filters) parents [] (levels_there levels) v key ≡ None
 passed_all old now filters levels parents key v above c d past passing f next exposed ordered own numbered cached =
     sym (passing.silent f next exposed ordered own numbered cached)
@@ -185,7 +185,7 @@ decided seen.Put other = refl
 -- what level 0 says of a key is what is told, whatever the levels say
 pub looks_here : (content : Option Image) (filters : List LevelFilters) (parents : Parents) (entries : List Entry) (levels : List (Option LevelDesc)) (n : ℕ) (key : List ℕ) (c : Blocks) (out : TheirPairs) (told : Seen)
     → TellsFound (live_of parents entries n key) key [] out told → decides told ≡ true
-    → (f : Image) (next : ℕ) → content ≡ Some f → AreInOrder f (arrays_asked parents levels n) → HaveOwnIds (arrays_there levels) → AreNumbered levels → AreCachedFrom f next (arrays_asked parents levels n) c
+    → (f : Image) (next : ℕ) → content ≡ Some f → AreInOrder f (arrays_asked parents levels n) → HaveOwnIds (arrays_there levels) → AreNumberedByPlace levels → AreCachedFrom f next (arrays_asked parents levels n) c
     → TellsFound (looked_up (on_disk_filtered f filters) parents (entries ∷ []) (levels_there levels) n key) key [] out told
 looks_here content filters parents entries levels n key c out told tells some f next exposed ordered own numbered cached =
     tells_on (live_of parents entries n key) (looked_up (on_disk_filtered f filters) parents [] (levels_there levels) n key) key [] out told tells some
@@ -198,9 +198,9 @@ none_more (Err f) mid out same none = same ∙ none
 -- what level 0 says nothing of is what the levels say
 pub looks_on : (content : Option Image) (filters : List LevelFilters) (parents ps : Parents) (entries : List Entry) (levels : List (Option LevelDesc)) (n : ℕ) (key : List ℕ) (c : Blocks) (mid out : TheirPairs) (r : Result Seen Fault)
     → ps ≡ parents → live_of parents entries n key ≡ None → mid ≡ []
-    → IfOk r (λ seen. (f : Image) (next : ℕ) → content ≡ Some f → AreInOrder f (arrays_asked ps levels n) → HaveOwnIds (arrays_there levels) → AreNumbered levels → AreCachedFrom f next (arrays_asked ps levels n) c
+    → IfOk r (λ seen. (f : Image) (next : ℕ) → content ≡ Some f → AreInOrder f (arrays_asked ps levels n) → HaveOwnIds (arrays_there levels) → AreNumberedByPlace levels → AreCachedFrom f next (arrays_asked ps levels n) c
     → TellsFound (looked_up (on_disk_filtered f filters) ps [] (levels_there levels) n key) key mid out seen)
-    → IfOk r (λ seen. (f : Image) (next : ℕ) → content ≡ Some f → AreInOrder f (arrays_asked parents levels n) → HaveOwnIds (arrays_there levels) → AreNumbered levels → AreCachedFrom f next (arrays_asked parents levels n) c
+    → IfOk r (λ seen. (f : Image) (next : ℕ) → content ≡ Some f → AreInOrder f (arrays_asked parents levels n) → HaveOwnIds (arrays_there levels) → AreNumberedByPlace levels → AreCachedFrom f next (arrays_asked parents levels n) c
     → TellsFound (looked_up (on_disk_filtered f filters) parents (entries ∷ []) (levels_there levels) n key) key [] out seen)
 looks_on content filters parents ps entries levels n key c mid out (Err e) same none empty tells = tt
 looks_on content filters parents ps entries levels n key c mid out (Ok seen) same none empty tells = λ f next exposed ordered own numbered cached.
@@ -208,3 +208,17 @@ looks_on content filters parents ps entries levels n key c mid out (Ok seen) sam
     subst (λ (o : Option Entry). TellsFound (option_or o (rest parents)) key [] out seen) (sym none)
     (subst (λ (p : TheirPairs). TellsFound (rest parents) key p out seen) empty
     (subst (λ (qs : Parents). TellsFound (rest qs) key mid out seen) same (tells f next exposed (subst (λ (qs : Parents). AreInOrder f (arrays_asked qs levels n)) (sym same) ordered) own numbered (subst (λ (qs : Parents). AreCachedFrom f next (arrays_asked qs levels n) c) (sym same) cached))))
+
+-- levels are counted from 1
+pub next_level : (levels : List (Option LevelDesc)) (i : ℕ) → level_numbered levels (i + 1) ≡ get_or levels i None
+next_level = level_next
+
+-- what a search in an array found is what the array says, if its filter does not refuse the key
+pub tell_passed : (content : Option Image) (f : Image) (filters : List LevelFilters) (a : ArrayDesc) (c : Blocks) (parents ps : Parents) (number : ℕ) (key : List ℕ) (v : ℕ) (old new : TheirPairs) (told : Seen) → ps ≡ parents → refuses filters number a.id key ≡ false
+    → content ≡ Some f → MayBeAsked f c a
+    → ((lists : List (List Entry)) → ArrayStands content a.id (blocks_of a.extents) c None lists → IsTrue (is_ascending (all_in lists)) → TellsFound (live_of ps (all_in lists) v key) key old new told)
+    → TellsFound (filtered_says f filters parents number v key (Some a)) key old new told
+tell_passed content f filters a c parents ps number key v old new told same passes exposed may answers =
+    subst (λ (o : Option Entry). TellsFound o key old new told) (sym (passed_one f filters parents number v key a passes))
+    (tell_one content f a c parents key v old new told exposed may
+    (subst (λ (qs : Parents). (lists : List (List Entry)) → ArrayStands content a.id (blocks_of a.extents) c None lists → IsTrue (is_ascending (all_in lists)) → TellsFound (live_of qs (all_in lists) v key) key old new told) same answers))

@@ -46,8 +46,8 @@ filtered_says f filters parents number v key (Some a) =
     live_of parents (shown_unless_refused f filters number a key) v key
 
 -- each level has the number of its place
-abbrev pub AreNumbered : List (Option LevelDesc) → Type 0
-AreNumbered levels = (number : ℕ) (level : LevelDesc)
+abbrev pub AreNumberedByPlace : List (Option LevelDesc) → Type 0
+AreNumberedByPlace levels = (number : ℕ) (level : LevelDesc)
     → level_numbered levels number ≡ Some level → level.number ≡ number
 
 -- each array that is asked at a version has a filter that refuses a key

@@ -81,21 +81,16 @@ pub(crate) fn get<D: Disk>(
         × (result ≢ reply.Found → out.new ≡ []) }
     ensures reads { ReadsArrays
         (arrays_asked held.now.memory.parents held.now.published.levels version)
-        (D.reads disk.old) (D.reads disk.new) }
-    ensures refused { AllRefuse held.now.filters held.now.memory.parents
-        held.now.published.levels version key.now → D.reads disk.new ≡ D.reads disk.old }
+        (D.reads disk.old) (D.reads disk.new)
+        × (AllRefuse held.now.filters held.now.memory.parents held.now.published.levels version
+        key.now → D.reads disk.new ≡ D.reads disk.old) }
 {
     if !held.memory.has(version) {
         return Reply::Refused(Refusal::UnknownVersion);
     }
     match held.memory.find(key, version, out) {
         Seen::None => {
-            let (_, _, tree) = held.memory.parts();
-            let levels = &held.published.levels;
-            let filters = &held.filters;
-            let found = get_from_levels(
-                disk, cache, filters, levels, tree, key, version, scratch, out,
-            );
+            let found = get_from_levels(disk, cache, held, key, version, scratch, out);
             reply_of_get(found)
         }
         seen => reply_of_get(Ok(seen)),

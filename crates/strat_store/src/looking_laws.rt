@@ -68,7 +68,7 @@ pub fn a_scan_and_a_page_tell_of_a_map()
 
 /// A filter of the keys of entries refuses none of them. If the filters of a state's arrays are of their keys, a get that asks
 /// them finds what one finds that asks none.
-pub fn filters_change_no_answer()
+pub fn a_get_that_asks_filters_finds_the_same()
     ensures key { (bits : List Bool) (entries : List Entry) (key : List ℕ)
         → IsFilterOf bits entries → may_hold bits key ≡ false
         → list_any (is_of key) entries ≡ false }

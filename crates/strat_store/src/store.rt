@@ -158,14 +158,14 @@ fn query<D: Disk>(
     ensures same { LooksThrough (D.view disk.old) (D.view disk.new)
         (arrays_held held.old.memory held.old.published.levels) cache.old cache.new
         × ReadsArrays (arrays_wanted (held_of held.old cache.old) (request_of command.now))
+        (D.reads disk.old) (D.reads disk.new)
+        × SkipsRefusing (held_of held.old cache.old) (request_of command.now)
         (D.reads disk.old) (D.reads disk.new) }
     ensures cause { FailsAsTold (D.faults disk.old) (D.faults disk.new) result
         × TellsTroubleOf (D.view disk.old) (held_of held.old cache.old)
         (request_of command.now) result }
     ensures damaged { (b : ℕ) → result ≡ reply.Refused (why.Damaged b)
         → IsDamagedIn (D.view disk.old).content held.old.memory held.old.published.levels b }
-    ensures refused { SkipsRefusing (held_of held.old cache.old) (request_of command.now)
-        (D.reads disk.old) (D.reads disk.new) }
 {
     match *command {
         Command::Get { version, key } => get(held, cache, scratch, disk, version, key, out),
@@ -224,6 +224,8 @@ fn answer<D: Disk>(
         × LeavesCursors (held_of held.old cache.old) (request_of command.now)
         (as_told result out.new) (held_after held.new cache.new result)
         × ReadsForLook (held_of held.old cache.old) (request_of command.now)
+        (D.reads disk.old) (D.reads disk.new)
+        × SkipsRefusing (held_of held.old cache.old) (request_of command.now)
         (D.reads disk.old) (D.reads disk.new) }
     ensures time { Passes (D.view disk.old) (D.view disk.new) }
     ensures cause { FailsAsTold (D.faults disk.old) (D.faults disk.new) result
@@ -231,8 +233,6 @@ fn answer<D: Disk>(
         (request_of command.now) result }
     ensures damaged { (b : ℕ) → result ≡ reply.Refused (why.Damaged b)
         → IsDamagedIn (D.view disk.old).content held.old.memory held.old.published.levels b }
-    ensures refused { SkipsRefusing (held_of held.old cache.old) (request_of command.now)
-        (D.reads disk.old) (D.reads disk.new) }
 {
     match change_asked(command) {
         Some(asked) => change(alloc, held, disk, &asked),
@@ -323,8 +323,8 @@ impl Store {
         ensures cause { FailsAsTold (D.faults disk.old) (D.faults disk.new) result
             × TellsTroubleOf (D.view disk.old) self.old (request_of command.now) result }
         ensures reads { ReadsForLook self.old (request_of command.now)
-            (D.reads disk.old) (D.reads disk.new) }
-        ensures refused { SkipsRefusing self.old (request_of command.now)
+            (D.reads disk.old) (D.reads disk.new)
+            × SkipsRefusing self.old (request_of command.now)
             (D.reads disk.old) (D.reads disk.new) }
         ensures damaged { (b : ℕ) → result ≡ reply.Refused (why.Damaged b)
             → IsDamagedIn (D.view disk.old).content self.old.memory self.old.levels b }

@@ -18,6 +18,7 @@ use Rattle.def_bytes.specs.Arrays.{block_on, blocks_of, entries_on}
 use Rattle.def_bytes.specs.Block.{block_bytes, block_in, entries_in}
 use Rattle.def_recovery.specs.Asked.{asked}
 use Rattle.def_state.specs.LookUp.{first_live}
+use Rattle.strat_store.specs.Filtering.{asked_filtered}
 use Rattle.strat_store.specs.Ranging.{AreReadAs, IsMapAsked}
 use Rattle.strat_store_pins.specs.Examples.{array_in, children_apart, one_block, with_cached}
 
@@ -62,6 +63,11 @@ asked_is key =
     by : (b : Bool) → option_and_then (λ e. e.value) (option_or (cond b (Some (says 97 1 49)) None) None) ≡ option_and_then (λ (e : Entry). e.value) (cond b (Some (says 97 1 49)) None)
     by true = refl
     by false = refl
+
+-- and for a get that has no filter to ask
+pub filtered_is : (key : List ℕ) → asked_filtered one_block children_apart.filters children_apart.memory.parents ([] ∷ []) (levels_there children_apart.levels) 1 key ≡ option_and_then (λ e. e.value) (cond (bytes_eq (97 ∷ []) key) (Some (says 97 1 49)) None)
+unfolding climb
+filtered_is key = asked_is key
 
 back : (x y : List ℕ) → bytes_eq x y ≡ bytes_eq y x
 back x y = by (bytes_eq x y) (bytes_eq y x) refl refl

@@ -65,6 +65,7 @@ returns-in-Some-clause-same g c =
       subst (λ (pairs : Pairs). LeavesCursors old (request_of c.args.command.now) (as_told c.change.result pairs) new) (sym c.requires.room)
           (subst (λ (r : Request). LeavesCursors old r (plain c.change.result) new) (wanted_for (request_of c.args.command.now) _ c.in-Some.ensures) leaves.1),
       reads_no_look old (request_of c.args.command.now) _ _ _ c.in-Some.ensures,
+      skips_no_get old (request_of c.args.command.now) _ _ _ c.in-Some.ensures,
     )
 
 pub returns-in-None-clause-same : goal.returns-in-None-clause-same
@@ -83,10 +84,8 @@ returns-in-None-clause-same g c =
           (ap (λ (b : Bool). b && accepts c.query.result) still) c.query.ensures.same.0.disk,
       query_leaves c.args.held.now c.query.new.held c.args.cache.now c.query.new.cache (request_of c.args.command.now) (as_told c.query.result c.query.new.out) (is_fault c.query.result) c.in-None.ensures c.query.ensures.state,
       λ none. c.query.ensures.same.1,
+      c.query.ensures.same.2,
     )
 
 pub returns-in-Some-clause-found : goal.returns-in-Some-clause-found
 returns-in-Some-clause-found g c = λ old f exposed calm. tells_from_wanted f (held_of c.args.held.now c.args.cache.now) (request_of c.args.command.now) _ _ c.in-Some.ensures
-
-pub returns-in-Some-clause-refused : goal.returns-in-Some-clause-refused
-returns-in-Some-clause-refused g c = skips_no_get (held_of c.args.held.now c.args.cache.now) (request_of c.args.command.now) _ _ _ c.in-Some.ensures

@@ -68,10 +68,9 @@ returns-clause-trail g c =
 
 pub returns-clause-reads : goal.returns-clause-reads
 returns-clause-reads g c =
-    rw (← c.self.view_is)
-    (spent_reads (held_of c.self.inside.held c.self.inside.cache) c.self.inside.spent (request_of c.args.command.now) (g.D.Disk.reads c.args.disk.now) (g.D.Disk.reads c.answer-told.new.disk) c.answer-told.ensures.same.3)
-
-pub returns-clause-refused : goal.returns-clause-refused
-returns-clause-refused g c =
-    rw (← c.self.view_is)
-    (spent_skips (held_of c.self.inside.held c.self.inside.cache) c.self.inside.spent (request_of c.args.command.now) (g.D.Disk.reads c.args.disk.now) (g.D.Disk.reads c.answer-told.new.disk) c.answer-told.ensures.refused)
+    let before = g.D.Disk.reads c.args.disk.now in
+    let now = g.D.Disk.reads c.answer-told.new.disk in
+    rw (← c.self.view_is) (
+      spent_reads (held_of c.self.inside.held c.self.inside.cache) c.self.inside.spent (request_of c.args.command.now) before now c.answer-told.ensures.same.3,
+      spent_skips (held_of c.self.inside.held c.self.inside.cache) c.self.inside.spent (request_of c.args.command.now) before now c.answer-told.ensures.same.4,
+    )

@@ -1,5 +1,5 @@
 use Rattle.strat_store.proofs.FilteringLemmas.{none_of, state_filtered}
-use Rattle.strat_store.proofs.looking_laws.filters_change_no_answer.Goals as goal
+use Rattle.strat_store.proofs.looking_laws.a_get_that_asks_filters_finds_the_same.Goals as goal
 
 pub returns : goal.returns
 returns c = record {
