@@ -12,3 +12,4 @@ pub mod ThreeTests
 pub mod NumbersLemmas
 pub mod PayingLemmas
 pub mod OnDiskLemmas
+pub mod FilterLemmas
