@@ -1,6 +1,6 @@
 //! The filters of the arrays that a store made since it was opened, in memory alone.
 
-ghost use Rattle.std.specs.Prelude.{◌≡◌, ◌≤◌, ◌-◌, [], length, replicate, slice_index_or, is_some};
+ghost use Rattle.std.specs.Prelude.{◌≡◌, ◌≤◌, ◌-◌, ◌++◌, length, drop, replicate, slice_index_or, is_some};
 ghost use Rattle.std.specs.Option.{option_copied};
 ghost use Rattle.strat_memory.specs.Filters.{filter_at, filter_of, filters_after, no_filters, refuses as refused};
 
@@ -29,7 +29,7 @@ impl Model for LevelFilters {
 impl LevelFilters {
     /// These filters, of arrays that are numbered from one on. It takes no memory.
     pub fn new(first: u64, kept: Vec<Option<Filter>>) -> LevelFilters
-        ensures ok { result ≡ record { first = first; kept = kept } }
+        ensures ok { result ≡ record { first = first; kept = kept.items } }
     {
         LevelFilters { first, kept }
     }
@@ -57,6 +57,16 @@ impl LevelFilters {
         } else {
             None
         }
+    }
+}
+
+/// Lets the filters of the first levels go. It takes no memory.
+fn clear(alloc: Global, levels: &mut [LevelFilters], count: usize)
+    requires room { count ≤ length levels.old }
+    ensures ok { levels.new ≡ replicate count no_filters ++ drop count levels.old }
+{
+    for i in 0..count {
+        levels[i] = LevelFilters::none(alloc);
     }
 }
 
@@ -144,9 +154,7 @@ impl Filters {
         ensures ok { self.new ≡ filters_after self.old target made }
         ensures len { length self.new ≡ 22 }
     {
-        for number in 1..target {
-            self.levels[number - 1] = LevelFilters::none(alloc);
-        }
+        clear(alloc, &mut self.levels, target - 1);
         self.levels[target - 1] = made;
     }
 }
