@@ -1,6 +1,6 @@
 -- Filters are of the keys of the arrays that a store stands on: a get that asks them finds what one does that asks none.
-use Rattle.std.proofs.Common.{◌≡◌, ◌≤◌, ◌<◌, ◌+◌, ℕ, zero, suc, Bool, true, false, eqb, get_or, inl, inr, List, [], ◌∷◌, length, map, Contains, Option, Some, None, refl, sym, ap, ◌∙◌, subst, arith, true≢false}
-use Rattle.std.proofs.lemmas.Bool.{eqb-refl, eqb-true, not-true}
+use Rattle.std.proofs.Common.{◌≡◌, ◌≤◌, ◌<◌, ◌+◌, ℕ, zero, suc, Bool, true, false, get_or, inl, inr, List, [], ◌∷◌, length, map, Contains, Option, Some, None, refl, sym, ap, ◌∙◌, subst, arith, true≢false, eq-eqb}
+use Rattle.std.proofs.lemmas.Bool.{cases_lt, eqb-true, not-true}
 use Rattle.std.specs.Prelude.{if◌then◌else◌, is_some}
 use Rattle.std.specs.List.{list_any, find, filter_map, cons_option}
 use Rattle.std.specs.Option.{option_and_then, option_map, option_or, unwrap_or}
@@ -88,7 +88,7 @@ module _ (c : Image) (filters : List LevelFilters) (parents : Parents) (v : ℕ)
   levels_agree : (ds : List LevelDesc) → AreSilent ds → first_live parents (filter_map (place_in (on_disk_filtered c filters) parents v key) ds) v key ≡ first_live parents (filter_map (place_in (on_disk c) parents v key) ds) v key
   levels_agree [] silent = refl
   levels_agree (d ∷ ds) silent =
-      ap (λ (o : Option (ℕ × ArrayDesc)). first_live parents (cons_option (option_map (λ one. shown_unless_refused c filters one.0 one.1 key) o) passed) v key) (find_numbered d.number (is_for (below parents v d.horizon)) d.arrays)
+      ap (λ (o : Option (ℕ × ArrayDesc)). first_live parents (cons_option (option_map (λ (one : ℕ × ArrayDesc). shown_unless_refused c filters one.0 one.1 key) o) passed) v key) (find_numbered d.number (is_for (below parents v d.horizon)) d.arrays)
       ∙ by (find (is_for (below parents v d.horizon)) d.arrays)
       (λ a found. one d.number a (silent d a (inl refl) (find_some (is_for (below parents v d.horizon)) d.arrays a found).0))
       (levels_agree ds (λ e a of among. silent e a (inr of) among))
@@ -100,7 +100,7 @@ module _ (c : Image) (filters : List LevelFilters) (parents : Parents) (v : ℕ)
       later = filter_map (place_in (on_disk c) parents v key) ds
 
       by : (o : Option ArrayDesc) → ((a : ArrayDesc) → o ≡ Some a → live_of parents (shown_unless_refused c filters d.number a key) v key ≡ live_of parents (on a) v key) → first_live parents passed v key ≡ first_live parents later v key
-          → first_live parents (cons_option (option_map (λ one. shown_unless_refused c filters one.0 one.1 key) (option_map (λ a. (d.number, a)) o)) passed) v key
+          → first_live parents (cons_option (option_map (λ (one : ℕ × ArrayDesc). shown_unless_refused c filters one.0 one.1 key) (option_map (λ a. (d.number, a)) o)) passed) v key
           ≡ first_live parents (cons_option (option_map on o) later) v key
       by None each rest = rest
       by (Some a) each rest = λ i. option_or (each a refl i) (rest i)
@@ -192,7 +192,7 @@ keeps_to filters levels number id level placed keeps =
     let same : keeps.level ≡ level = cc in
     let among = contained_among level.arrays keeps.array (subst (λ (l : LevelDesc). Contains l.arrays keeps.array) same keeps.listed) in (
       ap (λ (o : Option (List Bool)). is_some o) keeps.kept,
-      any_from (has_id id) keeps.array level.arrays among (ap (λ (n : ℕ). eqb n id) keeps.named ∙ eqb-refl id),
+      any_from (has_id id) keeps.array level.arrays among (eq-eqb keeps.array.id id keeps.named),
     )
 
 past_last : (levels : List (Option LevelDesc)) (i : ℕ) → length levels ≤ i → get_or levels i None ≡ None
@@ -201,12 +201,28 @@ past_last (level ∷ levels) zero past = absurd (omega (arith, past))
 past_last (level ∷ levels) (suc i) past = past_last levels i (omega (arith, past))
 
 -- no filter is kept of the arrays of level 0, or of a level past the last
-pub keeps_past : (filters : List LevelFilters) (levels : List (Option LevelDesc)) (number id : ℕ) → length levels < number → KeepsFilterAt filters levels number id → ⊥
+keeps_past : (filters : List LevelFilters) (levels : List (Option LevelDesc)) (number id : ℕ) → length levels < number → KeepsFilterAt filters levels number id → ⊥
 keeps_past filters levels zero id past keeps = absurd (omega (arith, past))
 keeps_past filters levels (suc i) id past keeps =
     let next : i + 1 ≡ suc i = omega arith in
     let none : Some keeps.level ≡ None = sym keeps.placed ∙ ap (λ (n : ℕ). level_numbered levels n) (sym next) ∙ next_level levels i ∙ past_last levels i (omega (arith, past)) in
     absurd (cc)
 
-pub keeps_none : (filters : List LevelFilters) (levels : List (Option LevelDesc)) (id : ℕ) → KeepsFilterAt filters levels 0 id → ⊥
-keeps_none filters levels id keeps = let none : None ≡ Some keeps.level = keeps.placed in absurd (cc)
+pub keeps_none : (filters : List LevelFilters) (levels : List (Option LevelDesc)) (id n : ℕ) → n < 1 → KeepsFilterAt filters levels n id → ⊥
+keeps_none filters levels id zero low keeps = let none : None ≡ Some keeps.level = keeps.placed in absurd (cc)
+keeps_none filters levels id (suc n) low keeps = absurd (omega (arith, low))
+
+-- none of the levels below a number keeps one, and then none up to it
+pub keeps_no_more : (filters : List LevelFilters) (levels : List (Option LevelDesc)) (id k : ℕ) → ((n : ℕ) → n < k → KeepsFilterAt filters levels n id → ⊥) → (KeepsFilterAt filters levels k id → ⊥)
+    → (n : ℕ) → n < k + 1 → KeepsFilterAt filters levels n id → ⊥
+keeps_no_more filters levels id k below here n low keeps = elim (cases_lt n k) [
+  | inl less ↦ below n less keeps
+  | inr past ↦ let same : n ≡ k = omega (arith, low, past) in here (subst (λ (m : ℕ). KeepsFilterAt filters levels m id) same keeps)
+]
+
+-- nor any past the last
+pub keeps_nowhere : (filters : List LevelFilters) (levels : List (Option LevelDesc)) (id k : ℕ) → length levels < k → ((n : ℕ) → n < k → KeepsFilterAt filters levels n id → ⊥) → KeepsFilter filters levels id → ⊥
+keeps_nowhere filters levels id k few below keeps = elim (cases_lt keeps.0 k) [
+  | inl less ↦ below keeps.0 less keeps.1
+  | inr past ↦ keeps_past filters levels keeps.0 id (omega (arith, few, past)) keeps.1
+]

@@ -60,14 +60,14 @@ said_first : (f : Image) (filters : List LevelFilters) (parents : Parents) (n v 
     ≡ option_or (filtered_says f filters parents n v key (option_and_then (λ l. desc_for parents l v) level)) (looked_up (on_disk_filtered f filters) parents [] (levels_there levels) v key)
 said_first f filters parents n v key None levels numbered = refl
 said_first f filters parents n v key (Some level) levels numbered =
-    ap (λ (o : Option (ℕ × ArrayDesc)). first_live parents (cons_option (option_map (λ one. shown_unless_refused f filters one.0 one.1 key) o) rest) v key) (find_numbered level.number (is_for (below parents v level.horizon)) level.arrays)
+    ap (λ (o : Option (ℕ × ArrayDesc)). first_live parents (cons_option (option_map (λ (one : ℕ × ArrayDesc). shown_unless_refused f filters one.0 one.1 key) o) rest) v key) (find_numbered level.number (is_for (below parents v level.horizon)) level.arrays)
     ∙ by (desc_for parents level v)
     ∙ ap (λ (m : ℕ). option_or (filtered_says f filters parents m v key (desc_for parents level v)) (first_live parents rest v key)) (numbered level refl)
   where
     rest : List (List Entry)
-    rest = filter_map (λ (l : LevelDesc). option_map (λ one. shown_unless_refused f filters one.0 one.1 key) (array_asked (on_disk_filtered f filters) parents l v)) (levels_there levels)
+    rest = filter_map (λ (l : LevelDesc). option_map (λ (one : ℕ × ArrayDesc). shown_unless_refused f filters one.0 one.1 key) (array_asked (on_disk_filtered f filters) parents l v)) (levels_there levels)
 
-    by : (o : Option ArrayDesc) → first_live parents (cons_option (option_map (λ one. shown_unless_refused f filters one.0 one.1 key) (option_map (λ a. (level.number, a)) o)) rest) v key
+    by : (o : Option ArrayDesc) → first_live parents (cons_option (option_map (λ (one : ℕ × ArrayDesc). shown_unless_refused f filters one.0 one.1 key) (option_map (λ a. (level.number, a)) o)) rest) v key
         ≡ option_or (filtered_says f filters parents level.number v key o) (first_live parents rest v key)
     by None = refl
     by (Some a) = refl
@@ -136,7 +136,7 @@ module _ (old mid : DiskView) (filters : List LevelFilters) (levels : List (Opti
         → TellsFound (looked_up (on_disk_filtered f filters) parents [] (levels_there levels) v key) key before after told
     passing_answers within passing answers some f next exposed ordered own numbered cached =
         let tells = answers f (passing.looks.disk.same ∙ exposed) (may_be_asked passing f next exposed ordered own numbered cached) in
-        subst (λ (o : Option Entry). TellsFound o key before after told) (sym (left_first f within) ∙ passing.silent f next exposed ordered own numbered cached)
+        subst (λ (o : Option Entry). TellsFound o key before after told) (sym (left_first f within numbered) ∙ passing.silent f next exposed ordered own numbered cached)
         (tells_on _ (looked_up (on_disk_filtered f filters) parents [] (levels_there (drop (above + 1) levels)) v key) key before after told tells some)
 
 -- how many reads are left
