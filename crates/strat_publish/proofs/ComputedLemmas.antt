@@ -225,6 +225,6 @@ module _ (v : DiskView) (s : SpaceView) (m : Memory) (levels : List (Option Leve
         filtered = λ before of.
             let on : AreFiltersOn at.content (arrays_made made) filters = keeps f at.content (contents_state x) may.stands.exposed at.exposed may.stands.sound mem_is holds used in
             filtered_after before target filters low made_here.says.fresh x.levels of
-            (fresh_numbered at.content made made_here.says.fresh target made_here.says.read made_here.numbered)
-            (fresh_filtered at.content made made_here.says.fresh filters made_here.says.read on);
+            (fresh_numbered at.content made made_here.says.fresh made_here.says.read target made_here.numbered)
+            (fresh_filtered at.content made made_here.says.fresh made_here.says.read filters on);
       }
