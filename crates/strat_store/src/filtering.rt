@@ -22,9 +22,7 @@ fn keeps_filter_at(filters: &Filters, levels: &Levels, number: usize, id: u64) -
     ensures none { result ≡ false → ¬ KeepsFilterAt filters.now levels.now number id }
 {
     match levels.get(number) {
-        Some(level) => {
-            filters.has(number, id) && has_array(level.desc().arrays.as_slice(), id)
-        }
+        Some(level) => { filters.has(number, id) && has_array(level.desc().arrays.as_slice(), id) }
         None => false,
     }
 }
