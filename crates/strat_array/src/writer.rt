@@ -156,7 +156,6 @@ impl ArrayWriter {
     /// Adds an entry that stands behind all others. O(bytes of the entry), and where it has no room in
     /// the block so far, that block is written into the lowest free one: one write. A filter that is kept has its key
     /// added. After an error the writer is good for nothing but its extents.
-    #[tactic(auto, using(crate::proofs::FilterLemmas::key_added))]
     pub fn push<D: Disk>(
         &mut self,
         e: &Entry<'_>,
