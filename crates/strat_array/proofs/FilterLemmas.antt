@@ -1,12 +1,12 @@
 -- Filters of the keys that are pushed into an array.
-use Rattle.std.proofs.Common.{◌≡◌, ◌<◌, ◌≤◌, ◌+◌, ◌*◌, ◌/◌, ℕ, Bool, false, List, [], ◌∷◌, ◌++◌, map, length, replicate, Option, None, Some, refl, sym, ap, ◌∙◌, subst, arith, length-append}
+use Rattle.std.proofs.Common.{◌≡◌, ◌≤◌, ◌+◌, ◌*◌, ℕ, Bool, false, List, [], ◌∷◌, ◌++◌, map, replicate, Option, None, Some, refl, sym, ap, ◌∙◌, subst, arith, length-append}
 use Rattle.std.specs.List.{fold}
 use Rattle.std.specs.Option.{IfSome}
 use Rattle.std.proofs.lemmas.Nat.{mod_below}
 use Rattle.std.proofs.Math.Nat.{div-add-mod}
 use Rattle.strat_base.specs.Entries.{Entry}
 use Rattle.def_crash.specs.Image.{Image}
-use Rattle.strat_filter.specs.Bits.{bits_after, bits_for, fnv, with_hash}
+use Rattle.strat_filter.specs.Bits.{bits_for, fnv, with_hash}
 use Rattle.strat_filter.specs.Keys.{IsFilterOf}
 use Rattle.strat_array.specs.Progress.{ArrayProgress}
 use Rattle.strat_array.specs.Pushed.{IsPushed, IsWritten, with_key}

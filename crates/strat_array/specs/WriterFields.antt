@@ -9,7 +9,11 @@ use Rattle.strat_array.specs.declared.writer.ArrayWriter.TheInside.{Inside}
 abbrev pub progress_of : Inside → ArrayProgress
 progress_of w =
     record {
-      id = w.id; count = w.count; pending = w.pending.value; extents = w.extents; filter = w.filter
+      id = w.id;
+      count = w.count;
+      pending = w.pending.value;
+      extents = w.extents;
+      filter = w.filter;
     }
 
 -- the extents are maximal and within the file, and there are no more blocks than entries, nor too many of these

@@ -21,7 +21,11 @@ pub fn entries_stay_pushed()
         → AgreeOn (blocks_of w.extents) f g → IsPushed f w es → IsPushed g w es }
     ensures none { (f : Image) (id : ℕ)
         → IsPushed f (record {
-          id = id; count = 0; pending = []; extents = []; filter = None
+          id = id;
+          count = 0;
+          pending = [];
+          extents = [];
+          filter = None;
         }) [] }
     ensures kept { (f : Image) (w : ArrayProgress) (es : List TheEntry) → IsPushed f w es
         → IsTrue (is_ascending es) → IsTrue (is_ascending w.pending) }
