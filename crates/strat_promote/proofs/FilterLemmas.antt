@@ -1,5 +1,5 @@
 -- Filters of the arrays that a promotion makes.
-use Rattle.std.proofs.Common.{◌≡◌, ◌<◌, ◌≤◌, ◌+◌, ◌-◌, ◌++◌, ℕ, zero, suc, Bool, List, [], ◌∷◌, length, map, Option, None, Some, refl, sym, ap, ◌∙◌, subst, arith}
+use Rattle.std.proofs.Common.{◌≡◌, ◌<◌, ◌≤◌, ◌+◌, ◌-◌, ◌++◌, ℕ, zero, suc, Bool, List, [], ◌∷◌, length, map, set, Option, None, Some, refl, sym, ap, ◌∙◌, subst, arith}
 use Rattle.std.specs.List.{slice_get, Contains}
 use Rattle.std.specs.Option.{IfSome}
 use Rattle.std.proofs.lemmas.Option.{slice_get_read, slice_get_within}
@@ -26,6 +26,32 @@ use Rattle.strat_promote.proofs.MadeLemmas.{there_at}
 -- what is known of a filter of an array
 abbrev IsOf : Image → ArrayDesc → List Bool → Type 0
 IsOf g a bits = (es : List Entry) → entries_on g (blocks_of a.extents) ≡ Some es → IsFilterOf bits es
+
+-- past the last writer no filter is kept
+pub none_past : (writers : List ArrayProgress) (q : ℕ) → length writers ≤ q → None ≡ filter_kept writers q
+none_past [] q past = refl
+none_past (w ∷ writers) zero past = absurd (omega (arith, past))
+none_past (w ∷ writers) (suc q) past = none_past writers q (omega (arith, past))
+
+pub same_past : (writers : List ArrayProgress) (q : ℕ) → length writers ≤ q → writers ≡ without_filter writers q
+same_past [] q past = refl
+same_past (w ∷ writers) zero past = absurd (omega (arith, past))
+same_past (w ∷ writers) (suc q) past = ap (λ (ws : List ArrayProgress). w ∷ ws) (same_past writers q (omega (arith, past)))
+
+-- the filter of a writer at its place
+pub kept_at : (writers : List ArrayProgress) (q : ℕ) (w : ArrayProgress) → slice_get writers q ≡ Some w → filter_kept writers q ≡ w.filter
+kept_at [] q w e = absurd (cc)
+kept_at (x ∷ writers) zero w e = let same : x ≡ w = cc in ap (λ (y : ArrayProgress). y.filter) same
+kept_at (x ∷ writers) (suc q) w e = kept_at writers q w e
+
+-- it is taken
+pub set_without : (writers : List ArrayProgress) (q : ℕ) (w x : ArrayProgress) → slice_get writers q ≡ Some w → x ≡ record w { filter = None } → set writers q x ≡ without_filter writers q
+set_without [] q w x e is = absurd (cc)
+set_without (y ∷ writers) zero w x e is =
+    let both : Some y ≡ Some w = e in
+    let same : w ≡ y = cc in
+    ap (λ (z : ArrayProgress). z ∷ writers) (is ∙ ap (λ (z : ArrayProgress). record z { filter = None }) same)
+set_without (y ∷ writers) (suc q) w x e is = ap (λ (ws : List ArrayProgress). y ∷ ws) (set_without writers q w x e is)
 
 -- writers of which one keeps no filter have the same blocks
 all_without : (writers : List ArrayProgress) (q : ℕ) → all_extents (without_filter writers q) ≡ all_extents writers
@@ -70,11 +96,6 @@ filter_found g first writers made id bits a es le kept filtered (k, lt, at) name
     let same : id - first ≡ k = omega (arith, number, named, le) in
     let here : filter_kept writers k ≡ Some bits = ap (filter_kept writers) (sym same) ∙ kept in
     (subst (λ (o : Option (List Bool)). IfSome o (IsOf g a)) here (filtered.each k a there)) es on
-
-kept_at : (writers : List ArrayProgress) (q : ℕ) (w : ArrayProgress) → slice_get writers q ≡ Some w → filter_kept writers q ≡ w.filter
-kept_at [] q w e = absurd (cc)
-kept_at (x ∷ writers) zero w e = (let same : x ≡ w = cc in ap (λ (y : ArrayProgress). y.filter) same)
-kept_at (x ∷ writers) (suc q) w e = kept_at writers q w e
 
 -- a filter of what was pushed is one of what blocks have that have it
 filter_of_blocks : (g : Image) (filter : Option (List Bool)) (a : ArrayDesc) (content : List Entry) → entries_on g (blocks_of a.extents) ≡ Some content → IfSome filter (λ bits. IsFilterOf bits content)

@@ -23,7 +23,6 @@ use strat_tree::Tree;
 
 /// Has a new writer keep a filter for so many entries, if an array may have them and there is memory for it. Without one its
 /// array is read where a filter would have refused the key.
-#[tactic(auto, using(crate::proofs::PlanningLemmas::kept_new))]
 fn try_filter(writer: &mut ArrayWriter, alloc: Global, entries: u32)
     ensures ok { (id : ℕ) → IsNew id writer.old → IsNew id writer.new }
 {
@@ -34,7 +33,6 @@ fn try_filter(writer: &mut ArrayWriter, alloc: Global, entries: u32)
 
 /// A writer of the array of this number, for so many entries. It takes a block of memory, and a byte for each entry if there
 /// is memory for these.
-#[tactic(auto, using(crate::proofs::PlanningLemmas::one_new))]
 fn new_writer(alloc: Global, id: u64, entries: u32) -> Result<ArrayWriter, NoMemory>
     ensures ok { IfOk result (λ w. IsNew id w) }
 {
