@@ -1,5 +1,4 @@
-use Rattle.std.proofs.Common.{◌≡◌, ◌≤◌, ◌-◌, Some, refl, sym, arith}
-use Rattle.strat_promote.specs.Filters.{filter_kept}
+use Rattle.std.proofs.Common.{◌≤◌, refl, sym, arith}
 use Rattle.strat_promote.specs.Stages.{stage_writers}
 use Rattle.strat_promote.proofs.FilterLemmas.{filter_found, same_blocks, still_filtered, still_owned}
 use Rattle.strat_promote.proofs.promotion.Promotion.take_filter.Goals as goal
