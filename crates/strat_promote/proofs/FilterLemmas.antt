@@ -16,8 +16,9 @@ use Rattle.strat_filter.specs.Keys.{IsFilterOf}
 use Rattle.strat_merge.specs.Runs.{RunView}
 use Rattle.strat_split.specs.PlanSeen.{plan_seen}
 use Rattle.strat_promote.specs.Closing.{AreSealed, IsDescribed, all_extents}
-use Rattle.strat_promote.specs.Filters.{AreFiltered, arrays_made, filter_kept, without_filter}
+use Rattle.strat_promote.specs.Filters.{AreFiltered, filter_kept, without_filter}
 use Rattle.strat_promote.specs.Job.{Job, groups_kept, part_content}
+use Rattle.strat_promote.specs.Opening.{arrays_if_any}
 use Rattle.strat_promote.specs.Owned.{OwnsItsBlocks}
 use Rattle.strat_promote.specs.Written.{IsAllWritten}
 use Rattle.strat_promote.specs.declared.second_pass.Writing.{Writing}
@@ -89,9 +90,9 @@ still_filtered g first writers now q made is filtered = subst (λ (ws : List Arr
 
 -- a filter that is taken by the number of its array is that array's
 pub filter_found : (g : Image) (first : ℕ) (writers : List ArrayProgress) (made : Option LevelDesc) (id : ℕ) (bits : List Bool) (a : ArrayDesc) (es : List Entry) → first ≤ id
-    → filter_kept writers (id - first) ≡ Some bits → AreFiltered g first writers made → Contains (arrays_made made) a → a.id ≡ id → entries_on g (blocks_of a.extents) ≡ Some es → IsFilterOf bits es
+    → filter_kept writers (id - first) ≡ Some bits → AreFiltered g first writers made → Contains (arrays_if_any made) a → a.id ≡ id → entries_on g (blocks_of a.extents) ≡ Some es → IsFilterOf bits es
 filter_found g first writers made id bits a es le kept filtered (k, lt, at) named on =
-    let there : slice_get (arrays_made made) k ≡ Some a = slice_get_read (arrays_made made) _ k a refl lt (sym at) in
+    let there : slice_get (arrays_if_any made) k ≡ Some a = slice_get_read (arrays_if_any made) _ k a refl lt (sym at) in
     let number = filtered.numbered k a there in
     let same : id - first ≡ k = omega (arith, number, named, le) in
     let here : filter_kept writers k ≡ Some bits = ap (filter_kept writers) (sym same) ∙ kept in

@@ -12,7 +12,7 @@ use Rattle.strat_array.specs.Progress.{ArrayProgress}
 use Rattle.strat_array.specs.Taking.{AreUsed}
 use Rattle.def_bytes.specs.Arrays.{blocks_of}
 use Rattle.strat_array.proofs.TakesLemmas.{used_agree}
-use Rattle.strat_extent.specs.Blocks.{SpaceView, is_free, used_count}
+use Rattle.strat_extent.specs.Blocks.{SpaceView, is_free}
 use Rattle.strat_merge.specs.MergerFields.{views_of}
 use Rattle.strat_merge.specs.Runs.{ReadsLeft}
 use Rattle.strat_promote.specs.InputFields.{input_seen}

@@ -8,7 +8,6 @@ use Rattle.strat_base.specs.Entries.{Entry, is_ascending}
 use Rattle.strat_base.specs.Order.{key_cmp}
 use Rattle.strat_base.specs.declared.descriptors.ArrayDesc.{ArrayDesc}
 use Rattle.def_crash.specs.Image.{Image}
-use Rattle.def_bytes.specs.Arrays.{blocks_of, entries_on}
 use Rattle.strat_live.specs.Counting.{IsTally}
 use Rattle.strat_live.specs.Tallies.{Tallies}
 use Rattle.strat_merge.specs.Runs.{RunView, lefts, blocks_left, IsBadFor}

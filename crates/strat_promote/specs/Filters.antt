@@ -8,11 +8,7 @@ use Rattle.strat_base.specs.declared.descriptors.LevelDesc.{LevelDesc}
 use Rattle.strat_filter.specs.Keys.{IsFilterOf}
 use Rattle.def_crash.specs.Image.{Image}
 use Rattle.def_bytes.specs.Arrays.{blocks_of, entries_on}
-
--- the arrays of a level, if there is one
-abbrev pub arrays_made : Option LevelDesc → List ArrayDesc
-arrays_made None = []
-arrays_made (Some level) = level.arrays
+use Rattle.strat_promote.specs.Opening.{arrays_if_any}
 
 -- the filter that the writer at a place keeps
 abbrev pub filter_kept : List ArrayProgress → ℕ → Option (List Bool)
@@ -30,8 +26,8 @@ without_filter (w ∷ writers) (suc q) = w ∷ without_filter writers q
 -- in an image
 pub record AreFiltered (g : Image) (first : ℕ) (writers : List ArrayProgress)
     (made : Option LevelDesc) : Type 0 where
-  pub numbered : (q : ℕ) (a : ArrayDesc) → slice_get (arrays_made made) q ≡ Some a
+  pub numbered : (q : ℕ) (a : ArrayDesc) → slice_get (arrays_if_any made) q ≡ Some a
       → a.id ≡ first + q
-  pub each : (q : ℕ) (a : ArrayDesc) → slice_get (arrays_made made) q ≡ Some a
+  pub each : (q : ℕ) (a : ArrayDesc) → slice_get (arrays_if_any made) q ≡ Some a
       → IfSome (filter_kept writers q) (λ bits. (es : List Entry)
       → entries_on g (blocks_of a.extents) ≡ Some es → IsFilterOf bits es)

@@ -13,8 +13,9 @@ use Rattle.strat_level.specs.Memtable.{ItemList}
 use Rattle.strat_level.specs.Target.{IsTarget}
 use Rattle.strat_promote.specs.Budget.{IsNearLimit}
 use Rattle.strat_promote.specs.Closing.{all_extents}
-use Rattle.strat_promote.specs.Filters.{AreFiltered, arrays_made}
+use Rattle.strat_promote.specs.Filters.{AreFiltered}
 use Rattle.strat_promote.specs.Job.{Job, input_count}
+use Rattle.strat_promote.specs.Opening.{arrays_if_any}
 use Rattle.strat_promote.specs.Owned.{OwnsItsBlocks}
 use Rattle.strat_promote.specs.Stages.{IsSteady, IsUnderway, IsMade, IsReadFrom, IsReadOf, stage_writers, stage_consumed, blocks_due}
 use Rattle.strat_promote.specs.Steps.{Inputs, IsReadySource, IsTaskIn}
@@ -118,7 +119,7 @@ level_of p = p.level
 
 -- the arrays of the level that it made
 abbrev pub arrays_of : Promotion → List ArrayDesc
-arrays_of p = arrays_made p.level
+arrays_of p = arrays_if_any p.level
 
 -- the filters that it keeps of the arrays that it made are of exactly the keys that these have in an image
 abbrev pub FiltersStand : Image → Promotion → Type 0

@@ -1,4 +1,4 @@
-use Rattle.std.proofs.Common.{◌+◌, List, refl, subst, arith}
+use Rattle.std.proofs.Common.{List, refl, subst, arith}
 use Rattle.strat_base.proofs.ResultFacts.{err_of}
 use Rattle.strat_array.specs.Progress.{ArrayProgress}
 use Rattle.strat_promote.specs.Closing.{IsDescribed}

@@ -1,4 +1,4 @@
-use Rattle.std.proofs.Common.{◌+◌, ℕ, sym, ap, ◌∙◌, subst, arith}
+use Rattle.std.proofs.Common.{ℕ, sym, ap, ◌∙◌, subst, arith}
 use Rattle.strat_base.proofs.ResultFacts.{err_of}
 use Rattle.def_crash.specs.Faults.{HasCause}
 use Rattle.strat_merge.specs.MergerFields.{views_of}
