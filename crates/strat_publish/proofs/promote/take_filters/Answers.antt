@@ -1,4 +1,4 @@
-use Rattle.std.proofs.Common.{◌≡◌, ◌+◌, ◌++◌, ◌∷◌, [], List, length, Option, Bool, ap, sym, subst, arith, length-append}
+use Rattle.std.proofs.Common.{◌∷◌, [], List, length, Option, Bool, ap, sym, subst, arith, length-append}
 use Rattle.strat_publish.proofs.KeepingLemmas.{taken_more}
 use Rattle.strat_publish.specs.Promoting.{HasTaken}
 use Rattle.strat_publish.proofs.promote.take_filters.Goals as goal
