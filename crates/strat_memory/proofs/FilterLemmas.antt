@@ -1,5 +1,5 @@
 -- Filters of levels: none is kept after an opening, and after a promotion those of the deeper levels and of the new one.
-use Rattle.std.proofs.Common.{◌≡◌, ◌≤◌, ◌<◌, ◌+◌, ◌-◌, ℕ, zero, suc, Bool, true, false, cond, leb, ltb, get_or, inl, inr, List, [], ◌∷◌, ◌++◌, drop, replicate, Contains, Option, None, Some, refl, sym, ap, ◌∙◌, subst, arith}
+use Rattle.std.proofs.Common.{◌≡◌, ◌≤◌, ◌<◌, ◌+◌, ◌-◌, ℕ, zero, suc, Bool, true, false, cond, leb, ltb, get_or, inl, inr, List, [], ◌∷◌, ◌++◌, drop, replicate, Contains, None, Some, refl, sym, ap, ◌∙◌, arith}
 use Rattle.std.proofs.lemmas.Bool.{le-leb, ltb-true}
 use Rattle.std.proofs.lemmas.Grind.{get_or_head}
 use Rattle.std.proofs.lemmas.List.{get_or-append_right, get_or-drop, get_or_past, length-replicate}

@@ -1,6 +1,6 @@
 //! The filters of the arrays that a store made since it was opened, in memory alone.
 
-ghost use Rattle.std.specs.Prelude.{◌≡◌, ◌≤◌, ◌-◌, ◌++◌, length, drop, replicate, slice_index_or, is_some};
+ghost use Rattle.std.specs.Prelude.{◌≡◌, ◌≤◌, ◌-◌, ◌++◌, length, drop, replicate, is_some};
 ghost use Rattle.std.specs.Option.{option_copied};
 ghost use Rattle.strat_memory.specs.Filters.{filter_at, filter_of, filters_after, no_filters, refuses as refused};
 

@@ -1,5 +1,5 @@
 -- Filters of the arrays that a promotion made: those that were taken, and those of the level as an image has it.
-use Rattle.std.proofs.Common.{◌≡◌, ◌≤◌, ◌<◌, ◌+◌, ◌-◌, ℕ, Bool, true, false, cond, leb, get_or, inl, inr, ◌⊎◌, List, [], ◌∷◌, ◌++◌, length, Contains, Option, None, Some, Result, Ok, Err, refl, sym, ap, ◌∙◌, subst, arith}
+use Rattle.std.proofs.Common.{◌≡◌, ◌≤◌, ◌+◌, ◌-◌, ℕ, Bool, true, false, cond, leb, get_or, inl, inr, ◌⊎◌, List, [], ◌∷◌, ◌++◌, length, Contains, Option, None, Some, Result, Ok, Err, refl, sym, ap, ◌∙◌, subst, arith}
 use Rattle.std.specs.Option.{option_to_list}
 use Rattle.std.specs.Prelude.{IfOk}
 use Rattle.std.specs.Result.{result_ok}
@@ -21,7 +21,8 @@ use Rattle.def_state.specs.Level.{Level, TaggedArray}
 use Rattle.strat_memory.specs.Filters.{LevelFilters, AreFiltersOn, filter_of}
 use Rattle.strat_promote.specs.declared.promotion.Promotion.{Promotion}
 use Rattle.strat_publish.specs.Promoting.{HasTaken}
-use Rattle.strat_publish.specs.Stub.{FiltersStand, HasMadeTheSame, arrays_in_made, arrays_of}
+use Rattle.strat_promote.specs.Opening.{arrays_if_any}
+use Rattle.strat_promote.specs.Promotions.{FiltersStand, HasMadeTheSame, arrays_of}
 
 -- what an image makes of a list is made of an item of it
 some_back : {A B : Type 0} (h : A → Option B) (xs : List A) (ys : List B) (y : B) → all_some h xs ≡ Some ys → Among y ys → (x : A) × Among x xs × (h x ≡ Some y)
@@ -95,23 +96,6 @@ filter_next first kept o id bits at = here (leb first id) refl
               ]
         ]
 
--- nothing was taken
-pub taken_none : (p : Promotion) (first : ℕ) → HasTaken p p first []
-taken_none p first = record {
-  stand = λ g stands. stands;
-  level = refl;
-  task = refl;
-  ended = refl;
-  filters = λ g stands. record { each = λ a entries bits of at on. absurd (none_at a.id bits at) };
-}
-  where
-    both : (b : Bool) (x : Option (List Bool)) → x ≡ None → cond b x None ≡ None
-    both true x e = e
-    both false x e = refl
-
-    none_at : (id : ℕ) (bits : List Bool) → filter_of (record { first = first; kept = [] }) id ≡ Some bits → ⊥
-    none_at id bits at = let none : None ≡ Some bits = sym (both (leb first id) (get_or [] (id - first) None) (get_or_past [] (id - first) None (omega arith))) ∙ at in absurd (cc)
-
 -- one more was taken
 pub taken_more : {E : Type 0} (old now next : Promotion) (first id : ℕ) (kept : List (Option (List Bool))) (r : Result (List Bool) E) (o : Option (List Bool)) → HasTaken old now first kept
     → IfOk r (λ bits. (g : Image) (a : ArrayDesc) (es : List Entry) → FiltersStand g now → Contains (arrays_of now) a → a.id ≡ id → entries_on g (blocks_of a.extents) ≡ Some es → IsFilterOf bits es)
@@ -124,7 +108,7 @@ taken_more old now next first id kept r o before told stand same id_is o_is = re
   filters = λ g stands. record {
     each = λ a es bits of at on. elim (filter_next first kept o a.id bits at) [
       | inl earlier ↦ (before.filters g stands).each a es bits of earlier on
-      | inr last ↦ of_result r told (sym o_is ∙ last.1) g a es (before.stand g stands) (subst (λ (m : Option LevelDesc). Contains (arrays_in_made m) a) (sym before.level) of) (last.0 ∙ sym id_is) on
+      | inr last ↦ of_result r told (sym o_is ∙ last.1) g a es (before.stand g stands) (subst (λ (m : Option LevelDesc). Contains (arrays_if_any m) a) (sym before.level) of) (last.0 ∙ sym id_is) on
     ];
   };
 }
@@ -134,3 +118,12 @@ taken_more old now next first id kept r o before told stand same id_is o_is = re
         → result_ok r ≡ Some bits → (g : Image) (a : ArrayDesc) (es : List Entry) → FiltersStand g now → Contains (arrays_of now) a → a.id ≡ id → entries_on g (blocks_of a.extents) ≡ Some es → IsFilterOf bits es
     of_result {bits = bits} (Ok x) told is g a es stands of here on = let e : x ≡ bits = cc in subst (λ (y : List Bool). IsFilterOf y es) e (told g a es stands of here on)
     of_result {bits = bits} (Err x) told is g a es stands of here on = let e : None ≡ Some bits = is in absurd (cc)
+
+-- the arrays of a level that was made
+pub arrays_same : (made : Option LevelDesc) → arrays_if_any made ≡ arrays_made made
+arrays_same None = refl
+arrays_same (Some level) = refl
+
+-- so the filters of a promotion are of exactly their keys
+pub taken_of_made : (g : Image) (p : Promotion) (made : Option LevelDesc) (filters : LevelFilters) → made ≡ p.level → AreFiltersOn g (arrays_of p) filters → AreFiltersOn g (arrays_made made) filters
+taken_of_made g p made filters is on = subst (λ (ds : List ArrayDesc). AreFiltersOn g ds filters) (ap arrays_if_any (sym is) ∙ arrays_same made) on

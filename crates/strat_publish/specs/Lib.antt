@@ -1,5 +1,4 @@
 pub mod Publishing
-pub mod Stub
 pub mod Promoting
 pub mod Settling
 pub mod Counting

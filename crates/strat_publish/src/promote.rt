@@ -1,15 +1,15 @@
 //! A promotion of level 0 and of the shallow levels of a store, in one go.
 
-ghost use Rattle.std.specs.Prelude.{◌≡◌, ◌≤◌, ℕ, true, ◌+◌, ◌-◌, ◌*◌, ◌^◌, [], length, min, IfOk, OnErr, IsErrOf, Contains, List, Some};
+ghost use Rattle.std.specs.Prelude.{◌≡◌, ◌≤◌, ℕ, true, ◌+◌, ◌-◌, ◌*◌, ◌^◌, [], length, min, IfOk, OnErr, IsErrOf, Contains};
 ghost use Rattle.strat_array.specs.Taking.{AreUsed};
 ghost use Rattle.def_crash.specs.Blocks.{TearsBlocks};
 ghost use Rattle.def_crash.specs.Faults.{HasCause};
 ghost use Rattle.def_crash.specs.Image.{Image};
 ghost use Rattle.def_crash.specs.Moments.{Exposes};
 ghost use Rattle.strat_extent.specs.Blocks.{is_free, used_count};
-ghost use Rattle.def_bytes.specs.Arrays.{blocks_of, entries_on};
+ghost use Rattle.def_bytes.specs.Arrays.{blocks_of};
 ghost use Rattle.strat_promote.specs.Job.{IsBadInput, blocks_listed};
-ghost use Rattle.strat_promote.specs.Promotions.{entries_if_any, has_ended, level_of, target_of};
+ghost use Rattle.strat_promote.specs.Promotions.{FiltersStand, arrays_of, entries_if_any, has_ended, level_of, target_of};
 ghost use Rattle.strat_promote.specs.Spaces.{HasAmpleRoom};
 ghost use Rattle.strat_promote.specs.declared.obstacle.Obstacle.TheVariants.{Damaged, Device, Unfit};
 ghost use Rattle.def_publish.specs.Next.{arrays_made};
@@ -18,17 +18,12 @@ ghost use Rattle.def_state.specs.Sound.{IsSound};
 ghost use Rattle.def_state.specs.State.{State};
 ghost use Rattle.strat_cursor.specs.Looking.{arrays_there};
 ghost use Rattle.strat_memory.specs.Filters.{AreFiltersOn};
-ghost use Rattle.strat_publish.specs.Stub.{FiltersStand, HasMadeTheSame, arrays_of};
-ghost use Rattle.strat_filter.specs.Keys.{IsFilterOf};
-ghost use Rattle.strat_base.specs.Entries.{Entry as TheEntry};
-ghost use Rattle.strat_base.specs.declared.descriptors.ArrayDesc.{ArrayDesc as TheDesc};
 ghost use Rattle.strat_publish.specs.Promoting.{MayPromote, HoldInMemory, IsPromotedTo};
 
 use std::alloc::Global;
-use strat_base::{ArrayDesc, LevelDesc, NoMemory};
+use strat_base::LevelDesc;
 use strat_disk::Disk;
 use strat_extent::Space;
-use strat_filter::Filter;
 use strat_level::Levels;
 use strat_memory::filters::LevelFilters;
 use strat_memory::memory::Memory;
@@ -58,12 +53,12 @@ fn take_filters(alloc: Global, promotion: &mut Promotion, first: u64) -> LevelFi
         × (target_of promotion.new ≡ target_of promotion.old)
         × (has_ended promotion.new ≡ has_ended promotion.old) }
 {
-    let count = stub_made(promotion) as usize;
+    let count = promotion.made().len();
     let Ok(mut kept) = Vec::with_capacity(alloc, count) else {
         return LevelFilters::none(alloc);
     };
     for i in 0..count {
-        kept.push_reserved(stub_take(promotion, first + i as u64).ok());
+        kept.push_reserved(promotion.take_filter(first + i as u64).ok());
     }
     LevelFilters::new(first, kept)
 }
@@ -138,10 +133,7 @@ pub(crate) fn promote<D: Disk>(
     let versions = tree.count();
     let mut promotion = Promotion::begin(alloc, zero, levels, tree, versions, mem, next_array)?;
     match promotion.slice(zero, levels, pool, tree, space, disk, ALL) {
-        Ok(Progress::Done) => Ok({
-            stub_slice(&promotion);
-            take_made(alloc, promotion, next_array)
-        }),
+        Ok(Progress::Done) => Ok(take_made(alloc, promotion, next_array)),
         Ok(Progress::More) => {
             promotion.abandon(space);
             Err(Obstacle::Unfit)
@@ -151,22 +143,4 @@ pub(crate) fn promote<D: Disk>(
             Err(obstacle)
         }
     }
-}
-
-fn stub_made(promotion: &Promotion) -> u32 {
-    0
-}
-
-fn stub_slice(promotion: &Promotion)
-    ensures filters { (g : Image) → FiltersStand g promotion.now }
-{}
-
-fn stub_take(promotion: &mut Promotion, id: u64) -> Result<Filter, NoMemory>
-    ensures ok { IfOk result (λ bits. (g : Image) (a : TheDesc) (es : List TheEntry)
-        → FiltersStand g promotion.old → Contains (arrays_of promotion.old) a → a.id ≡ id
-        → entries_on g (blocks_of a.extents) ≡ Some es → IsFilterOf bits es) }
-    ensures kept { (g : Image) → FiltersStand g promotion.old → FiltersStand g promotion.new }
-    ensures same { HasMadeTheSame promotion.old promotion.new }
-{
-    Err(NoMemory)
 }

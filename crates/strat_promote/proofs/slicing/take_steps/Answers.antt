@@ -1,5 +1,7 @@
 use Rattle.std.proofs.Common.{◌+◌, subst, arith}
 use Rattle.strat_base.proofs.ResultFacts.{err_of}
+use Rattle.def_crash.specs.Image.{Image}
+use Rattle.strat_promote.specs.Filters.{AreFiltered}
 use Rattle.strat_promote.specs.Job.{arrays_to}
 use Rattle.strat_promote.specs.Owned.{OwnsItsBlocks}
 use Rattle.strat_promote.specs.Stages.{IsReadOf, IsSteady, stage_writers, stage_consumed}
@@ -7,7 +9,7 @@ use Rattle.strat_promote.specs.Turning.{GoesFurther, MatchStep}
 use Rattle.strat_promote.specs.Steps.{inputs_of, StepsOn}
 use Rattle.strat_promote.specs.declared.step.Step.{Step}
 use Rattle.strat_promote.specs.declared.step.Step.TheVariants as step
-use Rattle.strat_promote.proofs.SliceLemmas.{slice_torn, slice_goes, slice_pauses, slice_blames, slice_fits, slicing_next, steps_fit}
+use Rattle.strat_promote.proofs.SliceLemmas.{slice_torn, slice_goes, slice_leaves, slice_pauses, slice_blames, slice_fits, slicing_next, steps_fit}
 use Rattle.strat_promote.proofs.slicing.take_steps.Goals as goal
 
 pub returns-in_err-level-clause-same : goal.returns-in_err-level-clause-same
@@ -30,6 +32,12 @@ pub returns-in-Made-clause-ok : goal.returns-in-Made-clause-ok
 returns-in-Made-clause-ok g c =
     slice_goes c.args.task.now (inputs_of c.args.sources.now) (stage_consumed c.args.stage.now + c.args.budget) c.loop.counter (g.D.Disk.view c.args.disk.now) (g.D.Disk.view c.loop.disk) (g.D.Disk.view c.take_step.new.disk) c.args.space.now c.loop.space c.take_step.new.space c.args.stage.now c.loop.stage c.take_step.new.stage (g.D.Disk.faults c.args.disk.now) (g.D.Disk.faults c.loop.disk) (g.D.Disk.faults c.take_step.new.disk) (g.D.Disk.reads c.args.disk.now) (g.D.Disk.reads c.loop.disk) (g.D.Disk.reads c.take_step.new.disk) c.loop.invariant c.in_ok-level.ensures.room c.in_ok-level.ensures.same (step.Made c.in-Made.level)
     (λ f g' job told tells is used underway. subst (λ (r : Step). StepsOn f g' c.args.task.now job (stage_consumed c.loop.stage) c.take_step.new.stage r × GoesFurther c.loop.stage c.take_step.new.stage r) c.in-Made.is (c.in_ok-level.ensures.ok f g' job told tells is used underway))
+
+pub returns-in-Made-clause-filters : goal.returns-in-Made-clause-filters
+returns-in-Made-clause-filters g c =
+    slice_leaves c.args.task.now (inputs_of c.args.sources.now) (stage_consumed c.args.stage.now + c.args.budget) c.loop.counter (g.D.Disk.view c.args.disk.now) (g.D.Disk.view c.loop.disk) (g.D.Disk.view c.take_step.new.disk) c.args.space.now c.loop.space c.take_step.new.space c.args.stage.now c.loop.stage c.take_step.new.stage (g.D.Disk.faults c.args.disk.now) (g.D.Disk.faults c.loop.disk) (g.D.Disk.faults c.take_step.new.disk) (g.D.Disk.reads c.args.disk.now) (g.D.Disk.reads c.loop.disk) (g.D.Disk.reads c.take_step.new.disk) c.loop.invariant c.in_ok-level.ensures.room c.in_ok-level.ensures.same
+    (λ (h : Image). AreFiltered h c.args.task.now.first (stage_writers c.take_step.new.stage) c.in-Made.level)
+    (λ f g' job told tells is used underway. subst (λ (r : Step). MatchStep r (Unit {0}) (λ made. AreFiltered g' c.args.task.now.first (stage_writers c.take_step.new.stage) made)) c.in-Made.is (c.in_ok-level.ensures.filters f g' job told tells is used underway))
 
 pub returns-then-may_pause-clause-same : goal.returns-then-may_pause-clause-same
 returns-then-may_pause-clause-same g c =

@@ -137,3 +137,7 @@ returns-in_ok-step-in-Writing-clause-damaged g c = (
   λ b bad. absurd (cc),
   λ f g' told tells used read. (c.in_ok-step-in-Writing.ensures.damaged.1 f g' (arrays_to c.args.sources.now.levels.now c.args.task.now.target) told tells used (subst (λ (s : Stage). IsReadOf f (arrays_to c.args.sources.now.levels.now c.args.task.now.target) s) c.in-Writing.is read)),
 )
+
+pub returns-in_ok-step-in-Writing-clause-filters : goal.returns-in_ok-step-in-Writing-clause-filters
+returns-in_ok-step-in-Writing-clause-filters g c = λ f g' job told tells task used underway.
+    c.in_ok-step-in-Writing.ensures.filters f g' job told tells task used (subst (λ (s : Stage). IsUnderway f job c.args.task.now.first s) c.in-Writing.is underway).0

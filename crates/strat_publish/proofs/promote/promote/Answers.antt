@@ -35,7 +35,14 @@ returns-in-Ok-Done-clause-ok g c f h s exposed now sound mem_is holds used =
     _ _ (rw c.in-Ok-Done.field-0-is at c.in-Ok-Done.ensures.kept).1 c.requires.fits.0 c.slice.new.self c.slice.ensures.same.1 (rw c.in-Ok-Done.field-0-is at sliced).1))
 
 pub returns-in-Ok-Done-clause-filters : goal.returns-in-Ok-Done-clause-filters
-returns-in-Ok-Done-clause-filters g c f h s exposed now sound mem_is holds used = c.take_made.ensures.filters h (c.stub_slice.ensures.filters h)
+returns-in-Ok-Done-clause-filters g c f h s exposed now sound mem_is holds used =
+    let job =
+    its_job c.args.memory.now c.args.levels.now c.args.mem c.args.next_array _ c.parts.result.0.now.list c.parts.result.1.now c.parts.result.2.now.parents _
+    c.parts.ensures.ok c.parts.ensures.found.0 c.parts.ensures.found.1 c.count-versions.ensures.ok c.in_ok-promotion.ensures.ok f h s mem_is holds c.requires.kept sound in
+    let told =
+    c.in-Ok-Done.ensures.filters f h _ exposed now job (λ b of. used b (block_there c.args.levels.now _ b of))
+    (begun_nothing c.parts.result.0.now.list c.args.levels.now c.args.mem _ c.args.next_array _ c.in_ok-promotion.ensures.ok f _) in
+    c.take_made.ensures.filters h (rw c.in-Ok-Done.field-0-is at told)
 
 pub returns-in-Ok-Done-clause-room : goal.returns-in-Ok-Done-clause-room
 returns-in-Ok-Done-clause-room g c =
