@@ -37,8 +37,8 @@ is_refused None key = false
 is_refused (Some bits) key = not (may_hold bits key)
 
 -- a filter of an array in a level refuses a key
-abbrev pub refuses : List LevelFilters → ℕ → ℕ → List ℕ → Bool
-refuses filters number id key = is_refused (filter_at filters number id) key
+abbrev pub filter_refuses : List LevelFilters → ℕ → ℕ → List ℕ → Bool
+filter_refuses filters number id key = is_refused (filter_at filters number id) key
 
 -- filters are of exactly the keys of the arrays of contents
 pub record AreFiltersOf (levels : List Level) (filters : List LevelFilters) : Type 0 where
@@ -47,7 +47,8 @@ pub record AreFiltersOf (levels : List Level) (filters : List LevelFilters) : Ty
       → IsFilterOf bits t.content
 
 -- filters are of exactly the keys of these arrays, as an image has them
-pub record AreFiltersOn (g : Image) (arrays : List ArrayDesc) (filters : LevelFilters) : Type 0 where
+pub record AreFiltersOn (g : Image) (arrays : List ArrayDesc) (filters : LevelFilters)
+    : Type 0 where
   pub each : (a : ArrayDesc) (entries : List Entry) (bits : List Bool) → Contains arrays a
       → filter_of filters a.id ≡ Some bits → entries_on g (blocks_of a.extents) ≡ Some entries
       → IsFilterOf bits entries

@@ -2,7 +2,7 @@
 
 ghost use Rattle.std.specs.Prelude.{◌≡◌, ◌≤◌, ◌-◌, ◌++◌, length, drop, replicate, is_some};
 ghost use Rattle.std.specs.Option.{option_copied};
-ghost use Rattle.strat_memory.specs.Filters.{filter_at, filter_of, filters_after, no_filters, refuses as refused};
+ghost use Rattle.strat_memory.specs.Filters.{filter_at, filter_of, filter_refuses, filters_after, no_filters};
 
 use std::alloc::Global;
 use std::array;
@@ -140,7 +140,7 @@ impl Filters {
 
     /// Whether a filter is kept of an array in the level of a number, and refuses a key. O(key).
     pub fn refuses(&self, number: usize, id: u64, key: &[u8]) -> bool
-        ensures ok { result ≡ refused self.now number id key.now }
+        ensures ok { result ≡ filter_refuses self.now number id key.now }
     {
         match self.get(number, id) {
             Some(filter) => !filter.may_hold(key),

@@ -31,7 +31,7 @@ use Rattle.def_state.specs.Reading.{live_of}
 use Rattle.def_state.specs.State.{State}
 use Rattle.strat_cursor.specs.Looking.{levels_there}
 use Rattle.strat_level.specs.Levels.{is_for, level_numbered}
-use Rattle.strat_memory.specs.Filters.{AreFiltersOf, LevelFilters, filter_at, is_refused, refuses}
+use Rattle.strat_memory.specs.Filters.{AreFiltersOf, LevelFilters, filter_at, is_refused, filter_refuses}
 use Rattle.strat_memory.specs.Held.{Held, IsConsistent, StandsWith, contents_held}
 use Rattle.strat_store.proofs.LookLemmas.{find_numbered, next_level}
 use Rattle.strat_store.specs.Filtering.{KeepsFilter, KeepsFilterAt, asked_filtered, has_id, on_disk_filtered, shown_unless_refused}
@@ -76,12 +76,12 @@ module _ (c : Image) (filters : List LevelFilters) (parents : Parents) (v : ℕ)
 
   -- in an array that refuses a key nothing of it is live
   abbrev pub AreSilent : List LevelDesc → Type 0
-  AreSilent ds = (d : LevelDesc) (a : ArrayDesc) → Among d ds → Among a d.arrays → refuses filters d.number a.id key ≡ true → live_of parents (on a) v key ≡ None
+  AreSilent ds = (d : LevelDesc) (a : ArrayDesc) → Among d ds → Among a d.arrays → filter_refuses filters d.number a.id key ≡ true → live_of parents (on a) v key ≡ None
 
-  one : (n : ℕ) (a : ArrayDesc) → (refuses filters n a.id key ≡ true → live_of parents (on a) v key ≡ None) → live_of parents (shown_unless_refused c filters n a key) v key ≡ live_of parents (on a) v key
-  one n a silent = by (refuses filters n a.id key) refl
+  one : (n : ℕ) (a : ArrayDesc) → (filter_refuses filters n a.id key ≡ true → live_of parents (on a) v key ≡ None) → live_of parents (shown_unless_refused c filters n a key) v key ≡ live_of parents (on a) v key
+  one n a silent = by (filter_refuses filters n a.id key) refl
     where
-      by : (b : Bool) → refuses filters n a.id key ≡ b → live_of parents (if b then [] else on a) v key ≡ live_of parents (on a) v key
+      by : (b : Bool) → filter_refuses filters n a.id key ≡ b → live_of parents (if b then [] else on a) v key ≡ live_of parents (on a) v key
       by true e = sym (silent e)
       by false e = refl
 

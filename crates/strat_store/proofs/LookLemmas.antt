@@ -20,7 +20,7 @@ use Rattle.def_crash.specs.Image.{Image}
 use Rattle.def_crash.specs.Moments.{DiskView}
 use Rattle.def_bytes.specs.Arrays.{blocks_of, entries_on}
 use Rattle.strat_level.specs.Levels.{desc_for, is_for, level_numbered}
-use Rattle.strat_memory.specs.Filters.{LevelFilters, refuses}
+use Rattle.strat_memory.specs.Filters.{LevelFilters, filter_refuses}
 use Rattle.strat_store.specs.Filtering.{AreNumberedByPlace, filtered_says, on_disk_filtered, shown_unless_refused}
 use Rattle.def_state.specs.LookUp.{array_asked, looked_up, first_live}
 use Rattle.def_state.specs.Reading.{live_of}
@@ -38,10 +38,10 @@ tell_one content f a c parents key v old new told exposed may answers =
     (answers made.0 made.1 (subst (λ (es : List Entry). IsTrue (is_ascending es)) (sym made.2) may.ordered))
 
 -- an array is asked as it says, unless its filter refuses the key; then it says nothing
-pub passed_one : (f : Image) (filters : List LevelFilters) (parents : Parents) (number v : ℕ) (key : List ℕ) (a : ArrayDesc) → refuses filters number a.id key ≡ false → filtered_says f filters parents number v key (Some a) ≡ array_says f parents v key (Some a)
+pub passed_one : (f : Image) (filters : List LevelFilters) (parents : Parents) (number v : ℕ) (key : List ℕ) (a : ArrayDesc) → filter_refuses filters number a.id key ≡ false → filtered_says f filters parents number v key (Some a) ≡ array_says f parents v key (Some a)
 passed_one f filters parents number v key a passes = ap (λ (b : Bool). live_of parents (if b then [] else unwrap_or (entries_on f (blocks_of a.extents)) []) v key) passes
 
-pub refused_one : (f : Image) (filters : List LevelFilters) (parents : Parents) (number v : ℕ) (key : List ℕ) (a : ArrayDesc) → refuses filters number a.id key ≡ true → filtered_says f filters parents number v key (Some a) ≡ None
+pub refused_one : (f : Image) (filters : List LevelFilters) (parents : Parents) (number v : ℕ) (key : List ℕ) (a : ArrayDesc) → filter_refuses filters number a.id key ≡ true → filtered_says f filters parents number v key (Some a) ≡ None
 refused_one f filters parents number v key a refused = ap (λ (b : Bool). live_of parents (if b then [] else unwrap_or (entries_on f (blocks_of a.extents)) []) v key) refused
 
 -- an array that is found among those of a level is found with the number of the level
@@ -214,7 +214,7 @@ pub next_level : (levels : List (Option LevelDesc)) (i : ℕ) → level_numbered
 next_level = level_next
 
 -- what a search in an array found is what the array says, if its filter does not refuse the key
-pub tell_passed : (content : Option Image) (f : Image) (filters : List LevelFilters) (a : ArrayDesc) (c : Blocks) (parents ps : Parents) (number : ℕ) (key : List ℕ) (v : ℕ) (old new : TheirPairs) (told : Seen) → ps ≡ parents → refuses filters number a.id key ≡ false
+pub tell_passed : (content : Option Image) (f : Image) (filters : List LevelFilters) (a : ArrayDesc) (c : Blocks) (parents ps : Parents) (number : ℕ) (key : List ℕ) (v : ℕ) (old new : TheirPairs) (told : Seen) → ps ≡ parents → filter_refuses filters number a.id key ≡ false
     → content ≡ Some f → MayBeAsked f c a
     → ((lists : List (List Entry)) → ArrayStands content a.id (blocks_of a.extents) c None lists → IsTrue (is_ascending (all_in lists)) → TellsFound (live_of ps (all_in lists) v key) key old new told)
     → TellsFound (filtered_says f filters parents number v key (Some a)) key old new told

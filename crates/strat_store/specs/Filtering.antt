@@ -11,14 +11,14 @@ use Rattle.def_state.specs.Reading.{live_of}
 use Rattle.strat_cursor.specs.Looking.{asked_of_level}
 use Rattle.strat_level.specs.Levels.{level_numbered}
 use Rattle.strat_model.specs.Request.{Request, Get}
-use Rattle.strat_memory.specs.Filters.{LevelFilters, filter_at, refuses}
+use Rattle.strat_memory.specs.Filters.{LevelFilters, filter_at, filter_refuses}
 use Rattle.strat_memory.specs.Held.{Held}
 
 -- what an array in the level of a number shows a get of a key: what its blocks hold in an image, and nothing where its filter
 -- refuses the key
 abbrev pub shown_unless_refused : Image → List LevelFilters → ℕ → ArrayDesc → List ℕ → List Entry
 shown_unless_refused f filters number a key =
-    if refuses filters number a.id key then [] else
+    if filter_refuses filters number a.id key then [] else
     unwrap_or (entries_on f (blocks_of a.extents)) []
 
 -- levels as their descriptors, an image and these filters give them; an array stands with the number of its level
@@ -54,7 +54,7 @@ AreNumberedByPlace levels = (number : ℕ) (level : LevelDesc)
 abbrev pub AllRefuse : List LevelFilters → Parents → List (Option LevelDesc) → ℕ → List ℕ
     → Type 0
 AllRefuse filters parents levels v key = (number : ℕ) (a : ArrayDesc)
-    → asked_of_level parents levels number v ≡ Some a → refuses filters number a.id key ≡ true
+    → asked_of_level parents levels number v ≡ Some a → filter_refuses filters number a.id key ≡ true
 
 -- a get reads nothing if all arrays that it would ask refuse its key
 abbrev pub SkipsRefusing : Held → Request → ℕ → ℕ → Type 0

@@ -12,7 +12,7 @@ ghost use Rattle.def_crash.specs.Image.{Image};
 ghost use Rattle.def_crash.specs.Moments.{Exposes};
 ghost use Rattle.def_state.specs.LookUp.{looked_up};
 ghost use Rattle.strat_cursor.specs.Looking.{levels_there, arrays_there, MayBeFound, AreInOrder, AreCachedFrom, LooksThrough, NamesNoBlock, HaveOwnIds, MayBeAsked, ReadsArrays, arrays_asked, asked_of_level, decides};
-ghost use Rattle.strat_memory.specs.Filters.{refuses};
+ghost use Rattle.strat_memory.specs.Filters.{filter_refuses};
 ghost use Rattle.strat_store.specs.Filtering.{AllRefuse, AreNumberedByPlace, filtered_says, on_disk_filtered};
 
 use strat_array::{Cache, Scratch, Seen, find};
@@ -66,7 +66,7 @@ fn ask_level<D: Disk>(
         (D.reads disk.old) (D.reads disk.new)
         × (((a : ArrayDesc)
         → asked_of_level held.now.memory.parents held.now.published.levels number v ≡ Some a
-        → refuses held.now.filters number a.id key.now ≡ true)
+        → filter_refuses held.now.filters number a.id key.now ≡ true)
         → D.reads disk.new ≡ D.reads disk.old) }
 {
     let (_, _, tree) = held.memory.parts();

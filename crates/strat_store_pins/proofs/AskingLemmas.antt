@@ -17,7 +17,7 @@ use Rattle.strat_cursor.proofs.PickLemmas.{level_next, only}
 use Rattle.strat_cursor.specs.Looking.{arrays_asked, asked_of_level, levels_there}
 use Rattle.strat_filter.specs.Bits.{bits_after}
 use Rattle.strat_level.specs.Levels.{desc_for, level_numbered}
-use Rattle.strat_memory.specs.Filters.{filter_at, refuses}
+use Rattle.strat_memory.specs.Filters.{filter_at, filter_refuses}
 use Rattle.strat_model.specs.Answer.{Answer, as_told}
 use Rattle.strat_model.specs.Request.{Get}
 use Rattle.strat_model.specs.Step.{found}
@@ -151,7 +151,7 @@ asked_first : (a : ArrayDesc) → asked_of_level children_apart.memory.parents c
 unfolding climb
 asked_first a is = let same : Some (array_in 5 1 7) ≡ Some a = is in cc
 
-refuses_b : refuses children_filtered.filters 1 5 (98 ∷ []) ≡ true
+refuses_b : filter_refuses children_filtered.filters 1 5 (98 ∷ []) ≡ true
 refuses_b = refl
 
 pub b_refused : AllRefuse children_filtered.filters children_filtered.memory.parents children_filtered.levels 1 (98 ∷ [])
@@ -159,7 +159,7 @@ b_refused number a is =
     let level = next_some (λ level. desc_for children_apart.memory.parents level 1) (level_numbered children_apart.levels number) a is in
     let one = level_at number level.0 level.1 in
     let here = asked_first a (ap (λ (n : ℕ). asked_of_level children_apart.memory.parents children_apart.levels n 1) (sym one) ∙ is) in
-    (λ i. refuses children_filtered.filters (one i) (sym here i).id (98 ∷ [])) ∙ refuses_b
+    (λ i. filter_refuses children_filtered.filters (one i) (sym here i).id (98 ∷ [])) ∙ refuses_b
 
 asked_at_one : asked_of_level children_apart.memory.parents children_apart.levels 1 1 ≡ Some (array_in 5 1 7)
 unfolding climb
