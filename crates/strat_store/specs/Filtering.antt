@@ -54,7 +54,8 @@ AreNumberedByPlace levels = (number : ℕ) (level : LevelDesc)
 abbrev pub AllRefuse : List LevelFilters → Parents → List (Option LevelDesc) → ℕ → List ℕ
     → Type 0
 AllRefuse filters parents levels v key = (number : ℕ) (a : ArrayDesc)
-    → asked_of_level parents levels number v ≡ Some a → filter_refuses filters number a.id key ≡ true
+    → asked_of_level parents levels number v ≡ Some a
+    → filter_refuses filters number a.id key ≡ true
 
 -- a get reads nothing if all arrays that it would ask refuse its key
 abbrev pub SkipsRefusing : Held → Request → ℕ → ℕ → Type 0
