@@ -141,9 +141,8 @@ impl Promotion {
             (inputs_given zero.now.list pool.now levels.now tree.now.parents) job
             → AreUsed space.old (blocks_listed job.arrays) → HasBegun f job self.old
             → MatchProgress p (Unit {0}) (FiltersStand g self.new)) }
-        ensures found { AreAllUsed space.new (writers_of self.new) }
-        ensures room { TakesMore space.old space.new
-            (extents_taken self.old) (extents_taken self.new) }
+        ensures room { AreAllUsed space.new (writers_of self.new)
+            × TakesMore space.old space.new (extents_taken self.old) (extents_taken self.new) }
         ensures same { TearsBlocks (is_free space.old) (D.view disk.old) (D.view disk.new)
             × SamePromotion self.old self.new }
         ensures cause { HasCause Device (D.faults disk.old) (D.faults disk.new) result }
