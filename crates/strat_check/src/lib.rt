@@ -6,6 +6,7 @@ pub mod array_rules;
 mod bare;
 pub mod children;
 pub mod fit;
+mod key_walk;
 pub mod level_count;
 pub mod level_rules;
 mod level_runs;
