@@ -8,6 +8,7 @@ ghost use Rattle.def_bytes.specs.Arrays.{blocks_of, entries_on};
 ghost use Rattle.def_crash.specs.Faults.{HasCause, ReadsAtMost};
 ghost use Rattle.def_crash.specs.Image.{Image};
 ghost use Rattle.def_crash.specs.Moments.{Exposes, OnlyReads};
+ghost use Rattle.strat_tree.specs.Preorder.{IsPreorder};
 ghost use Rattle.strat_promote.specs.Leads.{misfit_in};
 ghost use Rattle.strat_check.specs.ArrayCounts.{IsSightOf};
 ghost use Rattle.strat_check.specs.Sightings.{IsSighting};
@@ -39,6 +40,7 @@ fn count_entries<D: Disk>(
         → Exposes (D.view disk.old) f → entries_on f (blocks_of desc.now.extents) ≡ Some content
         → IsTrue (is_ascending content) → ⊥) }
     ensures len { length sights.new.own ≡ length sights.old.own }
+    ensures placed { sights.new.order ≡ sights.old.order }
     ensures damaged { (b : ℕ) → IsErrOf result (Damaged b)
         → (f : Image) → Exposes (D.view disk.old) f → misfit_in f desc.now ≡ Some b }
     ensures same { OnlyReads (D.view disk.old) (D.view disk.new) }
@@ -64,10 +66,12 @@ pub fn count_array<D: Disk>(
 ) -> Result<(), Trouble>
     requires fits { AreWithin desc.now.extents }
     requires len { length sights.old.own ≡ length tree.now.parents }
+    requires placed { IsPreorder (length tree.now.parents) tree.now.parents sights.old.order }
     ensures ok { OnOk result ((f : Image) (content : List Entry) → Exposes (D.view disk.old) f
         → entries_on f (blocks_of desc.now.extents) ≡ Some content
         → IsTrue (is_ascending content) → IsSightOf tree.now.parents content sights.new) }
     ensures len { length sights.new.own ≡ length sights.old.own }
+    ensures placed { sights.new.order ≡ sights.old.order }
     ensures damaged { (b : ℕ) → IsErrOf result (Damaged b)
         → (f : Image) → Exposes (D.view disk.old) f → misfit_in f desc.now ≡ Some b }
     ensures same { OnlyReads (D.view disk.old) (D.view disk.new) }

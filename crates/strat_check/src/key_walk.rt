@@ -69,6 +69,7 @@ fn add_gathered(versions: &[Version], tree: &Tree, sights: &mut Sights)
         → versions_added (groups ++ gathered versions.now) ≤ 2 ^ 48
         → IsSighting tree.now.parents (groups ++ gathered versions.now) sights.new }
     ensures len { length sights.new.own ≡ length sights.old.own }
+    ensures placed { sights.new.order ≡ sights.old.order }
 {
     if !versions.is_empty() {
         sights.add(versions, tree);
@@ -94,6 +95,7 @@ fn turn(
         → IsWalking tree.now.parents all (entry_of e.now ∷ left) group.old sights.old
         → IsWalking tree.now.parents all (entry_of e.now ∷ left) group.new sights.new) }
     ensures len { length sights.new.own ≡ length sights.old.own }
+    ensures placed { sights.new.order ≡ sights.old.order }
 {
     if group.has(e) {
         return Ok(());
@@ -121,6 +123,7 @@ fn gather(
         → IsWalking tree.now.parents all (entry_of e.now ∷ left) group.old sights.old
         → IsWalking tree.now.parents all left group.new sights.new) }
     ensures len { length sights.new.own ≡ length sights.old.own }
+    ensures placed { sights.new.order ≡ sights.old.order }
 {
     turn(group, e, tree, sights)?;
     group.versions.push(e.version)?;
@@ -175,6 +178,7 @@ fn take_entry<D: Disk>(
     ensures same { IfOk result (λ more. more ≡ false → (run.new ≡ run.old)
         × (group.new ≡ group.old) × (sights.new ≡ sights.old)) }
     ensures len { length sights.new.own ≡ length sights.old.own }
+    ensures placed { sights.new.order ≡ sights.old.order }
     ensures reads { ReadsRuns unmarked_seen Device Damaged (D.view disk.old) (D.view disk.new)
         (D.faults disk.old) (D.faults disk.new) (D.reads disk.old) (D.reads disk.new)
         (run.old ∷ []) (run.new ∷ []) result }
@@ -205,6 +209,7 @@ pub(crate) fn walk<D: Disk>(
     ensures none { IfOk result (λ whole. whole ≡ false → (f : Image) → Exposes (D.view disk.old) f
         → 2 ^ 48 < length ((unmarked_seen run.old).left f)) }
     ensures len { length sights.new.own ≡ length sights.old.own }
+    ensures placed { sights.new.order ≡ sights.old.order }
     ensures reads { ReadsRuns unmarked_seen Device Damaged (D.view disk.old) (D.view disk.new)
         (D.faults disk.old) (D.faults disk.new) (D.reads disk.old) (D.reads disk.new)
         (run.old ∷ []) (run.new ∷ []) result }

@@ -12,6 +12,7 @@ invariant-loop g l =
     record {
       kept : IsAtHand (length l.tree.parents) l.run l.group;
       len : length l.sights.own ≡ length l.initial.sights.own;
+      placed : l.sights.order ≡ l.initial.sights.order;
       reads : HaveRead unmarked_seen (g.D.Disk.view l.initial.disk) (g.D.Disk.view l.disk) (g.D.Disk.faults l.initial.disk) (g.D.Disk.faults l.disk)
           (g.D.Disk.reads l.initial.disk) (g.D.Disk.reads l.disk) (l.initial.run ∷ []) (l.run ∷ []);
       fewer : (f : Image) → Exposes (g.D.Disk.view l.initial.disk) f → l.counter + length ((unmarked_seen l.run).left f) ≤ length ((unmarked_seen l.initial.run).left f);
