@@ -1,6 +1,10 @@
 -- An array that is gone through entry by entry.
-use Rattle.std.proofs.Common.{◌≡◌, ◌<◌, ◌≤◌, ◌+◌, ◌^◌, ◌&&◌, ℕ, Bool, true, false, cond, ltb, inl, inr, List, [], ◌∷◌, ◌++◌, length, map, filter, drop, Option, Some, None, Result, Ok, Err, IfOk, refl, sym, ap, ◌∙◌, subst, arith, append_assoc, length-append, true≢false}
-use Rattle.std.specs.List.{list_all, slice_get}
+use Rattle.strat_check.proofs.ArrayCountLemmas.{bad_alone}
+use Rattle.strat_merge.specs.Reading.{ReadsRuns}
+use Rattle.def_crash.specs.Moments.{DiskView, Exposes, OnlyReads}
+use Rattle.std.proofs.lemmas.List.Elements.{Contains-append_right}
+use Rattle.std.proofs.Common.{◌≡◌, ◌<◌, ◌≤◌, ◌+◌, ◌^◌, ◌&&◌, ℕ, Bool, true, false, cond, ltb, inl, inr, List, [], ◌∷◌, ◌++◌, length, map, filter, drop, Option, Some, None, Result, Ok, Err, IfOk, refl, sym, ap, ◌∙◌, subst, arith, append_assoc, length-append, true≢false, append-nil, IsErrOf}
+use Rattle.std.specs.List.{list_all, slice_get, Contains}
 use Rattle.std.specs.Ordering.{is_lt, nat_cmp, ordering_then, ordering_reverse}
 use Rattle.std.specs.Cmp.{nat_cmp_is}
 use Rattle.std.specs.declared.cmp.Ordering.{Ordering}
@@ -12,7 +16,7 @@ use Rattle.std.proofs.lemmas.List.Sums.{sum_by-cons, sum_by-append}
 use Rattle.strat_base.specs.Entries.{Entry, is_of, is_ascending}
 use Rattle.strat_base.specs.Order.{descends, entry_cmp, key_cmp}
 use Rattle.strat_base.specs.Tree.{Parents, IsTree}
-use Rattle.def_crash.specs.Faults.{ReadsAtMost}
+use Rattle.def_crash.specs.Faults.{ReadsAtMost, HasCause}
 use Rattle.def_split.specs.Groups.{group_versions}
 use Rattle.strat_merge.specs.Runs.{ReadsFront, ReadsLeft}
 use Rattle.strat_base.proofs.EntryLemmas.{same_bytes}
@@ -213,3 +217,34 @@ alone_sighted parents tree n same content up g before after left none is few beg
     let below : List Entry = filter (λ (e : Entry). ltb e.version n) content in
     let sighted : IsSighted parents (group_versions (key_groups below)) after = walks (group_versions (key_groups below)) (few_grouped below few) (walk_begins parents below left g before none is begun) in
     sight_of_keys parents tree content up after len (subst (λ (k : ℕ). IsSighted parents (group_versions (key_groups (filter (λ (e : Entry). ltb e.version k) content))) after) same sighted)
+
+-- a run that is read alone, as runs are that are read
+pub step_alone : {T E : Type 0} (old new : MarkedRun) (device : E) (damaged : ℕ → E) (disk after : DiskView) (faults failed before now : ℕ) (result : Result T E)
+    → OnlyReads disk after → HasCause device faults failed result
+    → ((b : ℕ) → IsErrOf result (damaged b) → Contains (unmarked_seen old).blocks b)
+    → ((b : ℕ) → IsErrOf result (damaged b) → (c : Image) → Exposes disk c → (unmarked_seen old).misfit c ≡ Some b)
+    → ((c : Image) (b : ℕ) → Exposes disk c → (unmarked_seen new).misfit c ≡ Some b → (unmarked_seen old).misfit c ≡ Some b)
+    → ReadsFront (unmarked_seen old).blocks (unmarked_seen new).blocks before now
+    → ReadsRuns unmarked_seen device damaged disk after faults failed before now (old ∷ []) (new ∷ []) result
+step_alone old new device damaged disk after faults failed before now result same cause named blamed fewer front =
+    record {
+      same = same;
+      cause = cause;
+      named = λ b is. subst (λ (bs : List ℕ). Contains bs b) (sym (append-nil (unmarked_seen old).blocks)) (named b is);
+      blamed = λ b is c exposes. record { at = 0; run = unmarked_seen old; there = refl; says = blamed b is c exposes };
+      fewer = λ c b exposes bad. record { at = 0; run = unmarked_seen old; there = refl; says = fewer c b exposes (bad_alone (unmarked_seen new) c b bad) };
+      left = record {
+        fewer = λ b here.
+            subst (λ (bs : List ℕ). Contains bs b) (sym (append-nil (unmarked_seen old).blocks))
+            (subst (λ (bs : List ℕ). Contains bs b) (sym front.split)
+            (Contains-append_right front.read (unmarked_seen new).blocks b (subst (λ (bs : List ℕ). Contains bs b) (append-nil (unmarked_seen new).blocks) here)));
+        later = front.later;
+        most =
+            let size = ap (λ (bs : List ℕ). length bs) front.split in
+            let both = length-append front.read (unmarked_seen new).blocks in
+            let one = length-append (unmarked_seen old).blocks [] in
+            let other = length-append (unmarked_seen new).blocks [] in
+            let most = front.most in
+            omega (arith, size, both, one, other, most);
+      };
+    }

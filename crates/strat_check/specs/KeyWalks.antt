@@ -28,15 +28,15 @@ pub record AreVersions (n : ℕ) (g : KeyVersions) : Type 0 where
   pub low : IsTrue (list_all (λ v. nat_lt v n) g.versions.items)
 
 -- an entry of the key at hand is of a version below those at hand
-abbrev pub MayFollow : Entry → KeyVersions → Type 0
-MayFollow e g =
+abbrev pub MayJoin : Entry → KeyVersions → Type 0
+MayJoin e g =
     IsTrue (is_of g.key.items e) → IsTrue (list_all (λ v. nat_lt e.version v) g.versions.items)
 
 -- a run of versions below n, and a key at hand of which it goes on
 pub record IsAtHand (n : ℕ) (run : MarkedRun) (g : KeyVersions) : Type 0 where
   pub bound : (unmarked_seen run).versions ≡ n
   pub are : AreVersions n g
-  pub next : (d : Entry) → (unmarked_seen run).first ≡ Some d → MayFollow d g
+  pub next : (d : Entry) → (unmarked_seen run).first ≡ Some d → MayJoin d g
 
 -- some groups of versions were added to sights; with the key at hand and the entries that are left, they are all
 pub record IsWalking (parents : Parents) (all : List (List ℕ)) (left : List Entry)

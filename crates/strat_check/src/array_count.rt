@@ -40,7 +40,7 @@ fn count_entries<D: Disk>(
         → Exposes (D.view disk.old) f → entries_on f (blocks_of desc.now.extents) ≡ Some content
         → IsTrue (is_ascending content) → ⊥) }
     ensures len { length sights.new.own ≡ length sights.old.own }
-    ensures placed { sights.new.order ≡ sights.old.order }
+    ensures state { sights.new.order ≡ sights.old.order }
     ensures damaged { (b : ℕ) → IsErrOf result (Damaged b)
         → (f : Image) → Exposes (D.view disk.old) f → misfit_in f desc.now ≡ Some b }
     ensures same { OnlyReads (D.view disk.old) (D.view disk.new) }
@@ -65,13 +65,13 @@ pub fn count_array<D: Disk>(
     disk: &mut D,
 ) -> Result<(), Trouble>
     requires fits { AreWithin desc.now.extents }
-    requires len { length sights.old.own ≡ length tree.now.parents }
-    requires placed { IsPreorder (length tree.now.parents) tree.now.parents sights.old.order }
+    requires len { (length sights.old.own ≡ length tree.now.parents)
+        × IsPreorder (length tree.now.parents) tree.now.parents sights.old.order }
     ensures ok { OnOk result ((f : Image) (content : List Entry) → Exposes (D.view disk.old) f
         → entries_on f (blocks_of desc.now.extents) ≡ Some content
         → IsTrue (is_ascending content) → IsSightOf tree.now.parents content sights.new) }
     ensures len { length sights.new.own ≡ length sights.old.own }
-    ensures placed { sights.new.order ≡ sights.old.order }
+    ensures state { sights.new.order ≡ sights.old.order }
     ensures damaged { (b : ℕ) → IsErrOf result (Damaged b)
         → (f : Image) → Exposes (D.view disk.old) f → misfit_in f desc.now ≡ Some b }
     ensures same { OnlyReads (D.view disk.old) (D.view disk.new) }

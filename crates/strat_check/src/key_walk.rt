@@ -12,7 +12,7 @@ ghost use Rattle.def_crash.specs.Image.{Image};
 ghost use Rattle.def_crash.specs.Moments.{Exposes};
 ghost use Rattle.strat_merge.specs.Reading.{ReadsRuns};
 ghost use Rattle.strat_merge.specs.Runs.{Advances};
-ghost use Rattle.strat_check.specs.KeyWalks.{gathered, AreVersions, MayFollow, IsAtHand, IsWalking};
+ghost use Rattle.strat_check.specs.KeyWalks.{gathered, AreVersions, MayJoin, IsAtHand, IsWalking};
 ghost use Rattle.strat_check.specs.MarkedRuns.{unmarked_seen};
 ghost use Rattle.strat_check.specs.Sightings.{versions_added, IsSighting, IsSighted};
 
@@ -69,7 +69,7 @@ fn add_gathered(versions: &[Version], tree: &Tree, sights: &mut Sights)
         → versions_added (groups ++ gathered versions.now) ≤ 2 ^ 48
         → IsSighting tree.now.parents (groups ++ gathered versions.now) sights.new }
     ensures len { length sights.new.own ≡ length sights.old.own }
-    ensures placed { sights.new.order ≡ sights.old.order }
+    ensures same { sights.new.order ≡ sights.old.order }
 {
     if !versions.is_empty() {
         sights.add(versions, tree);
@@ -84,10 +84,10 @@ fn turn(
     sights: &mut Sights,
 ) -> Result<(), NoMemory>
     requires kept { AreVersions (length tree.now.parents) group.old }
-    requires next { MayFollow (entry_of e.now) group.old }
+    requires fits { MayJoin (entry_of e.now) group.old }
     requires len { length sights.old.own ≡ length tree.now.parents }
     ensures kept { OnOk result (AreVersions (length tree.now.parents) group.new) }
-    ensures next { OnOk result
+    ensures state { OnOk result
         (IsTrue (list_all (λ v. nat_lt (entry_of e.now).version v) group.new.versions.items)) }
     ensures found { OnOk result (group.new.key.items ≡ (entry_of e.now).key) }
     ensures ok { OnOk result ((all : List (List ℕ)) (left : List TheEntry)
@@ -95,7 +95,7 @@ fn turn(
         → IsWalking tree.now.parents all (entry_of e.now ∷ left) group.old sights.old
         → IsWalking tree.now.parents all (entry_of e.now ∷ left) group.new sights.new) }
     ensures len { length sights.new.own ≡ length sights.old.own }
-    ensures placed { sights.new.order ≡ sights.old.order }
+    ensures same { sights.new.order ≡ sights.old.order }
 {
     if group.has(e) {
         return Ok(());
@@ -112,18 +112,18 @@ fn gather(
     sights: &mut Sights,
 ) -> Result<(), NoMemory>
     requires kept { AreVersions (length tree.now.parents) group.old }
-    requires next { MayFollow (entry_of e.now) group.old }
+    requires found { MayJoin (entry_of e.now) group.old }
     requires fits { (entry_of e.now).version < length tree.now.parents }
     requires len { length sights.old.own ≡ length tree.now.parents }
     ensures kept { OnOk result (AreVersions (length tree.now.parents) group.new) }
-    ensures next { OnOk result ((d : TheEntry) → IsTrue (is_lt (entry_cmp (entry_of e.now).key
-        (entry_of e.now).version d.key d.version)) → MayFollow d group.new) }
+    ensures state { OnOk result ((d : TheEntry) → IsTrue (is_lt (entry_cmp (entry_of e.now).key
+        (entry_of e.now).version d.key d.version)) → MayJoin d group.new) }
     ensures ok { OnOk result ((all : List (List ℕ)) (left : List TheEntry)
         → versions_added all ≤ 2 ^ 48
         → IsWalking tree.now.parents all (entry_of e.now ∷ left) group.old sights.old
         → IsWalking tree.now.parents all left group.new sights.new) }
     ensures len { length sights.new.own ≡ length sights.old.own }
-    ensures placed { sights.new.order ≡ sights.old.order }
+    ensures same { sights.new.order ≡ sights.old.order }
 {
     turn(group, e, tree, sights)?;
     group.versions.push(e.version)?;
@@ -172,13 +172,14 @@ fn take_entry<D: Disk>(
         → Exposes (D.view disk.old) f → versions_added all ≤ 2 ^ 48
         → IsWalking tree.now.parents all ((unmarked_seen run.old).left f) group.old sights.old
         → IsWalking tree.now.parents all ((unmarked_seen run.new).left f) group.new sights.new) }
-    ensures fewer { IfOk result (λ more. IsTrue more → (f : Image) → Exposes (D.view disk.old) f
+    ensures end { IfOk result (λ more. IsTrue more → (f : Image) → Exposes (D.view disk.old) f
         → length ((unmarked_seen run.new).left f) < length ((unmarked_seen run.old).left f)) }
-    ensures none { IfOk result (λ more. more ≡ false → (f : Image) → (unmarked_seen run.new).left f ≡ []) }
+    ensures none { IfOk result (λ more. more ≡ false
+        → (f : Image) → (unmarked_seen run.new).left f ≡ []) }
     ensures same { IfOk result (λ more. more ≡ false → (run.new ≡ run.old)
         × (group.new ≡ group.old) × (sights.new ≡ sights.old)) }
     ensures len { length sights.new.own ≡ length sights.old.own }
-    ensures placed { sights.new.order ≡ sights.old.order }
+    ensures state { sights.new.order ≡ sights.old.order }
     ensures reads { ReadsRuns unmarked_seen Device Damaged (D.view disk.old) (D.view disk.new)
         (D.faults disk.old) (D.faults disk.new) (D.reads disk.old) (D.reads disk.new)
         (run.old ∷ []) (run.new ∷ []) result }
@@ -209,7 +210,7 @@ pub(crate) fn walk<D: Disk>(
     ensures none { IfOk result (λ whole. whole ≡ false → (f : Image) → Exposes (D.view disk.old) f
         → 2 ^ 48 < length ((unmarked_seen run.old).left f)) }
     ensures len { length sights.new.own ≡ length sights.old.own }
-    ensures placed { sights.new.order ≡ sights.old.order }
+    ensures same { sights.new.order ≡ sights.old.order }
     ensures reads { ReadsRuns unmarked_seen Device Damaged (D.view disk.old) (D.view disk.new)
         (D.faults disk.old) (D.faults disk.new) (D.reads disk.old) (D.reads disk.new)
         (run.old ∷ []) (run.new ∷ []) result }

@@ -112,14 +112,11 @@ impl MarkedRun {
         requires room { (place < 16384) × (versions ≤ 16384) }
         ensures ok { IfOk result (λ run. (f : Image) → Exposes (D.view disk.old) f
             → (c : List TheEntry) → entries_on f (blocks_of desc.now.extents) ≡ Some c
-            → IsTrue (is_ascending c) → (marked_seen run).left f
-            ≡ map (marked place) (filter (λ e. nat_lt e.version versions) c)) }
-        ensures state { IfOk result (λ run. (f : Image) → Exposes (D.view disk.old) f
-            → (c : List TheEntry) → entries_on f (blocks_of desc.now.extents) ≡ Some c
             → IsTrue (is_ascending c)
-            → (unmarked_seen run).left f ≡ filter (λ e. nat_lt e.version versions) c) }
+            → ((unmarked_seen run).left f ≡ filter (λ e. nat_lt e.version versions) c)
+            × ((marked_seen run).left f
+            ≡ map (marked place) (filter (λ e. nat_lt e.version versions) c))) }
         ensures found { IfOk result (λ run. (marked_seen run).versions ≡ 16384 * versions) }
-        ensures len { IfOk result (λ run. run.versions ≡ versions) }
         ensures kept { IfOk result (λ run. AreMisfitsOf (D.view disk.old) desc.now
             (marked_seen run)) }
         ensures damaged { (b : ℕ) → IsErrOf result (trouble.Damaged b)

@@ -50,7 +50,7 @@ impl Sights {
     pub fn new(alloc: Global, tree: &Tree) -> Result<Sights, NoMemory>
         ensures ok { IfOk result (λ s. IsSighting tree.now.parents [] s) }
         ensures len { IfOk result (λ s. length s.own ≡ length tree.now.parents) }
-        ensures placed { IfOk result
+        ensures kept { IfOk result
             (λ s. IsPreorder (length tree.now.parents) tree.now.parents s.order) }
     {
         let versions = tree.count();
@@ -78,7 +78,7 @@ impl Sights {
         ensures ok { (parents : Parents) → length self.old.own ≡ length parents
             → IsPreorder (length parents) parents self.old.order → IsSighting parents [] self.new }
         ensures len { length self.new.own ≡ length self.old.own }
-        ensures placed { self.new.order ≡ self.old.order }
+        ensures state { self.new.order ≡ self.old.order }
     {
         self.own.fill(0);
         self.hidden.fill(0);
@@ -96,7 +96,7 @@ impl Sights {
             → versions_added (groups ++ versions.now ∷ []) ≤ 2 ^ 48
             → IsSighting tree.now.parents (groups ++ versions.now ∷ []) self.new }
         ensures len { length self.new.own ≡ length self.old.own }
-        ensures placed { self.new.order ≡ self.old.order }
+        ensures state { self.new.order ≡ self.old.order }
     {
         // For the proof: the parents are a tree.
         let _ = tree.count();

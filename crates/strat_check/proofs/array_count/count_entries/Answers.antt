@@ -15,7 +15,7 @@ walk-requires-clause-kept g c =
     let n : ℕ = length c.args.tree.now.parents in
     let none : c.new-group.result.versions.items ≡ [] = c.new-group.ensures.ok.1 in
     record {
-      bound = c.in_ok-run.ensures.len ∙ c.count.ensures.ok;
+      bound = omega (arith, c.in_ok-run.ensures.found, c.count.ensures.ok);
       are = record {
         descending = ap descends none;
         low = ap (list_all (λ v. ltb v n)) none;
@@ -27,14 +27,14 @@ pub returns-clause-ok : goal.returns-clause-ok
 returns-clause-ok g c =
     ok_then c.walk.result c.walk.ensures.ok (λ whole walks is f content exposed on up begun.
     alone_sighted c.args.tree.now.parents c.count.ensures.kept c.count.result c.count.ensures.ok content up c.new-group.result c.args.sights.now c.walk.new.sights ((unmarked_seen c.in_ok-run.run').left f)
-    c.new-group.ensures.ok.1 (c.in_ok-run.ensures.state f exposed content on up) (few_below c.count.result f (blocks_of c.args.desc.now.extents) content c.requires.fits.few on) begun
+    c.new-group.ensures.ok.1 ((c.in_ok-run.ensures.ok f exposed content on up).0) (few_below c.count.result f (blocks_of c.args.desc.now.extents) content c.requires.fits.few on) begun
     (c.walk.ensures.len ∙ c.requires.len) (λ all few walking. walks is f all (c.open.ensures.same.same ∙ exposed) few walking))
 
 pub returns-clause-none : goal.returns-clause-none
 returns-clause-none g c =
     ok_then c.walk.result c.walk.ensures.none (λ whole more is f content exposed on up.
     let many = more is f (c.open.ensures.same.same ∙ exposed) in
-    let left = ap (λ es. length es) (c.in_ok-run.ensures.state f exposed content on up) in
+    let left = ap (λ es. length es) ((c.in_ok-run.ensures.ok f exposed content on up).0) in
     let few = few_below c.count.result f (blocks_of c.args.desc.now.extents) content c.requires.fits.few on in
     omega (arith, many, left, few))
 

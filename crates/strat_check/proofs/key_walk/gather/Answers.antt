@@ -13,16 +13,16 @@ returns-clause-kept c =
     let versions : List ℕ = c.turn.new.group.versions.items in
     let turned = c.in_ok-turn.ensures in
     record {
-      descending = subst (λ (vs : List ℕ). descends vs ≡ true) (sym c.in_ok-push.ensures.items) (descends_more versions c.args.e.now.version turned.kept.descending turned.next);
+      descending = subst (λ (vs : List ℕ). descends vs ≡ true) (sym c.in_ok-push.ensures.items) (descends_more versions c.args.e.now.version turned.kept.descending turned.state);
       low = subst (λ (vs : List ℕ). list_all (λ v. ltb v n) vs ≡ true) (sym c.in_ok-push.ensures.items)
           (all_more (λ v. ltb v n) versions c.args.e.now.version turned.kept.low (lt-ltb c.args.e.now.version n c.requires.fits));
     }
 
-pub returns-clause-next : goal.returns-clause-next
-returns-clause-next c = λ d less of_key.
+pub returns-clause-state : goal.returns-clause-state
+returns-clause-state c = λ d less of_key.
     let turned = c.in_ok-turn.ensures in
     subst (λ (vs : List ℕ). list_all (λ v. ltb d.version v) vs ≡ true) (sym c.in_ok-push.ensures.items)
-    (follows (entry_of c.args.e.now) d c.turn.new.group.versions.items turned.next less (is_of_key c.turn.new.group.key.items d of_key ∙ turned.found))
+    (follows (entry_of c.args.e.now) d c.turn.new.group.versions.items turned.state less (is_of_key c.turn.new.group.key.items d of_key ∙ turned.found))
 
 pub returns-clause-ok : goal.returns-clause-ok
 returns-clause-ok c = λ all left few walking.

@@ -40,8 +40,8 @@ loop-preserved g c =
     record {
       kept = next.kept;
       len = next.len ∙ inv.len;
-      placed = next.placed ∙ inv.placed;
+      placed = next.state ∙ inv.placed;
       reads = read_on unmarked_seen _ _ _ _ _ _ _ _ _ _ _ _ _ inv.reads (read_well unmarked_seen _ _ _ _ _ _ _ _ _ _ next.reads);
-      fewer = λ f exposed. let one = next.fewer more f (inv.reads.same.same ∙ exposed) in let before = inv.fewer f exposed in omega (arith, one, before);
+      fewer = λ f exposed. let one = next.end more f (inv.reads.same.same ∙ exposed) in let before = inv.fewer f exposed in omega (arith, one, before);
       walked = λ f all exposed few walking. next.ok more f all (inv.reads.same.same ∙ exposed) few (inv.walked f all exposed few walking);
     }

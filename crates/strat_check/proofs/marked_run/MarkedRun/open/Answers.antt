@@ -20,14 +20,10 @@ returns-in_err-reach_below-clause-damaged g c = λ b torn.
 
 pub returns-clause-ok : goal.returns-clause-ok
 returns-clause-ok g c = λ f exposed content on up.
-    ap (map (marked c.args.place))
-    (below_opened (g.D.Disk.view c.args.disk.now) c.args.versions c.args.desc.now.extents c.in_ok-blocks.blocks c.reach_below.new.blocks c.reach_below.new.at
-    c.in_ok-blocks.ensures.ok c.reach_below.ensures.state c.in_ok-reach_below.ensures.ok f exposed content on up)
-
-pub returns-clause-state : goal.returns-clause-state
-returns-clause-state g c = λ f exposed content on up.
+    let below =
     below_opened (g.D.Disk.view c.args.disk.now) c.args.versions c.args.desc.now.extents c.in_ok-blocks.blocks c.reach_below.new.blocks c.reach_below.new.at
-    c.in_ok-blocks.ensures.ok c.reach_below.ensures.state c.in_ok-reach_below.ensures.ok f exposed content on up
+    c.in_ok-blocks.ensures.ok c.reach_below.ensures.state c.in_ok-reach_below.ensures.ok f exposed content on up in
+    (below, ap (map (marked c.args.place)) below)
 
 pub returns-clause-kept : goal.returns-clause-kept
 returns-clause-kept g c = λ f b exposed bad.

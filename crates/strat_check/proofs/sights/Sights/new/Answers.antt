@@ -14,7 +14,7 @@ returns-clause-ok c =
     none_sighted parents n _ c.in_ok-own.ensures.ok c.in_ok-hidden.ensures.ok c.in_ok-hidden_weight.ensures.ok
     (subst (λ (k : ℕ). IsPreorder k parents c.number.new.self) (c.in_ok-order.ensures.len ∙ sym own) placed)
 
-pub returns-clause-placed : goal.returns-clause-placed
-returns-clause-placed c =
+pub returns-clause-kept : goal.returns-clause-kept
+returns-clause-kept c =
     subst (λ (k : ℕ). IsPreorder k c.args.tree.now.parents c.number.new.self) (c.in_ok-order.ensures.len ∙ c.count-versions.ensures.ok)
     (c.number.ensures.ok c.args.tree.now.parents (λ v lt. refl))
