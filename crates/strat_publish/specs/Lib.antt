@@ -1,4 +1,5 @@
 pub mod Publishing
+pub mod Stub
 pub mod Promoting
 pub mod Settling
 pub mod Counting
