@@ -107,13 +107,12 @@ pub(crate) fn promote<D: Disk>(
         → HoldInMemory f s memory.now levels.now
         → AreUsed space.old (blocks_listed (arrays_there levels.now))
         → AreFiltersOn g (arrays_made made.level) made.filters) }
-    ensures fits { IfOk result (λ made. (1 ≤ made.target) × (made.target ≤ 22))
+    ensures fits { IfOk result (λ made. (1 ≤ made.target) × (made.target ≤ 22)
+        × (made.entries ≡ min (entries_if_any made.level) (2 ^ 64 - 1)))
         × (IsErrOf result Unfit → HasAmpleRoom space.old → (f : Image) (s : State)
         → Exposes (D.view disk.old) f → IsSound s → s.mem ≡ mem
         → HoldInMemory f s memory.now levels.now
         → AreUsed space.old (blocks_listed (arrays_there levels.now)) → ⊥) }
-    ensures len { IfOk result (λ made.
-        made.entries ≡ min (entries_if_any made.level) (2 ^ 64 - 1)) }
     ensures room { IfOk result (λ made.
         UsesMore space.old (extents_of (arrays_made made.level)) space.new) }
     ensures used { IfOk result (λ made. used_count space.new ≡ used_count space.old
