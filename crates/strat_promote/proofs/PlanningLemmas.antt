@@ -3,7 +3,7 @@ use Rattle.std.proofs.Common.{◌≡◌, ◌+◌, ℕ, zero, suc, inl, inr, ◌�
 use Rattle.std.specs.List.{slice_get}
 use Rattle.strat_array.specs.Progress.{ArrayProgress}
 use Rattle.strat_array.specs.Pushed.{IsPushed}
-use Rattle.strat_array.proofs.StayLemmas.{none_pushed}
+use Rattle.def_bytes.specs.Arrays.{entries_on}
 use Rattle.def_crash.specs.Image.{Image}
 use Rattle.strat_promote.specs.Planning.{AreNew, IsNew}
 
@@ -32,9 +32,14 @@ new_more first n ws w len new is = record {
       ];
 }
 
--- a writer that is begun is new
+-- nothing was pushed into a writer that is begun
+begun_pushed : (f : Image) (id : ℕ) → IsPushed f (record { id = id; count = 0; pending = []; extents = []; filter = None }) []
+unfolding entries_on
+begun_pushed f id = record { stands = record { written = []; read = refl; all = refl }; count = refl; filter = tt }
+
+-- it is new
 pub one_new : (id : ℕ) (w : ArrayProgress) → w ≡ record { id = id; count = 0; pending = []; extents = []; filter = None } → IsNew id w
-one_new id w is = subst (λ (x : ArrayProgress). IsNew id x) (sym is) (record { same = refl; pushed = λ f. none_pushed f id })
+one_new id w is = subst (λ (x : ArrayProgress). IsNew id x) (sym is) (record { same = refl; pushed = λ f. begun_pushed f id })
 
 -- it stays so where it keeps a filter, and where there was no memory for one
 pub kept_new : {T E : Type 0} (r : Result T E) (id : ℕ) (old new : ArrayProgress) (bits : List Bool) → OnOk r (new ≡ record old { filter = Some bits }) → OnErr r (new ≡ old)

@@ -118,8 +118,8 @@ abbrev pub level_of : Promotion → Option LevelDesc
 level_of p = p.level
 
 -- the arrays of the level that it made
-abbrev pub arrays_of : Promotion → List ArrayDesc
-arrays_of p = arrays_if_any p.level
+abbrev pub arrays_promoted : Promotion → List ArrayDesc
+arrays_promoted p = arrays_if_any p.level
 
 -- the filters that it keeps of the arrays that it made are of exactly the keys that these have in an image
 abbrev pub FiltersStand : Image → Promotion → Type 0

@@ -42,7 +42,8 @@ pub enum Progress {
 ///
 /// It goes twice over the entries: once to count them, and once, when the versions are split, to write them. In memory it
 /// holds a block for each array that it reads and for each that it writes, the entries of level 0, the group of one key, 28
-/// bytes for each version and some 60 for each part of the plan. There are at most as many arrays in a level as versions.
+/// bytes for each version and some 60 for each part of the plan. There are at most as many arrays in a level as versions. It
+/// also holds a byte for each entry that it is to write, for filters of the arrays, as far as there is memory for these.
 #[derive(Drop)]
 pub struct Promotion {
     task: Task,
@@ -57,7 +58,7 @@ impl Promotion {
     ghost use Rattle.strat_extent.specs.Change.{IsMarked, CanGive};
     ghost use Rattle.strat_promote.specs.Closing.{AreAllUsed};
     ghost use Rattle.strat_promote.specs.Job.{Job, IsBadInput, arrays_to, blocks_listed};
-    ghost use Rattle.strat_promote.specs.Promotions.{IsBegun, IsOpen, IsFed, IsItsJob, HasBegun, IsSliced, MatchProgress, SamePromotion, inputs_given, writers_of, ReadsFrom, ReadsOf, ReadsItsBlocks, FiltersStand, HasMadeTheSame, arrays_of, leads_listed, entries_taken, entries_if_any, extents_taken, has_ended, target_of, level_of};
+    ghost use Rattle.strat_promote.specs.Promotions.{IsBegun, IsOpen, IsFed, IsItsJob, HasBegun, IsSliced, MatchProgress, SamePromotion, inputs_given, writers_of, ReadsFrom, ReadsOf, ReadsItsBlocks, FiltersStand, HasMadeTheSame, arrays_promoted, leads_listed, entries_taken, entries_if_any, extents_taken, has_ended, target_of, level_of};
     ghost use Rattle.strat_promote.specs.Owned.{OwnsItsBlocks};
     ghost use Rattle.strat_promote.specs.Spaces.{HasAmpleRoom, TakesMore};
 
@@ -140,9 +141,8 @@ impl Promotion {
             (inputs_given zero.now.list pool.now levels.now tree.now.parents) job
             → AreUsed space.old (blocks_listed job.arrays) → HasBegun f job self.old
             → MatchProgress p (Unit {0}) (FiltersStand g self.new)) }
-        ensures found { AreAllUsed space.new (writers_of self.new) }
-        ensures room { TakesMore space.old space.new
-            (extents_taken self.old) (extents_taken self.new) }
+        ensures room { AreAllUsed space.new (writers_of self.new)
+            × TakesMore space.old space.new (extents_taken self.old) (extents_taken self.new) }
         ensures same { TearsBlocks (is_free space.old) (D.view disk.old) (D.view disk.new)
             × SamePromotion self.old self.new }
         ensures cause { HasCause Device (D.faults disk.old) (D.faults disk.new) result }
@@ -194,7 +194,7 @@ impl Promotion {
 
     /// The arrays of the level that it made. O(1).
     pub fn made(&self) -> &[ArrayDesc]
-        ensures ok { result.now ≡ arrays_of self.now }
+        ensures ok { result.now ≡ arrays_promoted self.now }
     {
         match &self.level {
             Some(level) => level.arrays.as_slice(),
@@ -206,7 +206,7 @@ impl Promotion {
     /// only error is want of memory, when the array was begun or by an earlier call that took it.
     pub fn take_filter(&mut self, id: u64) -> Result<Filter, NoMemory>
         ensures ok { IfOk result (λ bits. (g : Image) (a : TheDesc) (es : List TheEntry)
-            → FiltersStand g self.old → Contains (arrays_of self.old) a → a.id ≡ id
+            → FiltersStand g self.old → Contains (arrays_promoted self.old) a → a.id ≡ id
             → entries_on g (blocks_of a.extents) ≡ Some es → IsFilterOf bits es) }
         ensures kept { (g : Image) → FiltersStand g self.old → FiltersStand g self.new }
         ensures same { HasMadeTheSame self.old self.new }

@@ -98,8 +98,8 @@ pub(crate) fn take_steps<D: Disk>(
         → AreUsed space.old (blocks_listed job.arrays) → IsUnderway f job task.now.first stage.old
         → MatchStep step (Unit {0})
         (λ level. AreFiltered g task.now.first (stage_writers stage.new) level)) }
-    ensures found { AreAllUsed space.new (stage_writers stage.new) }
-    ensures room { TakesMore space.old space.new (all_extents (stage_writers stage.old))
+    ensures room { AreAllUsed space.new (stage_writers stage.new)
+        × TakesMore space.old space.new (all_extents (stage_writers stage.old))
         (all_extents (stage_writers stage.new)) }
     ensures same { TearsBlocks (is_free space.old) (D.view disk.old) (D.view disk.new) }
     ensures cause { HasCause Device (D.faults disk.old) (D.faults disk.new) result }

@@ -258,8 +258,8 @@ fn step_writing<D: Disk>(
     ensures fits { IsErrOf result Unfit → (f : Image) (job : Job) → Exposes (D.view disk.old) f
         → IsWriting input_seen f job task.now.first writing.old
         → HasFewFree space.old (2 ^ 28 + 16384) }
-    ensures found { AreAllUsed space.new writing.new.filling.writers.items }
-    ensures room { TakesMore space.old space.new (all_extents writing.old.filling.writers.items)
+    ensures room { AreAllUsed space.new writing.new.filling.writers.items
+        × TakesMore space.old space.new (all_extents writing.old.filling.writers.items)
         (all_extents writing.new.filling.writers.items) }
     ensures same { TearsBlocks (is_free space.old) (D.view disk.old) (D.view disk.new) }
     ensures cause { HasCause Device (D.faults disk.old) (D.faults disk.new) result }
@@ -325,8 +325,8 @@ pub(crate) fn take_step<D: Disk>(
         → AreUsed space.old (blocks_listed job.arrays) → IsUnderway f job task.now.first stage.old
         → MatchStep step (Unit {0})
         (λ level. AreFiltered g task.now.first (stage_writers stage.new) level)) }
-    ensures found { AreAllUsed space.new (stage_writers stage.new) }
-    ensures room { TakesMore space.old space.new (all_extents (stage_writers stage.old))
+    ensures room { AreAllUsed space.new (stage_writers stage.new)
+        × TakesMore space.old space.new (all_extents (stage_writers stage.old))
         (all_extents (stage_writers stage.new)) }
     ensures same { TearsBlocks (is_free space.old) (D.view disk.old) (D.view disk.new) }
     ensures cause { HasCause Device (D.faults disk.old) (D.faults disk.new) result }
