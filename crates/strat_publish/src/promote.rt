@@ -9,7 +9,7 @@ ghost use Rattle.def_crash.specs.Moments.{Exposes};
 ghost use Rattle.strat_extent.specs.Blocks.{is_free, used_count};
 ghost use Rattle.def_bytes.specs.Arrays.{blocks_of};
 ghost use Rattle.strat_promote.specs.Job.{IsBadInput, blocks_listed};
-ghost use Rattle.strat_promote.specs.Promotions.{FiltersStand, arrays_of, entries_if_any, has_ended, level_of, target_of};
+ghost use Rattle.strat_promote.specs.Promotions.{FiltersStand, arrays_promoted, entries_if_any, has_ended, level_of, target_of};
 ghost use Rattle.strat_promote.specs.Spaces.{HasAmpleRoom};
 ghost use Rattle.strat_promote.specs.declared.obstacle.Obstacle.TheVariants.{Damaged, Device, Unfit};
 ghost use Rattle.def_publish.specs.Next.{arrays_made};
@@ -48,7 +48,7 @@ pub(crate) struct Made {
 fn take_filters(alloc: Global, promotion: &mut Promotion, first: u64) -> LevelFilters
     requires fits { first ≤ 2 ^ 63 }
     ensures ok { (g : Image) → FiltersStand g promotion.old
-        → AreFiltersOn g (arrays_of promotion.old) result }
+        → AreFiltersOn g (arrays_promoted promotion.old) result }
     ensures same { (level_of promotion.new ≡ level_of promotion.old)
         × (target_of promotion.new ≡ target_of promotion.old)
         × (has_ended promotion.new ≡ has_ended promotion.old) }
