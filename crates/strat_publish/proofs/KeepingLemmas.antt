@@ -22,7 +22,7 @@ use Rattle.strat_memory.specs.Filters.{LevelFilters, AreFiltersOn, filter_of}
 use Rattle.strat_promote.specs.declared.promotion.Promotion.{Promotion}
 use Rattle.strat_publish.specs.Promoting.{HasTaken}
 use Rattle.strat_promote.specs.Opening.{arrays_if_any}
-use Rattle.strat_promote.specs.Promotions.{FiltersStand, HasMadeTheSame, arrays_of}
+use Rattle.strat_promote.specs.Promotions.{FiltersStand, HasMadeTheSame, arrays_promoted}
 
 -- what an image makes of a list is made of an item of it
 some_back : {A B : Type 0} (h : A → Option B) (xs : List A) (ys : List B) (y : B) → all_some h xs ≡ Some ys → Among y ys → (x : A) × Among x xs × (h x ≡ Some y)
@@ -98,7 +98,7 @@ filter_next first kept o id bits at = here (leb first id) refl
 
 -- one more was taken
 pub taken_more : {E : Type 0} (old now next : Promotion) (first id : ℕ) (kept : List (Option (List Bool))) (r : Result (List Bool) E) (o : Option (List Bool)) → HasTaken old now first kept
-    → IfOk r (λ bits. (g : Image) (a : ArrayDesc) (es : List Entry) → FiltersStand g now → Contains (arrays_of now) a → a.id ≡ id → entries_on g (blocks_of a.extents) ≡ Some es → IsFilterOf bits es)
+    → IfOk r (λ bits. (g : Image) (a : ArrayDesc) (es : List Entry) → FiltersStand g now → Contains (arrays_promoted now) a → a.id ≡ id → entries_on g (blocks_of a.extents) ≡ Some es → IsFilterOf bits es)
     → ((g : Image) → FiltersStand g now → FiltersStand g next) → HasMadeTheSame now next → id ≡ first + length kept → o ≡ result_ok r → HasTaken old next first (kept ++ o ∷ [])
 taken_more old now next first id kept r o before told stand same id_is o_is = record {
   stand = λ g stands. stand g (before.stand g stands);
@@ -114,8 +114,8 @@ taken_more old now next first id kept r o before told stand same id_is o_is = re
 }
   where
     of_result : {E : Type 0} {bits : List Bool} (r : Result (List Bool) E)
-        → IfOk r (λ bits. (g : Image) (a : ArrayDesc) (es : List Entry) → FiltersStand g now → Contains (arrays_of now) a → a.id ≡ id → entries_on g (blocks_of a.extents) ≡ Some es → IsFilterOf bits es)
-        → result_ok r ≡ Some bits → (g : Image) (a : ArrayDesc) (es : List Entry) → FiltersStand g now → Contains (arrays_of now) a → a.id ≡ id → entries_on g (blocks_of a.extents) ≡ Some es → IsFilterOf bits es
+        → IfOk r (λ bits. (g : Image) (a : ArrayDesc) (es : List Entry) → FiltersStand g now → Contains (arrays_promoted now) a → a.id ≡ id → entries_on g (blocks_of a.extents) ≡ Some es → IsFilterOf bits es)
+        → result_ok r ≡ Some bits → (g : Image) (a : ArrayDesc) (es : List Entry) → FiltersStand g now → Contains (arrays_promoted now) a → a.id ≡ id → entries_on g (blocks_of a.extents) ≡ Some es → IsFilterOf bits es
     of_result {bits = bits} (Ok x) told is g a es stands of here on = let e : x ≡ bits = cc in subst (λ (y : List Bool). IsFilterOf y es) e (told g a es stands of here on)
     of_result {bits = bits} (Err x) told is g a es stands of here on = let e : None ≡ Some bits = is in absurd (cc)
 
@@ -125,5 +125,5 @@ arrays_same None = refl
 arrays_same (Some level) = refl
 
 -- so the filters of a promotion are of exactly their keys
-pub taken_of_made : (g : Image) (p : Promotion) (made : Option LevelDesc) (filters : LevelFilters) → made ≡ p.level → AreFiltersOn g (arrays_of p) filters → AreFiltersOn g (arrays_made made) filters
+pub taken_of_made : (g : Image) (p : Promotion) (made : Option LevelDesc) (filters : LevelFilters) → made ≡ p.level → AreFiltersOn g (arrays_promoted p) filters → AreFiltersOn g (arrays_made made) filters
 taken_of_made g p made filters is on = subst (λ (ds : List ArrayDesc). AreFiltersOn g ds filters) (ap arrays_if_any (sym is) ∙ arrays_same made) on

@@ -16,7 +16,7 @@ use Rattle.def_state.specs.State.{State, IsPaid, versions_of, journal_updates}
 use Rattle.strat_cursor.specs.Looking.{levels_there, arrays_there}
 use Rattle.strat_memory.specs.Filters.{AreFiltersOn}
 use Rattle.strat_memory.specs.Memory.{Memory}
-use Rattle.strat_promote.specs.Promotions.{FiltersStand, arrays_of}
+use Rattle.strat_promote.specs.Promotions.{FiltersStand, arrays_promoted}
 use Rattle.strat_promote.specs.declared.promotion.Promotion.{Promotion}
 
 -- how many leads level 0 has, and then levels 1 to 22
@@ -64,4 +64,4 @@ pub record HasTaken (old now : Promotion) (first : ℕ) (kept : List (Option (Li
   pub task : now.task ≡ old.task
   pub ended : now.is_done ≡ old.is_done
   pub filters : (g : Image) → FiltersStand g old
-      → AreFiltersOn g (arrays_of old) (record { first = first; kept = kept })
+      → AreFiltersOn g (arrays_promoted old) (record { first = first; kept = kept })

@@ -136,8 +136,8 @@ fn compute_beside<D: Disk>(
         (record { manifest = manifest_of r.manifest; blocks = blocks_of r.chain })) }
     ensures fits { IfOk result (λ r. (places.first_free held.now.sb.mem ≤ r.first)
         × (r.first < 4294967295) × (29 ≤ r.length)
-        × IsTrue (is_lawful_manifest newest_format (manifest_of r.manifest))) }
-    ensures target { IfOk result (λ r. (1 ≤ r.made.target) × (r.made.target ≤ 22)) }
+        × IsTrue (is_lawful_manifest newest_format (manifest_of r.manifest))
+        × (1 ≤ r.made.target) × (r.made.target ≤ 22)) }
     ensures err { IsErrOf result obstacle.Unfit → (x : Contents) (cached : Blocks)
         → StandsWith (D.view disk.old) (held_of held.now cached) x → ⊥ }
     ensures images { (cached : Blocks)
@@ -248,7 +248,6 @@ fn prepare_next<D: Disk>(
         → IsReadied (D.view disk.new) (held_of held.now cached) x (super_of next.sb)
         (chained_of next.published)
         (filters_after held.now.filters next.target next.filters)) }
-    ensures target { IfOk result (λ next. (1 ≤ next.target) × (next.target ≤ 22)) }
     ensures fits { IfOk result (λ next. (cached : Blocks)
         → MayFollow (held_of held.now cached) (super_of next.sb) (chained_of next.published)) }
     ensures found { IfOk result (λ next. ArePublishedTo next.target (super_of held.now.sb)
@@ -258,7 +257,8 @@ fn prepare_next<D: Disk>(
         next.sb.manifest next.sb.length (chained_of next.published)) }
     ensures kept { IfOk result (λ next. IsAdmitted (super_of next.sb) next.published
         × ((cached : Blocks)
-        → StandApart next.target (held_of held.now cached) (chained_of next.published))) }
+        → StandApart next.target (held_of held.now cached) (chained_of next.published))
+        × (1 ≤ next.target) × (next.target ≤ 22)) }
     ensures err { IsErrOf result obstacle.Unfit → (x : Contents) (cached : Blocks)
         → StandsWith (D.view disk.old) (held_of held.now cached) x → ⊥ }
     ensures images { (cached : Blocks)
@@ -344,8 +344,7 @@ fn install<D: Disk>(
     disk: &mut D,
 ) -> Result<(), Failed>
     requires fits { (held.old.slot ≤ 1) × (held.old.journal.active ≤ 1)
-        × IsLawful (super_of next.sb) }
-    requires target { (1 ≤ next.target) × (next.target ≤ 22) }
+        × IsLawful (super_of next.sb) × (1 ≤ next.target) × (next.target ≤ 22) }
     requires room { (held.old.memory.ready ≡ Some held.old.sb.mem)
         × (length held.old.memory.cursors.retired
         + length (arrays_in (manifest_of held.old.published.manifest).levels)

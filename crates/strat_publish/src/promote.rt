@@ -9,7 +9,7 @@ ghost use Rattle.def_crash.specs.Moments.{Exposes};
 ghost use Rattle.strat_extent.specs.Blocks.{is_free, used_count};
 ghost use Rattle.def_bytes.specs.Arrays.{blocks_of};
 ghost use Rattle.strat_promote.specs.Job.{IsBadInput, blocks_listed};
-ghost use Rattle.strat_promote.specs.Promotions.{FiltersStand, arrays_of, entries_if_any, has_ended, level_of, target_of};
+ghost use Rattle.strat_promote.specs.Promotions.{FiltersStand, arrays_promoted, entries_if_any, has_ended, level_of, target_of};
 ghost use Rattle.strat_promote.specs.Spaces.{HasAmpleRoom};
 ghost use Rattle.strat_promote.specs.declared.obstacle.Obstacle.TheVariants.{Damaged, Device, Unfit};
 ghost use Rattle.def_publish.specs.Next.{arrays_made};
@@ -48,7 +48,7 @@ pub(crate) struct Made {
 fn take_filters(alloc: Global, promotion: &mut Promotion, first: u64) -> LevelFilters
     requires fits { first ≤ 2 ^ 63 }
     ensures ok { (g : Image) → FiltersStand g promotion.old
-        → AreFiltersOn g (arrays_of promotion.old) result }
+        → AreFiltersOn g (arrays_promoted promotion.old) result }
     ensures same { (level_of promotion.new ≡ level_of promotion.old)
         × (target_of promotion.new ≡ target_of promotion.old)
         × (has_ended promotion.new ≡ has_ended promotion.old) }
@@ -107,13 +107,12 @@ pub(crate) fn promote<D: Disk>(
         → HoldInMemory f s memory.now levels.now
         → AreUsed space.old (blocks_listed (arrays_there levels.now))
         → AreFiltersOn g (arrays_made made.level) made.filters) }
-    ensures fits { IfOk result (λ made. (1 ≤ made.target) × (made.target ≤ 22))
+    ensures fits { IfOk result (λ made. (1 ≤ made.target) × (made.target ≤ 22)
+        × (made.entries ≡ min (entries_if_any made.level) (2 ^ 64 - 1)))
         × (IsErrOf result Unfit → HasAmpleRoom space.old → (f : Image) (s : State)
         → Exposes (D.view disk.old) f → IsSound s → s.mem ≡ mem
         → HoldInMemory f s memory.now levels.now
         → AreUsed space.old (blocks_listed (arrays_there levels.now)) → ⊥) }
-    ensures len { IfOk result (λ made.
-        made.entries ≡ min (entries_if_any made.level) (2 ^ 64 - 1)) }
     ensures room { IfOk result (λ made.
         UsesMore space.old (extents_of (arrays_made made.level)) space.new) }
     ensures used { IfOk result (λ made. used_count space.new ≡ used_count space.old

@@ -57,7 +57,7 @@ returns-clause-err g c = λ unfit x cached stands.
 
 pub returns-clause-fits : goal.returns-clause-fits
 returns-clause-fits g c = if_ok_then c.compute_next.result c.compute_next.ensures.fits (λ r fits.
-    (let first = (c.in_ok-space.ensures.ok (empty_cache 0) []).first in omega (arith, first, fits.2), fits.3, fits.4, fits.5))
+    (let first = (c.in_ok-space.ensures.ok (empty_cache 0) []).first in omega (arith, first, fits.2), fits.3, fits.4, fits.5, fits.0, fits.1))
 
 pub returns-clause-images : goal.returns-clause-images
 returns-clause-images g c = λ cached.

@@ -1,4 +1,4 @@
-use Rattle.std.proofs.Common.{ℕ, sym, ap, subst, ◌∙◌}
+use Rattle.std.proofs.Common.{ℕ, sym, ap, subst, ◌∙◌, arith}
 use Rattle.std.proofs.lemmas.Result.{err_from_is_err_and}
 use Rattle.strat_base.proofs.ResultFacts.{err_of}
 use Rattle.def_bytes.specs.Arrays.{blocks_of}
@@ -64,4 +64,6 @@ returns-clause-kept g c = (
       let y : Chained = record { manifest = manifest_of c.in_ok-computed.computed.manifest; blocks = blocks_of c.in_ok-computed.computed.chain } in
       subst (λ (y : Chained). StandApart c.in_ok-next.next.target (held_of c.args.held.now cached) y) (sym c.in_ok-next.ensures.found)
       (subst (λ (n : ℕ). StandApart n (held_of c.args.held.now cached) y) (sym c.in_ok-next.ensures.ok.2) apart),
+  omega (arith, c.in_ok-next.ensures.ok.2, c.in_ok-computed.ensures.fits.4),
+  omega (arith, c.in_ok-next.ensures.ok.2, c.in_ok-computed.ensures.fits.5),
 )

@@ -119,7 +119,7 @@ install-requires-clause-room g c =
 pub install-requires-clause-fits : goal.install-requires-clause-fits
 install-requires-clause-fits g c =
     let whole = c.requires.kept.0 (empty_cache 0) in
-    (whole.slot, let active = whole.log.active in let most = whole.lawful.region_most in omega (arith, active, most), (c.in_ok-next.ensures.fits (empty_cache 0)).lawful)
+    (whole.slot, let active = whole.log.active in let most = whole.lawful.region_most in omega (arith, active, most), (c.in_ok-next.ensures.fits (empty_cache 0)).lawful, c.in_ok-next.ensures.kept.2, c.in_ok-next.ensures.kept.3)
 
 pub install-requires-clause-same : goal.install-requires-clause-same
 install-requires-clause-same g c = (c.in_ok-next.ensures.fits (empty_cache 0)).mem

@@ -48,13 +48,13 @@ pub returns-in-Ok-Done-clause-room : goal.returns-in-Ok-Done-clause-room
 returns-in-Ok-Done-clause-room g c =
     subst (λ (made : Option LevelDesc). UsesMore c.args.space.now (extents_of (arrays_made made)) c.slice.new.space) (sym c.take_made.ensures.ok.1)
     (takes_its_blocks c.args.memory.now c.args.levels.now c.args.mem c.args.next_array _ c.parts.result.0.now.list c.parts.result.1.now c.parts.result.2.now.parents _
-    c.parts.ensures.ok c.parts.ensures.found.0 c.parts.ensures.found.1 c.count-versions.ensures.ok c.in_ok-promotion.ensures.ok _ _ c.slice.new.self _ c.slice.ensures.room (rw c.in-Ok-Done.field-0-is at c.in-Ok-Done.ensures.kept).1)
+    c.parts.ensures.ok c.parts.ensures.found.0 c.parts.ensures.found.1 c.count-versions.ensures.ok c.in_ok-promotion.ensures.ok _ _ c.slice.new.self _ c.slice.ensures.room.1 (rw c.in-Ok-Done.field-0-is at c.in-Ok-Done.ensures.kept).1)
 
 pub returns-in-Ok-Done-clause-used : goal.returns-in-Ok-Done-clause-used
 returns-in-Ok-Done-clause-used g c =
     subst (λ (made : Option LevelDesc). used_count c.slice.new.space ≡ used_count c.args.space.now + length (blocks_of (extents_of (arrays_made made)))) (sym c.take_made.ensures.ok.1)
     (counts_its_blocks c.args.memory.now c.args.levels.now c.args.mem c.args.next_array _ c.parts.result.0.now.list c.parts.result.1.now c.parts.result.2.now.parents _
-    c.parts.ensures.ok c.parts.ensures.found.0 c.parts.ensures.found.1 c.count-versions.ensures.ok c.in_ok-promotion.ensures.ok _ _ c.slice.new.self _ c.slice.ensures.room (rw c.in-Ok-Done.field-0-is at c.in-Ok-Done.ensures.kept).1)
+    c.parts.ensures.ok c.parts.ensures.found.0 c.parts.ensures.found.1 c.count-versions.ensures.ok c.in_ok-promotion.ensures.ok _ _ c.slice.new.self _ c.slice.ensures.room.1 (rw c.in-Ok-Done.field-0-is at c.in-Ok-Done.ensures.kept).1)
 
 pub returns-in-Ok-Done-clause-reads : goal.returns-in-Ok-Done-clause-reads
 returns-in-Ok-Done-clause-reads g c =
