@@ -433,7 +433,7 @@ impl Store {
     /// A disk that crashed, or that an earlier run or opening failed on, may be opened as it is. If each of its crash
     /// states shows a table, each crash meanwhile leaves one of these tables, and afterwards that of the content.
     ///
-    /// It takes the memory of all changes that do not meet a full journal: 3.9 KB for each of `mem` and 75 bytes for
+    /// It takes the memory of all changes that do not meet a full journal: 3.9 KB for each of `mem` and 83 bytes for
     /// each of `versions_max`; 25 blocks, one for gets and 24 for scans; 0.5 MB for hints where blocks begin; and the
     /// levels' descriptors twice, once with an index of versions. While it recovers it takes more: 2.6 KB for each of
     /// `mem`, 0.3 MB, and 8 bytes for each block in use. Up to 1 MiB of blocks is cached later.

@@ -60,8 +60,8 @@ impl Preorder {
     /// Puts the first versions in the order of their parents, and leaves the numbers of the others as they
     /// come. O(parents).
     pub fn number_first(&mut self, parents: &[Option<Version>])
-        requires tree { IsTree parents.now }
-        requires few { length parents.now ≤ 16384 }
+        requires kept { IsTree parents.now }
+        requires fits { length parents.now ≤ 16384 }
         requires room { length parents.now ≤ length self.old.starts }
         ensures ok { OrdersFirst (length parents.now) parents.now self.new }
         ensures len { length self.new.starts ≡ length self.old.starts }
@@ -99,8 +99,8 @@ impl Preorder {
 
 /// Gives each version of a tree its interval, in the fronts of lists that may be longer.
 fn put_first_in_order(starts: &mut [u32], ends: &mut [u32], parents: &[Option<Version>])
-    requires tree { IsTree parents.now }
-    requires few { length parents.now ≤ 16384 }
+    requires kept { IsTree parents.now }
+    requires fits { length parents.now ≤ 16384 }
     requires len { length starts.old ≡ length ends.old }
     requires room { length parents.now ≤ length ends.old }
     ensures ok { AreIntervals parents.now (length parents.now)
@@ -120,8 +120,8 @@ fn parent_at(parents: &[Option<Version>], v: usize) -> Option<Version>
 
 /// Gives each version its interval in a tree.
 fn put_in_order(starts: &mut [u32], ends: &mut [u32], parents: &[Option<Version>])
-    requires tree { IsTree parents.now }
-    requires few { length parents.now ≤ 16384 }
+    requires kept { IsTree parents.now }
+    requires room { length parents.now ≤ 16384 }
     requires len { length starts.old ≡ length ends.old }
     requires fits { length ends.old ≤ length parents.now }
     ensures ok { AreIntervals parents.now (length ends.old)
@@ -134,8 +134,8 @@ fn put_in_order(starts: &mut [u32], ends: &mut [u32], parents: &[Option<Version>
 
 /// Adds up how many versions each version and its descendants are, from the greatest down.
 fn add_sizes(sizes: &mut [u32], parents: &[Option<Version>])
-    requires tree { IsTree parents.now }
-    requires few { length parents.now ≤ 16384 }
+    requires kept { IsTree parents.now }
+    requires fits { length parents.now ≤ 16384 }
     requires same { (v : ℕ) → v < length sizes.old → slice_index sizes.old v ≡ 1 }
     requires len { length sizes.old ≤ length parents.now }
     ensures ok { AreSizes parents.now (length sizes.old) (λ v. slice_index sizes.new v) }
@@ -151,9 +151,9 @@ fn add_sizes(sizes: &mut [u32], parents: &[Option<Version>])
 /// and its children begin behind the first of them. An end stands where the next child begins, and
 /// after the last child where the interval ends.
 fn lay_out(starts: &mut [u32], ends: &mut [u32], parents: &[Option<Version>])
-    requires tree { IsTree parents.now }
-    requires few { length parents.now ≤ 16384 }
-    requires kept { AreSizes parents.now (length ends.old) (λ v. slice_index ends.old v) }
+    requires kept { IsTree parents.now }
+    requires room { length parents.now ≤ 16384 }
+    requires found { AreSizes parents.now (length ends.old) (λ v. slice_index ends.old v) }
     requires len { length starts.old ≡ length ends.old }
     requires fits { length ends.old ≤ length parents.now }
     ensures ok { AreIntervals parents.now (length ends.old)

@@ -13,18 +13,18 @@ loop-v-init c =
 pub pass_up-requires-clause-room : goal.pass_up-requires-clause-room
 pass_up-requires-clause-room c =
     λ p of.
-    let both = sizes_fit c.args.parents.now c.requires.tree (length c.args.sizes.now) c.requires.len c.loop-v.v p c.loop-v.sizes c.loop-v-test.true c.loop-v.invariant.sized (rw (← c.parent_at.ensures.ok) of) in
-    omega (arith, both.1, c.requires.few)
+    let both = sizes_fit c.args.parents.now c.requires.kept (length c.args.sizes.now) c.requires.len c.loop-v.v p c.loop-v.sizes c.loop-v-test.true c.loop-v.invariant.sized (rw (← c.parent_at.ensures.ok) of) in
+    omega (arith, both.1, c.requires.fits)
 
 pub pass_up-requires-clause-kept : goal.pass_up-requires-clause-kept
 pass_up-requires-clause-kept c =
     λ p of.
-    let both = sizes_fit c.args.parents.now c.requires.tree (length c.args.sizes.now) c.requires.len c.loop-v.v p c.loop-v.sizes c.loop-v-test.true c.loop-v.invariant.sized (rw (← c.parent_at.ensures.ok) of) in
+    let both = sizes_fit c.args.parents.now c.requires.kept (length c.args.sizes.now) c.requires.len c.loop-v.v p c.loop-v.sizes c.loop-v-test.true c.loop-v.invariant.sized (rw (← c.parent_at.ensures.ok) of) in
     omega (arith, both.0, c.loop-v.invariant.len)
 
 pub loop-v-preserved : goal.loop-v-preserved
 loop-v-preserved c =
-    let next = sizes_next c.args.parents.now c.requires.tree (length c.args.sizes.now) c.requires.len c.loop-v.v c.loop-v.sizes c.loop-v.invariant.len c.loop-v-test.true c.loop-v.invariant.sized in
+    let next = sizes_next c.args.parents.now c.requires.kept (length c.args.sizes.now) c.requires.len c.loop-v.v c.loop-v.sizes c.loop-v.invariant.len c.loop-v-test.true c.loop-v.invariant.sized in
     record {
       len = rw (c.pass_up.ensures.ok) (passed_len c.loop-v.sizes c.parent_at.result (c.loop-v.v - 1) ∙ c.loop-v.invariant.len);
       some = λ positive. omega arith;

@@ -12,4 +12,4 @@ returns-clause-ok c =
     let new_ends : length c.put_first_in_order.new.ends ≡ n = c.put_first_in_order.auto.ends ∙ ends_len in
     let starts_is = with_items_is c.self.inside.starts c.put_first_in_order.new.starts (omega arith) in
     let ends_is = with_items_is c.self.inside.ends c.put_first_in_order.new.ends (omega arith) in
-    rw (starts_is, ends_is) (ancestors_span c.args.parents.now c.requires.tree (length c.args.parents.now) (omega arith) (λ w. get_or c.put_first_in_order.new.starts w 0) (λ w. get_or c.put_first_in_order.new.ends w 0) c.put_first_in_order.ensures.ok)
+    rw (starts_is, ends_is) (ancestors_span c.args.parents.now c.requires.kept (length c.args.parents.now) (omega arith) (λ w. get_or c.put_first_in_order.new.starts w 0) (λ w. get_or c.put_first_in_order.new.ends w 0) c.put_first_in_order.ensures.ok)
