@@ -327,7 +327,7 @@ module _ (v w : DiskView) (old : Held) (body : List ℕ) (met : Option Fault) (n
         let none : carries_out told.request is.response.answer.reply ≡ false = ap (carries_out told.request) reply_is ∙ and_right (is_change told.request) false refl in
         let other : is.response.answer.reply ≢ reply.Refused why.DeviceFault = λ f. let g : ◌≡◌ {A = Reply} (reply.Refused (why.Damaged b)) (reply.Refused why.DeviceFault) = sym reply_is ∙ f in cc in
         let same = told.leaves.kept none other in
-        kept_on w new old (record { slot = sym same.slot; sb = sym same.sb; chained = sym same.chained; levels = sym same.levels }) (told.leaves.on_disk other on)
+        kept_on w new old (record { slot = sym same.slot; sb = sym same.sb; chained = sym same.chained; levels = sym same.levels; filters = sym same.filters }) (told.leaves.on_disk other on)
   ]
 
   -- what a crash leaves since is paid for, where the contents were

@@ -176,6 +176,7 @@ pub record HasStaged (old new : Held) : Type 0 where
   pub spent : new.spent ≡ old.spent
   pub chained : new.chained ≡ old.chained
   pub levels : new.levels ≡ old.levels
+  pub filters : new.filters ≡ old.filters
 
 cursors_kept : (m : Memory) (c : Change) → (memory_after m c).cursors ≡ m.cursors
 cursors_kept m (Put version key value) = refl
@@ -184,7 +185,7 @@ cursors_kept m (Clone version) = refl
 cursors_kept m (DropVersion version) = refl
 
 pub has_staged : (old new : Held) (bodies : List (List ℕ)) (responses : List Response) → StagesBodies old bodies responses new → HasStaged old new
-has_staged old new [] [] all = subst (λ (s : Held). HasStaged old s) (sym all) (record { slot = refl; sb = refl; mem = refl; list = refl; cursors = refl; spent = refl; chained = refl; levels = refl })
+has_staged old new [] [] all = subst (λ (s : Held). HasStaged old s) (sym all) (record { slot = refl; sb = refl; mem = refl; list = refl; cursors = refl; spent = refl; chained = refl; levels = refl; filters = refl })
 has_staged old new [] (r ∷ rs) all = absurd all
 has_staged old new (b ∷ bs) [] all = absurd all
 has_staged old new (b ∷ bs) (r ∷ rs) all =
@@ -199,6 +200,7 @@ has_staged old new (b ∷ bs) (r ∷ rs) all =
       spent = rest.spent ∙ ap (λ (s : Held). s.spent) one.after;
       chained = rest.chained ∙ ap (λ (s : Held). s.chained) one.after;
       levels = rest.levels ∙ ap (λ (s : Held). s.levels) one.after;
+      filters = rest.filters ∙ ap (λ (s : Held). s.filters) one.after;
     }
 
 -- bodies that were staged are exchanges from one position to another, where the store stands

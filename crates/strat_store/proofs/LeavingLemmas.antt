@@ -92,6 +92,7 @@ holds_the_same r new cached told keeps journal memory = λ i. record {
   log = journal i;
   memory = memory i;
   levels = keeps.levels i;
+  filters = keeps.filters i;
   cached = cached;
   spent = is_fault told;
 }
@@ -140,7 +141,7 @@ both_keep v u w s mem whole mem_is time first second f g was now b of =
 
 -- a store that is spent or not holds the same
 keeps_spent : (s t : Held) (b : Bool) → KeepsPublished s t → KeepsPublished s (record t { spent = b })
-keeps_spent s t b same = record { slot = same.slot; sb = same.sb; chained = same.chained; levels = same.levels }
+keeps_spent s t b same = record { slot = same.slot; sb = same.sb; chained = same.chained; levels = same.levels; filters = same.filters }
 
 on_spent : (v : DiskView) (s : Held) (b : Bool) → IsOnDisk v s → IsOnDisk v (record s { spent = b })
 on_spent v s b on = record { content = on.content; exposed = on.exposed; newest = on.newest; chain = on.chain }
@@ -148,7 +149,7 @@ on_spent v s b on = record { content = on.content; exposed = on.exposed; newest 
 -- nothing was carried out
 pub left_alone : (v w : DiskView) (s : Held) (carried : Bool) (told : Reply) (b : Bool) → carried ≡ false → OnlyReads v w → LeavesPublished v w s carried told (record s { spent = b })
 left_alone v w s carried told b none reads =
-    let same : KeepsPublished s (record s { spent = b }) = record { slot = refl; sb = refl; chained = refl; levels = refl } in
+    let same : KeepsPublished s (record s { spent = b }) = record { slot = refl; sb = refl; chained = refl; levels = refl; filters = refl } in
     record {
       either = inl same;
       kept = λ _ _. same;
@@ -165,7 +166,7 @@ pub left_queried : (v w : DiskView) (r new : OpenStore) (m : Memory) (old now : 
 left_queried v w r new m old now carried told b is none reads =
     let s : Held = held_of r old in
     let t : Held = record (held_of (record r { memory = m }) now) { spent = b } in
-    let same : KeepsPublished s t = record { slot = refl; sb = refl; chained = refl; levels = refl } in
+    let same : KeepsPublished s t = record { slot = refl; sb = refl; chained = refl; levels = refl; filters = refl } in
     subst (λ (z : OpenStore). LeavesPublished v w s carried told (record (held_of z now) { spent = b })) (sym is)
     (record {
       either = inl same;

@@ -22,6 +22,7 @@ use Rattle.strat_model.specs.declared.replies.Reply.{Reply}
 use Rattle.strat_model.specs.declared.replies.Reply.TheVariants as reply
 use Rattle.def_recovery.specs.Asked.{asked}
 use Rattle.strat_store.specs.Applying.{change_wanted}
+use Rattle.strat_store.specs.Filtering.{asked_filtered}
 use Rattle.strat_store.specs.Getting.{MayTellOfKey}
 use Rattle.strat_memory.specs.Held.{Held}
 use Rattle.strat_memory.specs.Memory.{Memory, info_told, stat_told}
@@ -108,11 +109,11 @@ ReadsForLook s request before now =
     change_wanted request ≡ None → ReadsArrays (arrays_wanted s request) before now
 
 -- a command that asks for no change was answered as what is in memory says, and the arrays of its version or of its cursor where
--- they are read as an image has them, whatever is bad in others
+-- they are read as an image has them, whatever is bad in others; of a key that its filter refuses an array has no entry for a get
 abbrev pub TellsFrom : Image → Held → Request → Answer → Type 0
 TellsFrom f s (Get version key) answer = TellsOfVersion s.memory version answer
     (MayTellOfKey answer.reply × (AreReadAs f s version
-    → answer ≡ found key (asked f s.memory.parents (s.memory.entries ∷ [])
+    → answer ≡ found key (asked_filtered f s.filters s.memory.parents (s.memory.entries ∷ [])
     (levels_there s.levels) version key)))
 TellsFrom f s (Scan version lo hi limit) answer = TellsOfVersion s.memory version answer
     (MayTellOfRange answer.reply × (AreReadAs f s version → (pairs : Pairs)

@@ -60,13 +60,14 @@ pub fn a_full_journal_is_published<D: Viewed>()
         } }
 {}
 
-/// A command that was not carried out as a change, and was not told that the device failed, left slot, superblock, manifest and
-/// levels; one that was told so left them, or those of a checkpoint.
+/// A command that was not carried out as a change, and was not told that the device failed, left slot, superblock, manifest,
+/// levels and filters; one that was told so left them, or those of a checkpoint.
 pub fn no_other_command_publishes<D: Viewed>()
     ensures same { (d e : D) (old new : Held) (told : Reply)
         → LeavesPublished (D.view d) (D.view e) old false told new
         → told ≢ reply.Refused why.DeviceFault → (new.slot ≡ old.slot) × (new.sb ≡ old.sb)
-        × (new.chained ≡ old.chained) × (new.levels ≡ old.levels) }
+        × (new.chained ≡ old.chained) × (new.levels ≡ old.levels)
+        × (new.filters ≡ old.filters) }
     ensures err { (d e : D) (old new : Held)
         → LeavesPublished (D.view d) (D.view e) old false (reply.Refused why.DeviceFault) new
         → (new.slot ≡ old.slot) ⊎ (new.slot ≡ 1 - old.slot) }
