@@ -1,0 +1,3 @@
+pub mod DiskLemmas
+pub mod FollowLemmas
+pub mod LogLemmas
