@@ -1,14 +1,14 @@
 -- A trail of tables of a log.
-use Rattle.std.proofs.Common.{◌≡◌, ◌≤◌, ◌<◌, ◌+◌, ℕ, zero, suc, List, [], ◌∷◌, ◌++◌, length, arith}
+use Rattle.std.proofs.Common.{◌≤◌, ℕ, zero, suc, List, [], ◌∷◌, arith}
 use Rattle.std.specs.List.{AllByRecursion}
 use Rattle.strat_base.specs.Change.{Change}
 use Rattle.def_crash.specs.Image.{Image}
-use Rattle.def_crash.specs.Moments.{DiskView, Images}
+use Rattle.def_crash.specs.Moments.{DiskView}
 use Rattle.def_crash.specs.Trail.{At, Trail}
 use Rattle.strat_model.specs.Table.{Table}
 use Rattle.def_publish.specs.Standing.{ShowsTable}
 use Rattle.def_follow.specs.Log.{IsOfLog}
-use Rattle.def_follow.specs.OnDisk.{ShowsOfLog, EachOfLog}
+use Rattle.def_follow.specs.OnDisk.{ShowsOfLog}
 
 -- what is at an index of a list all of whose elements have a property has it
 at_all : {T : Type 0} (Q : T → Type 0) (P : T → Type 0) (xs : List T) (i : ℕ) → AllByRecursion Q xs → At xs i P → (x : T) × P x × Q x

@@ -1,30 +1,26 @@
 -- A follower of a log has the table after a prefix of it.
-use Rattle.std.proofs.Common.{◌≡◌, ◌≢◌, ◌≤◌, ◌<◌, ◌⊎◌, ◌+◌, ℕ, zero, suc, ◌==◌, Bool, true, false, not, if◌then◌else◌, cond, eqb, ltb, List, [], ◌∷◌, ◌++◌, Option, Some, None, length, take, drop, map, refl, sym, ap, ◌∙◌, subst, inl, inr, arith}
+use Rattle.std.proofs.Common.{◌≡◌, ◌≤◌, ◌+◌, ℕ, zero, suc, true, List, [], ◌∷◌, Option, Some, None, length, take, drop, refl, sym, ap, ◌∙◌, subst, inl, inr, arith}
 use Rattle.std.specs.Prelude.{slice_get}
 use Rattle.std.specs.List.{AllByRecursion}
-use Rattle.std.proofs.lemmas.Bool.{cases_eq, ne_eqb}
 use Rattle.std.proofs.lemmas.List.{append-nil, drop_at, length-take}
 use Rattle.strat_base.specs.Numbers.{be, number}
 use Rattle.strat_base.specs.Change.{change_bytes, change_in}
 use Rattle.strat_base.proofs.ChangeLemmas.{change_in-bytes}
 use Rattle.strat_base.proofs.NumberLemmas.{length-be, number-be}
 use Rattle.strat_base.specs.Change.{Change}
-use Rattle.strat_base.specs.Change as change
-use Rattle.strat_model.specs.declared.replies.Refusal.{Refusal}
 use Rattle.strat_model.specs.declared.replies.Refusal.TheVariants as why
 use Rattle.strat_model.specs.declared.replies.Reply.{Reply}
 use Rattle.strat_model.specs.declared.replies.Reply.TheVariants as reply
-use Rattle.strat_model.specs.Answer.{Answer, accepts, plain, refusal}
-use Rattle.strat_model.specs.Pairs.{Pairs, set, unset}
+use Rattle.strat_model.specs.Answer.{Answer, accepts}
 use Rattle.strat_model.specs.Run.{Position}
-use Rattle.strat_model.specs.Step.{Outcome, step, update, clone, refuses, has_row, is_frozen, pairs_at, with_pairs}
+use Rattle.strat_model.specs.Step.{step}
 use Rattle.strat_model.specs.Table.{Table, bare, fresh}
 use Rattle.def_meaning.specs.StateTable.{request_for}
 use Rattle.def_meaning.proofs.StateTableLemmas.{change_bare}
 use Rattle.def_follow.specs.Following
 use Rattle.def_follow.specs.Keeping.{IsOfLogAt, IsRightAt, IsKeptOf}
 use Rattle.def_follow.specs.Following.{Receipt, Delivery, Receives, IsFollowing, IsBrokenOff, fate_for}
-use Rattle.def_follow.specs.Log.{after_change, IsTakenAt, table_after, AreTakenFrom, IsLog, table_of_log, IsOfLog}
+use Rattle.def_follow.specs.Log.{after_change, IsTakenAt, IsLog, table_of_log, IsOfLog}
 use Rattle.def_follow.specs.Numbered.{Numbered, SpellsNumbered, IsInLog}
 use Rattle.def_follow.proofs.LogLemmas.{change_counts, after_counts, one_more, front_taken}
 

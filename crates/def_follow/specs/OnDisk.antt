@@ -1,5 +1,5 @@
 -- What a crash leaves of the disk of a follower.
-use Rattle.std.specs.Prelude.{ℕ, ◌≤◌, List}
+use Rattle.std.specs.Prelude.{ℕ, List}
 use Rattle.strat_base.specs.Change.{Change}
 use Rattle.def_crash.specs.Image.{Image}
 use Rattle.def_crash.specs.Moments.{DiskView, Images}
