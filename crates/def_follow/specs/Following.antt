@@ -22,7 +22,8 @@ pub data Fate : Type 0 where
   Malformed : Fate
   Refused : Refusal → Fate
 
--- a receipt: the number that it answers, what became of it, and the number of the next change
+-- a receipt: the number that it answers, what became of its change, and how many changes the follower has then; where a fault
+-- was met, how many it had before
 pub record Receipt : Type 0 where
   pub number : ℕ
   pub fate : Fate
@@ -54,7 +55,7 @@ abbrev pub fate_for : Reply → Fate
 fate_for (reply.Refused cause) = Refused cause
 fate_for _ = Taken
 
--- a body is no numbered change, and nothing is done
+-- a body is no numbered change, and nothing is done; its first four bytes are answered as its number, or 0 if it has fewer
 pub record IsNotOne (at : Position) (body : List ℕ) (r : Receipt) (after : Position) : Type 0 where
   pub none : (n : Numbered) → SpellsNumbered body n → ⊥
   pub receipt : r ≡ record { number = tag_of body; fate = Malformed; next = at.table.changes }
@@ -71,7 +72,7 @@ pub record IsPassedOver (at : Position) (body : List ℕ) (r : Receipt)
   pub next : r.next ≡ at.table.changes
   pub same : after ≡ at
 
--- a change that is next was carried out as the table says
+-- a change that is next was given to the table, which carried it out or refused it
 pub record IsGivenToTable (mem : ℕ) (at : Position) (body : List ℕ) (r : Receipt)
     (after : Position) : Type 0 where
   pub n : Numbered

@@ -12,7 +12,7 @@ use Rattle.def_follow.specs.Numbered.{Numbered, SpellsNumbered, IsInLog}
 abbrev pub IsOfLogAt : List Change → List ℕ → Type 0
 IsOfLogAt log body = (n : Numbered) × SpellsNumbered body n × IsInLog log n
 
--- one body that holds a change of a log was answered rightly
+-- what the answer to one body that holds a change of a log comes to, at once
 pub record IsRightAt (changes_max versions_max : ℕ) (log : List Change) (x : Delivery)
     (after : Position) : Type 0 where
   pub of_log : IsOfLog changes_max versions_max log after.table
@@ -22,7 +22,7 @@ pub record IsRightAt (changes_max versions_max : ℕ) (log : List Change) (x : D
   -- and the table holds it where it is taken
   pub holds : x.receipt.fate ≡ Taken → x.receipt.number < after.table.changes
 
--- so was one of a run, after which the table is this one
+-- what the answer to one body of a run comes to, after which the table is this one
 pub record IsKeptOf (changes_max versions_max : ℕ) (log : List Change) (after : Position)
     (x : Delivery) : Type 0 where
   pub before : IsOfLog changes_max versions_max log x.at.table

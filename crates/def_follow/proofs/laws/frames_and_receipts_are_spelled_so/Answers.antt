@@ -25,3 +25,13 @@ returns-clause-err c = refl
 pub returns-clause-end : goal.returns-clause-end
 unfolding numbers.be
 returns-clause-end c = refl
+
+pub returns-clause-later : goal.returns-clause-later
+unfolding numbers.be
+returns-clause-later c = refl
+
+pub returns-clause-fates : goal.returns-clause-fates
+returns-clause-fates c = (refl, refl, refl)
+
+pub returns-clause-causes : goal.returns-clause-causes
+returns-clause-causes c = (refl, refl, refl, refl)
