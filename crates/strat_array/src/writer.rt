@@ -140,7 +140,7 @@ impl ArrayWriter {
     }
 
     /// Keeps a filter of the keys from now on, for at most so many: it is one of all keys where nothing was pushed yet. It
-    /// takes a byte of memory for each, and O(entries). The only error is want of memory; then none is kept.
+    /// takes a byte of memory for each, and O(entries). The only error is want of memory, which leaves the writer as it was.
     #[tactic(auto, using(crate::proofs::FilterLemmas::none_added))]
     pub fn keep_filter(&mut self, alloc: Global, entries: u32) -> Result<(), NoMemory>
         requires fits { (1 ≤ entries) × (entries ≤ 33554432) }
@@ -285,7 +285,7 @@ impl ArrayWriter {
         })
     }
 
-    /// The filter that was kept, if any: none is kept from now on. O(1).
+    /// The filter that was kept, if any. From now on none is. O(1).
     pub fn take_filter(&mut self) -> Option<Filter>
         ensures ok { result ≡ self.old.filter }
         ensures same { self.new ≡ record self.old { filter = None } }

@@ -202,8 +202,8 @@ impl Promotion {
         }
     }
 
-    /// The filter of an array of the level that it made, for who looks into that array: it has none of it any more. O(1). The
-    /// only error is want of memory, when the array was begun or by an earlier call that took it.
+    /// The filter of an array of the level that it made, which it then keeps no more. O(1). `NoMemory`: it keeps none, as memory
+    /// was short when the array was begun, an earlier call took it, or it made no array of this number.
     pub fn take_filter(&mut self, id: u64) -> Result<Filter, NoMemory>
         ensures ok { IfOk result (λ bits. (g : Image) (a : TheDesc) (es : List TheEntry)
             → FiltersStand g self.old → Contains (arrays_promoted self.old) a → a.id ≡ id

@@ -123,14 +123,16 @@ pub agree_once : (v : DiskView) (f g : Image) (blocks : List ℕ) → Exposes v 
 agree_once v f g blocks was now b of = subst (λ (h : Image). KeepsBlock b f h) (exposed_once v f g was now) (keeps_refl b f)
 
 -- what a promotion leaves, with memory prepared
-published_after : (target : ℕ) (s sb here : Super) (m next there : Manifest) (memory ready now : Memory) (o : Option ℕ) (n : ℕ) → ready ≡ prepared memory o n → here ≡ sb → there ≡ next
-    → now ≡ renewed s.mem (arrays_taken target m) ready → ArePublishedTo target s m ready sb next → ArePublishedAfter s m memory here there now.cursors
-published_after target s sb here m next there memory ready now o n same sb_is next_is now_is is =
+published_after : (target : ℕ) (s sb here : Super) (m next there : Manifest) (memory ready now : Memory) (filters left : List LevelFilters) (made : LevelFilters) (o : Option ℕ) (n : ℕ) → 1 ≤ target → ready ≡ prepared memory o n → here ≡ sb → there ≡ next
+    → now ≡ renewed s.mem (arrays_taken target m) ready → left ≡ filters_after filters target made → ArePublishedTo target s m ready sb next → ArePublishedAfter s m memory filters here there now.cursors left
+published_after target s sb here m next there memory ready now filters left made o n low same sb_is next_is now_is left_is is =
     let gone : List ArrayDesc = arrays_taken target m in
     let cursors : now.cursors ≡ record (retired_all gone memory.cursors) { room = n } =
     ap (λ (k : Memory). k.cursors) now_is ∙ ap (λ (k : Memory). retired_all gone k.cursors) same ∙ retired_room gone memory.cursors n in
     record {
       target = target;
+      made = made;
+      low = low;
       are = record {
         made = is.made;
         first = is.first;
@@ -140,6 +142,7 @@ published_after target s sb here m next there memory ready now o n same sb_is ne
         sb_is = sb_is ∙ is.sb_is;
       };
       cursors_are = cursors ∙ (λ i. record (retired_all gone memory.cursors) { room = sym (ap (λ (c : HeldCursors). c.room) cursors) i });
+      filters_are = left_is;
     }
 
 -- while free blocks are written
@@ -406,13 +409,13 @@ emptied_next mem gone m k now o n is ready =
 
 -- and what is found of a store after a publication
 pub found_next : (s t : Held) (m : Memory) (o : Option ℕ) (n target : ℕ) (sb : Super) (chained : Chained) (levels : List (Option LevelDesc)) (made : LevelFilters) → m ≡ prepared s.memory o n
-    → t ≡ held_next (record s { memory = m }) target sb chained levels made → ArePublishedTo target s.sb s.chained.manifest m sb chained.manifest
-    → (t.slot ≡ 1 - s.slot) × ArePublishedAfter s.sb s.chained.manifest s.memory t.sb t.chained.manifest t.memory.cursors × (t.log.list ≡ [])
+    → 1 ≤ target → t ≡ held_next (record s { memory = m }) target sb chained levels made → ArePublishedTo target s.sb s.chained.manifest m sb chained.manifest
+    → (t.slot ≡ 1 - s.slot) × ArePublishedAfter s.sb s.chained.manifest s.memory s.filters t.sb t.chained.manifest t.memory.cursors t.filters × (t.log.list ≡ [])
     × (t.memory ≡ record (emptied s.sb.mem s.memory) { cursors = t.memory.cursors })
-found_next s t m o n target sb chained levels made same is are =
+found_next s t m o n target sb chained levels made same low is are =
     let memory : t.memory ≡ renewed s.sb.mem (arrays_taken target s.chained.manifest) m = ap (λ (h : Held). h.memory) is in (
       ap (λ (h : Held). h.slot) is,
-      published_after target s.sb sb t.sb s.chained.manifest chained.manifest t.chained.manifest s.memory m t.memory o n same (ap (λ (h : Held). h.sb) is) (ap (λ (h : Held). h.chained.manifest) is) memory are,
+      published_after target s.sb sb t.sb s.chained.manifest chained.manifest t.chained.manifest s.memory m t.memory s.filters t.filters made o n low same (ap (λ (h : Held). h.sb) is) (ap (λ (h : Held). h.chained.manifest) is) memory (ap (λ (h : Held). h.filters) is) are,
       ap (λ (h : Held). h.log.list) is,
       emptied_next s.sb.mem (arrays_taken target s.chained.manifest) s.memory m t.memory o n memory same,
     )

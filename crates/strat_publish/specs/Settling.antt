@@ -140,13 +140,18 @@ pub record ArePublishedTo (target : ℕ) (sb : Super) (m : Manifest) (memory : M
   pub sb_is : next_sb ≡ super_after sb first size
 
 -- a superblock and a manifest are published so, down to some target, and the cursors are those of memory, for which those of the
--- arrays taken are kept that one of them names
-pub record ArePublishedAfter (sb : Super) (m : Manifest) (memory : Memory) (next_sb : Super)
-    (next : Manifest) (cursors : HeldCursors) : Type 0 where
+-- arrays taken are kept that one of them names. The target has some filters, the levels before it none, and those behind it
+-- the ones that they had
+pub record ArePublishedAfter (sb : Super) (m : Manifest) (memory : Memory)
+    (filters : List LevelFilters) (next_sb : Super) (next : Manifest) (cursors : HeldCursors)
+    (left : List LevelFilters) : Type 0 where
   pub target : ℕ
+  pub made : LevelFilters
+  pub low : 1 ≤ target
   pub are : ArePublishedTo target sb m memory next_sb next
   pub cursors_are : cursors
       ≡ record (retired_all (arrays_taken target m) memory.cursors) { room = cursors.room }
+  pub filters_are : left ≡ filters_after filters target made
 
 -- a store holds the superblock and the manifest that it held, with their levels and the filters of these
 pub record KeepsPublished (old new : Held) : Type 0 where
@@ -160,8 +165,8 @@ pub record KeepsPublished (old new : Held) : Type 0 where
 pub record HasPublished (old new : Held) : Type 0 where
   pub full : old.log.mem ≤ length old.log.list
   pub slot : new.slot ≡ 1 - old.slot
-  pub after : ArePublishedAfter old.sb old.chained.manifest old.memory new.sb
-      new.chained.manifest new.memory.cursors
+  pub after : ArePublishedAfter old.sb old.chained.manifest old.memory old.filters new.sb
+      new.chained.manifest new.memory.cursors new.filters
 
 -- a store has the cursors that it had, with the arrays that are kept for them
 abbrev pub KeepsCursors : Held → Held → Type 0

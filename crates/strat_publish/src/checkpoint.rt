@@ -399,8 +399,8 @@ pub fn publish<D: Disk>(alloc: Global, held: &mut OpenStore, disk: &mut D) -> Re
         (manifest_of held.new.published.manifest)) }
     ensures found { OnOk result ((held.new.slot ≡ 1 - held.old.slot)
         × ArePublishedAfter (super_of held.old.sb) (manifest_of held.old.published.manifest)
-        held.old.memory (super_of held.new.sb) (manifest_of held.new.published.manifest)
-        held.new.memory.cursors
+        held.old.memory held.old.filters (super_of held.new.sb)
+        (manifest_of held.new.published.manifest) held.new.memory.cursors held.new.filters
         × (held.new.journal.list ≡ [])
         × (held.new.memory ≡ record (emptied held.old.sb.mem held.old.memory)
         { cursors = held.new.memory.cursors })) }

@@ -70,7 +70,12 @@ fn spares_reads(
     Some(none == 0 && one > 0)
 }
 
-/// Whether that is so of a store that took ten puts: its last checkpoint wrote eight of them into one array, of which it keeps
+/// Whether a store has a filter of array 2 alone. Array 1 went into that, and there is no array 3.
+fn has_one_filter(store: &Store) -> bool {
+    store.has_filter(2) && !store.has_filter(1) && !store.has_filter(3)
+}
+
+/// Whether that is so of a store that took ten puts: its second checkpoint wrote eight of them into array 2, of which it keeps
 /// a filter.
 fn keeps_a_filter(alloc: Global, disk: &mut MemDisk) -> Option<bool> {
     let refused = refused_key(alloc)?;
@@ -79,7 +84,14 @@ fn keeps_a_filter(alloc: Global, disk: &mut MemDisk) -> Option<bool> {
     if count_accepted(&mut store, disk, &mut out, Script::Thirteen, 10) < 10 {
         return None;
     }
-    spares_reads(&mut store, disk, &mut out, &refused)
+    let spares = spares_reads(&mut store, disk, &mut out, &refused)?;
+    Some(spares && has_one_filter(&store))
+}
+
+/// Whether the store that is opened has no filter of array 2.
+fn opens_without_a_filter(alloc: Global, disk: &mut MemDisk) -> Option<bool> {
+    let store = Store::attach(alloc, disk).ok()?;
+    Some(!store.has_filter(2))
 }
 
 #[test]
@@ -89,4 +101,5 @@ fn an_array_that_refuses_a_key_is_not_read(rt: HostRuntime) {
         return;
     };
     assert!(rt; keeps_a_filter(rt.alloc(), &mut disk) == Some(true));
+    assert!(rt; opens_without_a_filter(rt.alloc(), &mut disk) == Some(true));
 }

@@ -50,7 +50,6 @@ use Rattle.strat_store.proofs.CursoringLemmas.{looks_wider, stands_now, stands_s
 use Rattle.strat_store.specs.Applying.{IsLookedUp, IsUntouched, FailsAsTold, FollowsStep, TellsTroubleOf, change_wanted, refusal_of_look, is_fault, ran_short, table_left}
 use Rattle.strat_store.specs.Cursoring.{IsAppliedAt, is_of_cursor}
 use Rattle.strat_store.specs.Getting.{MayTellOfKey}
-use Rattle.strat_store.specs.Filtering.{SkipsRefusing}
 use Rattle.strat_store.specs.Ranging.{HasPairs, HasPairsFor, MayTellOfRange, ReadsForLook, TellsFrom, TellsOfVersion}
 use Rattle.strat_memory.specs.Held.{Held, arrays_held, position_at, table_at, IsConsistent, StandsAt, StandsWith}
 use Rattle.strat_memory.specs.Memory.{Memory, info_told, stat_told, IsMemoryOf}
@@ -541,30 +540,3 @@ spent_reads s b (Put v key value) before now reads = reads
 spent_reads s b (Delete v key) before now reads = reads
 spent_reads s b (Clone v) before now reads = reads
 spent_reads s b (DropVersion v) before now reads = reads
-
-pub spent_skips : (s : Held) (b : Bool) (r : Request) (before now : ℕ) → SkipsRefusing s r before now → SkipsRefusing (record s { spent = b }) r before now
-spent_skips s b (Get v key) before now skips = skips
-spent_skips s b (Scan v lo hi limit) before now skips = skips
-spent_skips s b (Info v) before now skips = skips
-spent_skips s b (OpenCursor v lo hi) before now skips = skips
-spent_skips s b (NextPairs n limit) before now skips = skips
-spent_skips s b (CloseCursor n) before now skips = skips
-spent_skips s b Stat before now skips = skips
-spent_skips s b (Put v key value) before now skips = skips
-spent_skips s b (Delete v key) before now skips = skips
-spent_skips s b (Clone v) before now skips = skips
-spent_skips s b (DropVersion v) before now skips = skips
-
--- a change is no get
-pub skips_no_get : (s : Held) (r : Request) (c : Change) (before now : ℕ) → change_wanted r ≡ Some c → SkipsRefusing s r before now
-skips_no_get s (Get v key) c before now wanted = absurd (cc)
-skips_no_get s (Scan v lo hi limit) c before now wanted = tt
-skips_no_get s (Info v) c before now wanted = tt
-skips_no_get s (OpenCursor v lo hi) c before now wanted = tt
-skips_no_get s (NextPairs n limit) c before now wanted = tt
-skips_no_get s (CloseCursor n) c before now wanted = tt
-skips_no_get s Stat c before now wanted = tt
-skips_no_get s (Put v key value) c before now wanted = tt
-skips_no_get s (Delete v key) c before now wanted = tt
-skips_no_get s (Clone v) c before now wanted = tt
-skips_no_get s (DropVersion v) c before now wanted = tt

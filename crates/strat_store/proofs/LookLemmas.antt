@@ -1,7 +1,8 @@
 -- A look-up goes through the levels, and asks an array in each.
-use Rattle.std.proofs.Common.{◌≡◌, ◌≤◌, ◌<◌, ◌+◌, ℕ, true, false, cond, get_or, drop, List, [], ◌∷◌, length, Option, Some, None, IsTrue, refl, sym, ap, ◌∙◌, subst, arith, true≢false, Result, Ok, Err}
+use Rattle.std.proofs.Common.{◌≡◌, ◌≤◌, ◌<◌, ◌+◌, ℕ, zero, suc, inl, inr, true, false, cond, get_or, drop, List, [], ◌∷◌, length, Option, Some, None, IsTrue, refl, sym, ap, ◌∙◌, subst, arith, true≢false, Result, Ok, Err}
 use Rattle.std.proofs.lemmas.List.{drop_all, drop_more}
-use Rattle.std.specs.List.{Contains, find, filter_map, cons_option}
+use Rattle.std.proofs.lemmas.List.FromFn.{get_or-range_with_len, length-range_with_len}
+use Rattle.std.specs.List.{Contains, find, filter_map, cons_option, range_with_len}
 use Rattle.std.specs.Prelude.{IfOk, OnErr, Bool, if◌then◌else◌, map}
 use Rattle.std.specs.Option.{option_and_then, option_map, option_or, option_to_list, unwrap_or}
 use Rattle.strat_array.specs.Kept.{Blocks, ArrayStands}
@@ -10,6 +11,7 @@ use Rattle.strat_array.specs.Told.{TheirPairs, TellsFound, AddsPair}
 use Rattle.strat_array.specs.declared.seen.Seen.{Seen}
 use Rattle.strat_array.specs.declared.seen.Seen.TheVariants as seen
 use Rattle.strat_array.proofs.LawLemmas.{array_stands}
+use Rattle.strat_base.proofs.ListFacts.{Among, among_range}
 use Rattle.strat_base.specs.Entries.{Entry, is_ascending}
 use Rattle.strat_base.specs.Tree.{Parents, below}
 use Rattle.strat_base.specs.declared.descriptors.ArrayDesc.{ArrayDesc}
@@ -21,7 +23,7 @@ use Rattle.def_crash.specs.Moments.{DiskView}
 use Rattle.def_bytes.specs.Arrays.{blocks_of, entries_on}
 use Rattle.strat_level.specs.Levels.{desc_for, is_for, level_numbered}
 use Rattle.strat_memory.specs.Filters.{LevelFilters, filter_refuses}
-use Rattle.strat_store.specs.Filtering.{AreNumberedByPlace, filtered_says, on_disk_filtered, shown_unless_refused}
+use Rattle.strat_store.specs.Filtering.{AreNumberedByPlace, arrays_unrefused, filtered_says, on_disk_filtered, shown_unless_refused, unrefused_of_level}
 use Rattle.def_state.specs.LookUp.{array_asked, looked_up, first_live}
 use Rattle.def_state.specs.Reading.{live_of}
 use Rattle.strat_cursor.specs.Looking.{levels_there, arrays_asked, arrays_there, AreInOrder, AreCachedFrom, LooksThrough, HaveFewBlocks, HaveOwnIds, MayBeAsked, asked_of_level, array_says, decides, reads_of_arrays}
@@ -139,30 +141,103 @@ module _ (old mid : DiskView) (filters : List LevelFilters) (levels : List (Opti
         subst (λ (o : Option Entry). TellsFound o key before after told) (sym (left_first f within numbered) ∙ passing.silent f next exposed ordered own numbered cached)
         (tells_on _ (looked_up (on_disk_filtered f filters) parents [] (levels_there (drop (above + 1) levels)) v key) key before after told tells some)
 
+-- an array whose filter does not refuse the key is the one that is read
+pub unrefused_is : (filters : List LevelFilters) (parents : Parents) (levels : List (Option LevelDesc)) (number v : ℕ) (key : List ℕ) (a : ArrayDesc) → asked_of_level parents levels number v ≡ Some a → filter_refuses filters number a.id key ≡ false
+    → unrefused_of_level filters parents levels number v key ≡ Some a
+unrefused_is filters parents levels number v key a is passes =
+    ap (λ (o : Option ArrayDesc). option_and_then (λ b. if filter_refuses filters number b.id key then None else Some b) o) is
+    ∙ ap (λ (b : Bool). if b then None else Some a) passes
+
+-- and the one that is read was asked, and does not refuse the key
+pub unrefused_asked : (filters : List LevelFilters) (parents : Parents) (levels : List (Option LevelDesc)) (number v : ℕ) (key : List ℕ) (a : ArrayDesc) → unrefused_of_level filters parents levels number v key ≡ Some a
+    → (asked_of_level parents levels number v ≡ Some a) × (filter_refuses filters number a.id key ≡ false)
+unrefused_asked filters parents levels number v key a is = by (asked_of_level parents levels number v) refl
+  where
+    kept : (b : ArrayDesc) (refuses : Bool) → filter_refuses filters number b.id key ≡ refuses → (if refuses then None else Some b) ≡ Some a → (b ≡ a) × (filter_refuses filters number b.id key ≡ false)
+    kept b true at e = absurd (cc)
+    kept b false at e = let same : b ≡ a = cc in (same, at)
+
+    by : (o : Option ArrayDesc) → asked_of_level parents levels number v ≡ o → (asked_of_level parents levels number v ≡ Some a) × (filter_refuses filters number a.id key ≡ false)
+    by None at = let none : ◌≡◌ {A = Option ArrayDesc} None (Some a) = sym (ap (λ (o : Option ArrayDesc). option_and_then (λ b. if filter_refuses filters number b.id key then None else Some b) o) at) ∙ is in absurd (cc)
+    by (Some b) at =
+        let here = kept b (filter_refuses filters number b.id key) refl (sym (ap (λ (o : Option ArrayDesc). option_and_then (λ b. if filter_refuses filters number b.id key then None else Some b) o) at) ∙ is) in
+        (at ∙ ap (λ (x : ArrayDesc). Some x) here.0, ap (λ (x : ArrayDesc). filter_refuses filters number x.id key) (sym here.0) ∙ here.1)
+
+-- what is found of some numbers
+mapped : (f : ℕ → Option ArrayDesc) (ks : List ℕ) (k : ℕ) (x : ArrayDesc) → Among k ks → f k ≡ Some x → Contains (filter_map f ks) x
+mapped f [] k x among is = absurd among
+mapped f (j ∷ ks) k x (inl here) is = subst (λ (o : Option ArrayDesc). Contains (cons_option o (filter_map f ks)) x) (sym (ap f (sym here) ∙ is)) (0, omega arith, refl)
+mapped f (j ∷ ks) k x (inr there) is = more (f j) (mapped f ks k x there is)
+  where
+    more : (o : Option ArrayDesc) → Contains (filter_map f ks) x → Contains (cons_option o (filter_map f ks)) x
+    more None at = at
+    more (Some y) at = (suc at.0, omega (arith, at.1), at.2)
+
+mapped_from : (f : ℕ → Option ArrayDesc) (ks : List ℕ) (x : ArrayDesc) → Contains (filter_map f ks) x → (k : ℕ) × (f k ≡ Some x)
+mapped_from f [] x at = absurd (omega (arith, at.1))
+mapped_from f (k ∷ ks) x at = by (λ later. mapped_from f ks x later) (f k) refl
+  where
+    first : ((i : ℕ) → i < length (filter_map f ks) → get_or (filter_map f ks) i x ≡ x → (j : ℕ) × (f j ≡ Some x)) → (y : ArrayDesc) → f k ≡ Some y → Contains (y ∷ filter_map f ks) x → (j : ℕ) × (f j ≡ Some x)
+    first rest y is (zero, lt, here) = (k, is ∙ ap (λ (z : ArrayDesc). Some z) here)
+    first rest y is (suc i, lt, here) = rest i (omega (arith, lt)) here
+
+    by : (Contains (filter_map f ks) x → (j : ℕ) × (f j ≡ Some x)) → (o : Option ArrayDesc) → f k ≡ o → (j : ℕ) × (f j ≡ Some x)
+    by rest None is = rest (subst (λ (o : Option ArrayDesc). Contains (cons_option o (filter_map f ks)) x) is at)
+    by rest (Some y) is = first (λ i lt here. rest (i, lt, here)) y is (subst (λ (o : Option ArrayDesc). Contains (cons_option o (filter_map f ks)) x) is at)
+
+-- each array that a get may read is asked in some level, where its filter does not refuse the key
+pub unrefused_from : (filters : List LevelFilters) (parents : Parents) (levels : List (Option LevelDesc)) (v : ℕ) (key : List ℕ) (a : ArrayDesc) → Contains (arrays_unrefused filters parents levels v key) a
+    → (number : ℕ) × (asked_of_level parents levels number v ≡ Some a) × (filter_refuses filters number a.id key ≡ false)
+unrefused_from filters parents levels v key a at =
+    let here = mapped_from (λ number. unrefused_of_level filters parents levels number v key) (range_with_len 1 (length levels)) a at in
+    let both = unrefused_asked filters parents levels here.0 v key a here.1 in
+    (here.0, both.0, both.1)
+
+-- so none is read where all refuse
+pub none_unrefused : (filters : List LevelFilters) (parents : Parents) (levels : List (Option LevelDesc)) (v : ℕ) (key : List ℕ)
+    → ((number : ℕ) (a : ArrayDesc) → asked_of_level parents levels number v ≡ Some a → filter_refuses filters number a.id key ≡ true) → arrays_unrefused filters parents levels v key ≡ []
+none_unrefused filters parents levels v key all = by (arrays_unrefused filters parents levels v key) refl
+  where
+    by : (xs : List ArrayDesc) → arrays_unrefused filters parents levels v key ≡ xs → arrays_unrefused filters parents levels v key ≡ []
+    by [] is = is
+    by (a ∷ xs) is =
+        let from = unrefused_from filters parents levels v key a (subst (λ (ys : List ArrayDesc). Contains ys a) (sym is) (0, omega arith, refl)) in
+        absurd (true≢false (sym (all from.0 a from.1) ∙ from.2))
+
 -- how many reads are left
-reads_first : (n : ℕ) (parents : Parents) (v : ℕ) (level : Option LevelDesc) (levels : List (Option LevelDesc))
-    → reads_of_arrays n (arrays_asked parents (level ∷ levels) v) ≡ reads_of_arrays n (option_to_list (option_and_then (λ l. desc_for parents l v) level)) + reads_of_arrays n (arrays_asked parents levels v)
-reads_first n parents v None levels = omega arith
-reads_first n parents v (Some level) levels =
-    elim (desc_for parents level v) as (λ (o : Option ArrayDesc). reads_of_arrays n (cons_option o (arrays_asked parents levels v)) ≡ reads_of_arrays n (option_to_list o) + reads_of_arrays n (arrays_asked parents levels v)) [
+reads_first : (n : ℕ) (f : ℕ → Option ArrayDesc) (k : ℕ) (ks : List ℕ) → reads_of_arrays n (filter_map f (k ∷ ks)) ≡ reads_of_arrays n (option_to_list (f k)) + reads_of_arrays n (filter_map f ks)
+reads_first n f k ks =
+    elim (f k) as (λ (o : Option ArrayDesc). reads_of_arrays n (cons_option o (filter_map f ks)) ≡ reads_of_arrays n (option_to_list o) + reads_of_arrays n (filter_map f ks)) [
       | None ↦ omega arith
       | Some a ↦ omega arith
     ]
 
-pub reads_left : (n : ℕ) (parents : Parents) (v above : ℕ) (levels : List (Option LevelDesc)) → above < length levels
-    → reads_of_arrays n (arrays_asked parents (drop above levels) v) ≡ reads_of_arrays n (option_to_list (asked_of_level parents levels (above + 1) v)) + reads_of_arrays n (arrays_asked parents (drop (above + 1) levels) v)
-reads_left n parents v above levels within =
-    ap (λ (ls : List (Option LevelDesc)). reads_of_arrays n (arrays_asked parents ls v)) (drop_more levels above None within)
-    ∙ reads_first n parents v (get_or levels above None) (drop (above + 1) levels)
-    ∙ ap (λ (o : Option LevelDesc). reads_of_arrays n (option_to_list (option_and_then (λ l. desc_for parents l v) o)) + reads_of_arrays n (arrays_asked parents (drop (above + 1) levels) v)) (sym (level_next levels above))
+module _ (filters : List LevelFilters) (parents : Parents) (levels : List (Option LevelDesc)) (v : ℕ) (key : List ℕ) where
+  abbrev one_of : ℕ → Option ArrayDesc
+  one_of number = unrefused_of_level filters parents levels number v key
 
--- an array that is asked in a level has few blocks where all that are asked have
-pub few_asked : (n : ℕ) (parents : Parents) (levels : List (Option LevelDesc)) (number v : ℕ) → HaveFewBlocks n (arrays_asked parents levels v) → HaveFewBlocks n (option_to_list (asked_of_level parents levels number v))
-few_asked n parents levels number v few = by (asked_of_level parents levels number v) refl
-  where
-    by : (o : Option ArrayDesc) → asked_of_level parents levels number v ≡ o → HaveFewBlocks n (option_to_list o)
-    by None is a there = absurd (omega (arith, there.1))
-    by (Some b) is a there = few a (subst (λ (x : ArrayDesc). Contains (arrays_asked parents levels v) x) (sym (only b a there)) (asked_among parents levels number v b is))
+  -- the arrays that may be read behind some levels
+  abbrev pub unrefused_behind : ℕ → List ArrayDesc
+  unrefused_behind above = filter_map one_of (drop above (range_with_len 1 (length levels)))
+
+  pub reads_left : (n above : ℕ) → above < length levels → reads_of_arrays n (unrefused_behind above) ≡ reads_of_arrays n (option_to_list (one_of (above + 1))) + reads_of_arrays n (unrefused_behind (above + 1))
+  reads_left n above within =
+      let numbers : List ℕ = range_with_len 1 (length levels) in
+      let all : length numbers ≡ length levels = length-range_with_len 1 (length levels) in
+      let at : get_or numbers above 0 ≡ above + 1 = get_or-range_with_len 1 (length levels) above 0 within ∙ omega arith in
+      ap (λ (ks : List ℕ). reads_of_arrays n (filter_map one_of ks)) (drop_more numbers above 0 (omega (arith, within, all)))
+      ∙ reads_first n one_of (get_or numbers above 0) (drop (above + 1) numbers)
+      ∙ ap (λ (k : ℕ). reads_of_arrays n (option_to_list (one_of k)) + reads_of_arrays n (unrefused_behind (above + 1))) at
+
+  -- an array that is read in a level has few blocks where all that are read have
+  pub few_unrefused : (n above : ℕ) → above < length levels → HaveFewBlocks n (arrays_unrefused filters parents levels v key) → HaveFewBlocks n (option_to_list (one_of (above + 1)))
+  few_unrefused n above within few = by (one_of (above + 1)) refl
+    where
+      by : (o : Option ArrayDesc) → one_of (above + 1) ≡ o → HaveFewBlocks n (option_to_list o)
+      by None is a there = absurd (omega (arith, there.1))
+      by (Some b) is a there =
+          let among = among_range 1 (length levels) (above + 1) (omega arith) (omega (arith, within)) in
+          few a (subst (λ (x : ArrayDesc). Contains (arrays_unrefused filters parents levels v key) x) (sym (only b a there)) (mapped one_of (range_with_len 1 (length levels)) (above + 1) b among is))
 
 -- and is read no more than it may be
 pub one_read : (n : ℕ) (a : ArrayDesc) (before now : ℕ) → ReadsAtMost (n + 4 + length (blocks_of a.extents)) before now → ReadsAtMost (reads_of_arrays n (a ∷ [])) before now

@@ -1,5 +1,6 @@
 -- What a get finds in the levels of a store where it asks the filters of their arrays first.
-use Rattle.std.specs.Prelude.{◌≡◌, ℕ, ◌==◌, Bool, true, if◌then◌else◌, List, [], map, Contains, Option, Some, None, unwrap_or, option_and_then}
+use Rattle.std.specs.List.{range_with_len}
+use Rattle.std.specs.Prelude.{◌≡◌, ℕ, ◌==◌, Bool, if◌then◌else◌, List, [], length, map, filter_map, Contains, Option, Some, None, unwrap_or, option_and_then}
 use Rattle.strat_base.specs.Entries.{Entry}
 use Rattle.strat_base.specs.Tree.{Parents}
 use Rattle.strat_base.specs.declared.descriptors.ArrayDesc.{ArrayDesc}
@@ -10,9 +11,7 @@ use Rattle.def_state.specs.LookUp.{Reading, looked_up}
 use Rattle.def_state.specs.Reading.{live_of}
 use Rattle.strat_cursor.specs.Looking.{asked_of_level}
 use Rattle.strat_level.specs.Levels.{level_numbered}
-use Rattle.strat_model.specs.Request.{Request, Get}
 use Rattle.strat_memory.specs.Filters.{LevelFilters, filter_at, filter_refuses}
-use Rattle.strat_memory.specs.Held.{Held}
 
 -- what an array in the level of a number shows a get of a key: what its blocks hold in an image, and nothing where its filter
 -- refuses the key
@@ -50,18 +49,19 @@ abbrev pub AreNumberedByPlace : List (Option LevelDesc) → Type 0
 AreNumberedByPlace levels = (number : ℕ) (level : LevelDesc)
     → level_numbered levels number ≡ Some level → level.number ≡ number
 
--- each array that is asked at a version has a filter that refuses a key
-abbrev pub AllRefuse : List LevelFilters → Parents → List (Option LevelDesc) → ℕ → List ℕ
-    → Type 0
-AllRefuse filters parents levels v key = (number : ℕ) (a : ArrayDesc)
-    → asked_of_level parents levels number v ≡ Some a
-    → filter_refuses filters number a.id key ≡ true
+-- the array that is asked at a version in the level of a number, unless its filter refuses a key
+abbrev pub unrefused_of_level : List LevelFilters → Parents → List (Option LevelDesc) → ℕ → ℕ
+    → List ℕ → Option ArrayDesc
+unrefused_of_level filters parents levels number v key =
+    option_and_then (λ a. if filter_refuses filters number a.id key then None else Some a)
+    (asked_of_level parents levels number v)
 
--- a get reads nothing if all arrays that it would ask refuse its key
-abbrev pub SkipsRefusing : Held → Request → ℕ → ℕ → Type 0
-SkipsRefusing s (Get version key) before now =
-    AllRefuse s.filters s.memory.parents s.levels version key → now ≡ before
-SkipsRefusing s _ before now = Unit {0}
+-- of each level that array, if it has one, the shallowest level's first: the arrays that a get of the key may read
+abbrev pub arrays_unrefused : List LevelFilters → Parents → List (Option LevelDesc) → ℕ
+    → List ℕ → List ArrayDesc
+arrays_unrefused filters parents levels v key =
+    filter_map (λ number. unrefused_of_level filters parents levels number v key)
+    (range_with_len 1 (length levels))
 
 -- an array has this number
 abbrev pub has_id : ℕ → ArrayDesc → Bool

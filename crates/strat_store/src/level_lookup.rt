@@ -2,7 +2,7 @@
 //! filter refuses the key is skipped.
 
 ghost use Rattle.std.specs.Option.{option_to_list};
-ghost use Rattle.std.specs.Prelude.{◌≡◌, ◌<◌, ℕ, [], length, true, Some, Contains, IfOk, OnErr, IsErrOf};
+ghost use Rattle.std.specs.Prelude.{◌≡◌, ◌<◌, ℕ, [], length, Some, Contains, IfOk, OnErr, IsErrOf};
 ghost use Rattle.strat_array.specs.Told.{TellsFound, AddsPair};
 ghost use Rattle.strat_base.specs.declared.descriptors.ArrayDesc.{ArrayDesc};
 ghost use Rattle.strat_base.specs.declared.failures.Fault.TheVariants.{Damaged, Device};
@@ -12,8 +12,7 @@ ghost use Rattle.def_crash.specs.Image.{Image};
 ghost use Rattle.def_crash.specs.Moments.{Exposes};
 ghost use Rattle.def_state.specs.LookUp.{looked_up};
 ghost use Rattle.strat_cursor.specs.Looking.{levels_there, arrays_there, MayBeFound, AreInOrder, AreCachedFrom, LooksThrough, NamesNoBlock, HaveOwnIds, MayBeAsked, ReadsArrays, arrays_asked, asked_of_level, decides};
-ghost use Rattle.strat_memory.specs.Filters.{filter_refuses};
-ghost use Rattle.strat_store.specs.Filtering.{AllRefuse, AreNumberedByPlace, filtered_says, on_disk_filtered};
+ghost use Rattle.strat_store.specs.Filtering.{AreNumberedByPlace, arrays_unrefused, filtered_says, on_disk_filtered, unrefused_of_level};
 
 use strat_array::{Cache, Scratch, Seen, find};
 use strat_base::limits::LEVELS;
@@ -62,12 +61,8 @@ fn ask_level<D: Disk>(
         → NamesNoBlock (D.view disk.old).content (arrays_there held.now.published.levels) b }
     ensures cause { HasCause Device (D.faults disk.old) (D.faults disk.new) result }
     ensures reads { ReadsArrays (option_to_list
-        (asked_of_level held.now.memory.parents held.now.published.levels number v))
-        (D.reads disk.old) (D.reads disk.new)
-        × (((a : ArrayDesc)
-        → asked_of_level held.now.memory.parents held.now.published.levels number v ≡ Some a
-        → filter_refuses held.now.filters number a.id key.now ≡ true)
-        → D.reads disk.new ≡ D.reads disk.old) }
+        (unrefused_of_level held.now.filters held.now.memory.parents held.now.published.levels
+        number v key.now)) (D.reads disk.old) (D.reads disk.new) }
 {
     let (_, _, tree) = held.memory.parts();
     let Some(desc) = held.published.levels.array_for(tree, number, v) else {
@@ -118,10 +113,8 @@ pub(crate) fn get_from_levels<D: Disk>(
         → NamesNoBlock (D.view disk.old).content (arrays_there held.now.published.levels) b }
     ensures cause { HasCause Device (D.faults disk.old) (D.faults disk.new) result }
     ensures reads { ReadsArrays
-        (arrays_asked held.now.memory.parents held.now.published.levels v)
-        (D.reads disk.old) (D.reads disk.new)
-        × (AllRefuse held.now.filters held.now.memory.parents held.now.published.levels v key.now
-        → D.reads disk.new ≡ D.reads disk.old) }
+        (arrays_unrefused held.now.filters held.now.memory.parents held.now.published.levels
+        v key.now) (D.reads disk.old) (D.reads disk.new) }
 {
     // For the proof: there are 22 levels.
     let _first = held.published.levels.get(1);

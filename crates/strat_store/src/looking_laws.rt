@@ -5,6 +5,7 @@ ghost use Rattle.std.specs.List.{list_any};
 ghost use Rattle.std.specs.Prelude.{◌≡◌, ◌<◌, ℕ, Bool, List, [], length, true, false, Contains, Option, Some, option_and_then, IsTrue};
 ghost use Rattle.strat_base.specs.Entries.{Entry, is_of};
 ghost use Rattle.strat_base.specs.Tree.{Parents, is_known};
+ghost use Rattle.strat_base.specs.declared.descriptors.ArrayDesc.{ArrayDesc};
 ghost use Rattle.strat_base.specs.declared.descriptors.LevelDesc.{LevelDesc};
 ghost use Rattle.def_crash.specs.Image.{Image};
 ghost use Rattle.strat_model.specs.Answer.{Answer};
@@ -24,12 +25,12 @@ ghost use Rattle.def_state.specs.Sound.{IsSound};
 ghost use Rattle.def_state.specs.State.{State, versions_of, is_living};
 ghost use Rattle.strat_cursor.specs.Cursors.{MayGoOn, pairs_left};
 ghost use Rattle.strat_cursor.specs.Held.{HeldCursor, IsMapHeld};
-ghost use Rattle.strat_cursor.specs.Looking.{AreInOrder};
+ghost use Rattle.strat_cursor.specs.Looking.{AreInOrder, asked_of_level};
 ghost use Rattle.strat_filter.specs.Bits.{may_hold};
 ghost use Rattle.strat_filter.specs.Keys.{IsFilterOf};
-ghost use Rattle.strat_memory.specs.Filters.{AreFiltersOf, LevelFilters};
+ghost use Rattle.strat_memory.specs.Filters.{AreFiltersOf, LevelFilters, filter_refuses};
 ghost use Rattle.strat_memory.specs.Held.{Held, IsConsistent, StandsWith};
-ghost use Rattle.strat_store.specs.Filtering.{KeepsFilter, asked_filtered};
+ghost use Rattle.strat_store.specs.Filtering.{KeepsFilter, arrays_unrefused, asked_filtered};
 ghost use Rattle.strat_store.specs.Ranging.{AreReadAs, IsMapAsked, TellsFrom};
 
 use def_crash::laws::Viewed;
@@ -77,6 +78,21 @@ pub fn a_get_that_asks_filters_finds_the_same()
         → state_of c h ≡ Some s → AreFiltersOf s.levels filters
         → asked_filtered c filters parents zeros h.manifest.levels v key
         ≡ asked c parents zeros h.manifest.levels v key }
+{}
+
+/// A get reads no array whose filter refuses its key: each that it may read is asked in some level, and does not refuse the key.
+/// If all that are asked refuse it, it reads none.
+pub fn a_get_reads_no_array_that_refuses()
+    ensures found { (filters : List LevelFilters) (parents : Parents)
+        (levels : List (Option LevelDesc)) (v : ℕ) (key : List ℕ) (a : ArrayDesc)
+        → Contains (arrays_unrefused filters parents levels v key) a
+        → (number : ℕ) × (asked_of_level parents levels number v ≡ Some a)
+        × (filter_refuses filters number a.id key ≡ false) }
+    ensures none { (filters : List LevelFilters) (parents : Parents)
+        (levels : List (Option LevelDesc)) (v : ℕ) (key : List ℕ)
+        → ((number : ℕ) (a : ArrayDesc) → asked_of_level parents levels number v ≡ Some a
+        → filter_refuses filters number a.id key ≡ true)
+        → arrays_unrefused filters parents levels v key ≡ [] }
 {}
 
 /// A filter that a store keeps of an array is of exactly the keys that the array has on the disk, if the store stands on it.

@@ -30,7 +30,7 @@ ghost use Rattle.strat_memory.specs.Held.{IsConsistent, StandsAt, StandsWith, ar
 ghost use Rattle.strat_memory.specs.Memory.{KeepsRows, info_told};
 ghost use Rattle.strat_cursor.specs.Looking.{AreOfOldArrays, LooksThrough, ReadsArrays};
 ghost use Rattle.strat_memory.specs.Paying.{StoreTwoSince};
-ghost use Rattle.strat_store.specs.Filtering.{KeepsFilter, SkipsRefusing};
+ghost use Rattle.strat_store.specs.Filtering.{KeepsFilter};
 ghost use Rattle.strat_store.specs.Ranging.{HasPairsFor, ReadsForLook, TellsFrom, arrays_wanted};
 ghost use Rattle.strat_store.specs.Staging.{FollowsBatch, IsStaged, held_joined, may_stage, replies_staged, reply_of_commit, with_staged};
 ghost use Rattle.strat_memory.specs.RecoveredFields.{held_of, empty_cache};
@@ -158,8 +158,6 @@ fn query<D: Disk>(
     ensures same { LooksThrough (D.view disk.old) (D.view disk.new)
         (arrays_held held.old.memory held.old.published.levels) cache.old cache.new
         × ReadsArrays (arrays_wanted (held_of held.old cache.old) (request_of command.now))
-        (D.reads disk.old) (D.reads disk.new)
-        × SkipsRefusing (held_of held.old cache.old) (request_of command.now)
         (D.reads disk.old) (D.reads disk.new) }
     ensures cause { FailsAsTold (D.faults disk.old) (D.faults disk.new) result
         × TellsTroubleOf (D.view disk.old) (held_of held.old cache.old)
@@ -224,8 +222,6 @@ fn answer<D: Disk>(
         × LeavesCursors (held_of held.old cache.old) (request_of command.now)
         (as_told result out.new) (held_after held.new cache.new result)
         × ReadsForLook (held_of held.old cache.old) (request_of command.now)
-        (D.reads disk.old) (D.reads disk.new)
-        × SkipsRefusing (held_of held.old cache.old) (request_of command.now)
         (D.reads disk.old) (D.reads disk.new) }
     ensures time { Passes (D.view disk.old) (D.view disk.new) }
     ensures cause { FailsAsTold (D.faults disk.old) (D.faults disk.new) result
@@ -259,8 +255,8 @@ impl Store {
         self.spent
     }
 
-    /// Whether the store keeps a filter of an array of its levels. It keeps one of each array that it made since it was opened,
-    /// if there was memory for it, and of no other. O(arrays of the levels).
+    /// Whether the store keeps a filter of an array of its levels. One that was opened has none; its checkpoints make them, as
+    /// far as there is memory. O(arrays of the levels).
     pub fn has_filter(&self, id: u64) -> bool
         ensures ok { result ≡ true → KeepsFilter self.now.filters self.now.levels id }
         ensures none { result ≡ false → ¬ KeepsFilter self.now.filters self.now.levels id }
@@ -276,10 +272,10 @@ impl Store {
     /// five times at most. It takes its memory before anything of the store is replaced; without it the answer is
     /// `NoMemory`, and the store is as it was.
     ///
-    /// A get asks level 0, and then one array of each level at most. It reads nothing of an array whose filter refuses the key;
-    /// an array that this run made has a filter, if there was memory for it. A scan goes through level 0 and one array of each
-    /// level, pair by pair. In an array of fewer than 2^n blocks either reads n + 4 at most to search, and each once more at
-    /// most. It reads no array that is not asked at the version. These take no memory but for blocks that are cached.
+    /// A get asks level 0, and then one array of each level at most, but none whose filter refuses the key. A scan goes through
+    /// level 0 and one array of each level, pair by pair. In an array of fewer than 2^n blocks either reads n + 4 at most to
+    /// search, and each once more at most. No array that is not asked at the version, or that refuses a get's key, adds to
+    /// these reads. These take no memory but for blocks that are cached.
     ///
     /// Opening a cursor copies level 0's items, 12 bytes each, and at most 22 descriptors, and reads no block; `NoMemory`
     /// if there is no room for these. It shares the pairs: a level 0 that was emptied keeps its memory while a cursor reads
@@ -323,8 +319,6 @@ impl Store {
         ensures cause { FailsAsTold (D.faults disk.old) (D.faults disk.new) result
             × TellsTroubleOf (D.view disk.old) self.old (request_of command.now) result }
         ensures reads { ReadsForLook self.old (request_of command.now)
-            (D.reads disk.old) (D.reads disk.new)
-            × SkipsRefusing self.old (request_of command.now)
             (D.reads disk.old) (D.reads disk.new) }
         ensures damaged { (b : ℕ) → result ≡ reply.Refused (why.Damaged b)
             → IsDamagedIn (D.view disk.old).content self.old.memory self.old.levels b }

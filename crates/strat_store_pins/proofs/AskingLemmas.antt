@@ -12,23 +12,23 @@ use Rattle.strat_base.specs.Samples.{says}
 use Rattle.strat_base.specs.Tree.{climb}
 use Rattle.strat_base.specs.declared.descriptors.ArrayDesc.{ArrayDesc}
 use Rattle.strat_base.specs.declared.descriptors.LevelDesc.{LevelDesc}
+use Rattle.def_crash.specs.Faults.{ReadsAtMost}
 use Rattle.def_crash.specs.Image.{over, window}
 use Rattle.strat_cursor.proofs.PickLemmas.{level_next, only}
-use Rattle.strat_cursor.specs.Looking.{arrays_asked, asked_of_level, levels_there}
+use Rattle.strat_cursor.specs.Looking.{ReadsArrays, arrays_asked, levels_there}
 use Rattle.strat_filter.specs.Bits.{bits_after}
-use Rattle.strat_level.specs.Levels.{desc_for, level_numbered}
-use Rattle.strat_memory.specs.Filters.{filter_at, filter_refuses}
+use Rattle.strat_level.specs.Levels.{level_numbered}
+use Rattle.strat_memory.specs.Filters.{filter_at}
 use Rattle.strat_model.specs.Answer.{Answer, as_told}
 use Rattle.strat_model.specs.Request.{Get}
 use Rattle.strat_model.specs.Step.{found}
 use Rattle.strat_model.specs.declared.replies.Reply.TheVariants as reply
 use Rattle.def_bytes.specs.Arrays.{block_on, blocks_of, entries_on}
 use Rattle.def_bytes.specs.Block.{block_bytes, block_in, entries_in}
-use Rattle.def_recovery.proofs.OpeningLemmas.{next_some}
 use Rattle.def_recovery.specs.Asked.{asked}
 use Rattle.def_state.specs.LookUp.{first_live}
-use Rattle.strat_store.specs.Filtering.{AllRefuse, KeepsFilter, asked_filtered}
-use Rattle.strat_store.specs.Ranging.{AreReadAs, IsMapAsked, TellsFrom}
+use Rattle.strat_store.specs.Filtering.{KeepsFilter, asked_filtered}
+use Rattle.strat_store.specs.Ranging.{AreReadAs, IsMapAsked, ReadsForLook, TellsFrom, arrays_wanted}
 use Rattle.strat_store_pins.specs.Examples.{array_in, children_apart, children_filtered, one_block, with_cached}
 
 pub seven : entries_on one_block (7 ∷ []) ≡ Some (says 97 1 49 ∷ [])
@@ -147,26 +147,18 @@ level_at (suc i) level is =
     by zero here = refl
     by (suc j) here = absurd (cc)
 
-asked_first : (a : ArrayDesc) → asked_of_level children_apart.memory.parents children_apart.levels 1 1 ≡ Some a → array_in 5 1 7 ≡ a
+b_unread : arrays_wanted children_filtered (Get 1 (98 ∷ [])) ≡ []
 unfolding climb
-asked_first a is = let same : Some (array_in 5 1 7) ≡ Some a = is in cc
+b_unread = refl
 
-refuses_b : filter_refuses children_filtered.filters 1 5 (98 ∷ []) ≡ true
-refuses_b = refl
+pub b_reads_none : (before now : ℕ) → ReadsForLook children_filtered (Get 1 (98 ∷ [])) before now → now ≡ before
+b_reads_none before now reads =
+    let most : ReadsAtMost 0 before now = subst (λ (arrays : List ArrayDesc). ReadsArrays arrays before now) b_unread (reads refl) 0 (λ a among. absurd (omega (arith, among.1))) in
+    omega (arith, most.later, most.bound)
 
-pub b_refused : AllRefuse children_filtered.filters children_filtered.memory.parents children_filtered.levels 1 (98 ∷ [])
-b_refused number a is =
-    let level = next_some (λ level. desc_for children_apart.memory.parents level 1) (level_numbered children_apart.levels number) a is in
-    let one = level_at number level.0 level.1 in
-    let here = asked_first a (ap (λ (n : ℕ). asked_of_level children_apart.memory.parents children_apart.levels n 1) (sym one) ∙ is) in
-    (λ i. filter_refuses children_filtered.filters (one i) (sym here i).id (98 ∷ [])) ∙ refuses_b
-
-asked_at_one : asked_of_level children_apart.memory.parents children_apart.levels 1 1 ≡ Some (array_in 5 1 7)
+pub a_read : arrays_wanted children_filtered (Get 1 (97 ∷ [])) ≡ array_in 5 1 7 ∷ []
 unfolding climb
-asked_at_one = refl
-
-pub a_not_refused : AllRefuse children_filtered.filters children_filtered.memory.parents children_filtered.levels 1 (97 ∷ []) → ⊥
-a_not_refused all = let refused : false ≡ true = all 1 (array_in 5 1 7) asked_at_one in absurd (cc)
+a_read = refl
 
 pub keeps_five : KeepsFilter children_filtered.filters children_filtered.levels 5
 keeps_five = (

@@ -182,7 +182,7 @@ returns-clause-found g c =
     let m = c.reserve_for_next.new.memory in
     let next = c.in_ok-next.next in
     found_next (held_of c.args.held.now (empty_cache 0)) (held_of c.install.new.held (empty_cache 0)) m m.ready m.cursors.room next.target (super_of next.sb) (chained_of next.published) next.published.levels next.filters
-    c.reserve_for_next.ensures.same (c.in_ok-install.ensures.ok (empty_cache 0)) c.in_ok-next.ensures.found
+    c.reserve_for_next.ensures.same c.in_ok-next.ensures.kept.2 (c.in_ok-install.ensures.ok (empty_cache 0)) c.in_ok-next.ensures.found
 
 pub returns-in_err-reserve_for_next-clause-disk : goal.returns-in_err-reserve_for_next-clause-disk
 returns-in_err-reserve_for_next-clause-disk g c = λ other cached on.

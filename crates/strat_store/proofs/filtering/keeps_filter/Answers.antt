@@ -1,4 +1,4 @@
-use Rattle.std.proofs.Common.{◌+◌, ◌∙◌, sym, arith}
+use Rattle.std.proofs.Common.{◌+◌, arith}
 use Rattle.strat_store.proofs.FilteringLemmas.{keeps_no_more, keeps_none, keeps_nowhere}
 use Rattle.strat_store.proofs.filtering.keeps_filter.Goals as goal
 

@@ -2,7 +2,7 @@ use Rattle.std.proofs.Common.{◌≡◌, sym, ap, ◌∙◌}
 use Rattle.std.specs.List.{list_any}
 use Rattle.strat_base.specs.declared.descriptors.LevelDesc.{LevelDesc}
 use Rattle.strat_store.specs.Filtering.{has_id}
-use Rattle.strat_store.proofs.FilteringLemmas.{keeps_from, keeps_to}
+use Rattle.strat_store.proofs.FilteringLemmas.{keeps_from}
 use Rattle.strat_store.proofs.filtering.keeps_filter_at.Goals as goal
 
 pub returns-then-has-clause-ok : goal.returns-then-has-clause-ok

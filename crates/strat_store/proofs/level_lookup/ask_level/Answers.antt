@@ -1,14 +1,13 @@
-use Rattle.std.proofs.Common.{◌≡◌, Option, Some, None, sym, ap, refl, ◌∙◌, subst, true≢false}
-use Rattle.std.specs.Option.{option_to_list, option_and_then}
+use Rattle.std.proofs.Common.{◌≡◌, Option, Some, sym, ap, refl, ◌∙◌, subst}
+use Rattle.std.specs.Option.{option_to_list}
 use Rattle.strat_base.proofs.ResultFacts.{if_ok_then}
 use Rattle.strat_array.specs.Told.{TellsFound}
-use Rattle.strat_base.specs.Entries.{Entry}
 use Rattle.strat_base.specs.Tree.{Parents}
 use Rattle.strat_base.specs.declared.descriptors.ArrayDesc.{ArrayDesc}
 use Rattle.def_crash.specs.Faults.{ReadsAtMost}
 use Rattle.strat_cursor.specs.Looking.{arrays_there, asked_of_level, HaveFewBlocks, reads_of_arrays}
 use Rattle.strat_store.specs.Filtering.{filtered_says}
-use Rattle.strat_store.proofs.LookLemmas.{one_read, refused_one, tell_passed}
+use Rattle.strat_store.proofs.LookLemmas.{one_read, refused_one, tell_passed, unrefused_is}
 use Rattle.strat_store.proofs.level_lookup.ask_level.Goals as goal
 use Rattle.strat_cursor.proofs.PickLemmas.{asked_there}
 use Rattle.strat_cursor.proofs.ThroughLemmas.{only_one, through_one, names_one}
@@ -43,13 +42,12 @@ returns-clause-damaged g c = λ b torn.
 
 pub returns-clause-reads : goal.returns-clause-reads
 returns-clause-reads g c =
-    let is = subst (λ (ps : Parents). asked_of_level ps c.args.held.now.published.levels c.args.number c.args.v ≡ Some c.in-Some.desc.now) c.parts.ensures.found.0 (sym (rw c.in-Some.is at c.array_for.ensures.ok)) in (
-      λ n few.
-          let here = subst (λ (o : Option ArrayDesc). HaveFewBlocks n (option_to_list o)) is few in
-          subst (λ (o : Option ArrayDesc). ReadsAtMost (reads_of_arrays n (option_to_list o)) (g.D.Disk.reads c.args.disk.now) (g.D.Disk.reads c.find.new.disk)) (sym is)
-          (one_read n c.in-Some.desc.now _ _ (c.find.ensures.reads n (here c.in-Some.desc.now (only_one c.in-Some.desc.now)))),
-      λ all. absurd (true≢false (sym (all c.in-Some.desc.now is) ∙ sym c.refuses.ensures.ok ∙ c.if-refuses.false)),
-    )
+    let is = subst (λ (ps : Parents). asked_of_level ps c.args.held.now.published.levels c.args.number c.args.v ≡ Some c.in-Some.desc.now) c.parts.ensures.found.0 (sym (rw c.in-Some.is at c.array_for.ensures.ok)) in
+    let read = unrefused_is c.args.held.now.filters c.args.held.now.memory.parents c.args.held.now.published.levels c.args.number c.args.v c.args.key.now c.in-Some.desc.now is (sym c.refuses.ensures.ok ∙ c.if-refuses.false) in
+    λ n few.
+    let here = subst (λ (o : Option ArrayDesc). HaveFewBlocks n (option_to_list o)) read few in
+    subst (λ (o : Option ArrayDesc). ReadsAtMost (reads_of_arrays n (option_to_list o)) (g.D.Disk.reads c.args.disk.now) (g.D.Disk.reads c.find.new.disk)) (sym read)
+    (one_read n c.in-Some.desc.now _ _ (c.find.ensures.reads n (here c.in-Some.desc.now (only_one c.in-Some.desc.now))))
 
 pub returns-then-refuses-clause-found : goal.returns-then-refuses-clause-found
 returns-then-refuses-clause-found g c =

@@ -1,9 +1,9 @@
-use Rattle.std.proofs.Common.{◌≡◌, ◌<◌, ◌+◌, false, [], length, sym, ◌∙◌, subst, arith}
+use Rattle.std.proofs.Common.{◌≡◌, ◌<◌, false, [], length, sym, ◌∙◌, subst, arith}
 use Rattle.strat_array.specs.Told.{TheirPairs, TellsFound, AddsPair}
 use Rattle.def_state.specs.LookUp.{looked_up}
 use Rattle.strat_cursor.specs.Looking.{levels_there, decides}
 use Rattle.strat_store.specs.Filtering.{on_disk_filtered}
-use Rattle.strat_store.proofs.LookLemmas.{passes_on, passing_answers, passed_all, reads_left, few_asked, adds_none}
+use Rattle.strat_store.proofs.LookLemmas.{passes_on, passing_answers, passed_all, reads_left, few_unrefused, adds_none}
 use Rattle.strat_store.proofs.level_lookup.get_from_levels.Goals as goal
 use Rattle.strat_cursor.proofs.ThroughLemmas.{through_trans, still_cached}
 
@@ -15,17 +15,15 @@ returns-in_err-seen-clause-kept g c = λ f next exposed few own cached.
     still_cached _ _ f next _ _ _ (through_trans _ _ _ _ _ _ _ c.loop-above.invariant.0.looks c.ask_level.ensures.same) exposed few own cached
 
 pub returns-in_err-seen-clause-reads : goal.returns-in_err-seen-clause-reads
-returns-in_err-seen-clause-reads g c = (
-  λ n each.
-      let so_far = c.loop-above.invariant.3 n each in
-      let step = c.ask_level.ensures.reads.0 n (few_asked n c.args.held.now.memory.parents c.args.held.now.published.levels (c.loop-above.above + 1) c.args.v each) in
-      let left = reads_left n c.args.held.now.memory.parents c.args.v c.loop-above.above c.args.held.now.published.levels (omega (arith, c.get-first.ensures.len, c.loop-above-test.true)) in
-      record {
-        later = omega (arith, so_far.0, step.later);
-        bound = omega (arith, so_far.1, step.bound, left);
-      },
-  λ all. c.ask_level.ensures.reads.1 (λ a is. all (c.loop-above.above + 1) a is) ∙ c.loop-above.invariant.4 all,
-)
+returns-in_err-seen-clause-reads g c = λ n each.
+    let within : c.loop-above.above < length c.args.held.now.published.levels = omega (arith, c.get-first.ensures.len, c.loop-above-test.true) in
+    let so_far = c.loop-above.invariant.3 n each in
+    let step = c.ask_level.ensures.reads n (few_unrefused c.args.held.now.filters c.args.held.now.memory.parents c.args.held.now.published.levels c.args.v c.args.key.now n c.loop-above.above within each) in
+    let left = reads_left c.args.held.now.filters c.args.held.now.memory.parents c.args.held.now.published.levels c.args.v c.args.key.now n c.loop-above.above within in
+    record {
+      later = omega (arith, so_far.0, step.later);
+      bound = omega (arith, so_far.1, step.bound, left);
+    }
 
 pub returns-then-decides-clause-found : goal.returns-then-decides-clause-found
 returns-then-decides-clause-found g c = λ f next exposed ordered own numbered cached.
@@ -44,17 +42,15 @@ returns-then-decides-clause-kept g c = λ f next exposed few own cached.
     still_cached _ _ f next _ _ _ (through_trans _ _ _ _ _ _ _ c.loop-above.invariant.0.looks c.ask_level.ensures.same) exposed few own cached
 
 pub returns-then-decides-clause-reads : goal.returns-then-decides-clause-reads
-returns-then-decides-clause-reads g c = (
-  λ n each.
-      let so_far = c.loop-above.invariant.3 n each in
-      let step = c.ask_level.ensures.reads.0 n (few_asked n c.args.held.now.memory.parents c.args.held.now.published.levels (c.loop-above.above + 1) c.args.v each) in
-      let left = reads_left n c.args.held.now.memory.parents c.args.v c.loop-above.above c.args.held.now.published.levels (omega (arith, c.get-first.ensures.len, c.loop-above-test.true)) in
-      record {
-        later = omega (arith, so_far.0, step.later);
-        bound = omega (arith, so_far.1, step.bound, left);
-      },
-  λ all. c.ask_level.ensures.reads.1 (λ a is. all (c.loop-above.above + 1) a is) ∙ c.loop-above.invariant.4 all,
-)
+returns-then-decides-clause-reads g c = λ n each.
+    let within : c.loop-above.above < length c.args.held.now.published.levels = omega (arith, c.get-first.ensures.len, c.loop-above-test.true) in
+    let so_far = c.loop-above.invariant.3 n each in
+    let step = c.ask_level.ensures.reads n (few_unrefused c.args.held.now.filters c.args.held.now.memory.parents c.args.held.now.published.levels c.args.v c.args.key.now n c.loop-above.above within each) in
+    let left = reads_left c.args.held.now.filters c.args.held.now.memory.parents c.args.held.now.published.levels c.args.v c.args.key.now n c.loop-above.above within in
+    record {
+      later = omega (arith, so_far.0, step.later);
+      bound = omega (arith, so_far.1, step.bound, left);
+    }
 
 pub loop-above-preserved : goal.loop-above-preserved
 loop-above-preserved g c =
@@ -66,22 +62,18 @@ loop-above-preserved g c =
       c.in_ok-seen.ensures.cause.ok ∙ c.loop-above.invariant.2,
       λ n each.
           let so_far = c.loop-above.invariant.3 n each in
-          let step = c.ask_level.ensures.reads.0 n (few_asked n c.args.held.now.memory.parents c.args.held.now.published.levels (c.loop-above.above + 1) c.args.v each) in
-          let left = reads_left n c.args.held.now.memory.parents c.args.v c.loop-above.above c.args.held.now.published.levels within in
+          let step = c.ask_level.ensures.reads n (few_unrefused c.args.held.now.filters c.args.held.now.memory.parents c.args.held.now.published.levels c.args.v c.args.key.now n c.loop-above.above within each) in
+          let left = reads_left c.args.held.now.filters c.args.held.now.memory.parents c.args.held.now.published.levels c.args.v c.args.key.now n c.loop-above.above within in
           (omega (arith, so_far.0, step.later), omega (arith, so_far.1, step.bound, left)),
-      λ all. c.ask_level.ensures.reads.1 (λ a is. all (c.loop-above.above + 1) a is) ∙ c.loop-above.invariant.4 all,
     )
 
 pub returns-clause-kept : goal.returns-clause-kept
 returns-clause-kept g c = λ f next exposed few own cached. still_cached _ _ f next _ _ _ c.loop-above.invariant.0.looks exposed few own cached
 
 pub returns-clause-reads : goal.returns-clause-reads
-returns-clause-reads g c = (
-  λ n each.
-      let so_far = c.loop-above.invariant.3 n each in
-      record { later = so_far.0; bound = omega (arith, so_far.1) },
-  c.loop-above.invariant.4,
-)
+returns-clause-reads g c = λ n each.
+    let so_far = c.loop-above.invariant.3 n each in
+    record { later = so_far.0; bound = omega (arith, so_far.1) }
 
 pub returns-clause-found : goal.returns-clause-found
 returns-clause-found g c = λ f next exposed ordered own numbered cached. (

@@ -11,7 +11,7 @@ use Rattle.strat_store.specs.Cursoring.{IsAppliedAt, LeavesCursors, cursors_afte
 use Rattle.strat_memory.specs.RecoveredFields.{held_of}
 use Rattle.strat_store.specs.Applying.{held_after}
 use Rattle.strat_store.proofs.AppliedLemmas.{change_applied}
-use Rattle.strat_store.proofs.ApplyLemmas.{look_follows, look_no_change, pairs_wanted, reads_no_look, skips_no_get, tells_from_wanted, tells_of_change, wanted_for}
+use Rattle.strat_store.proofs.ApplyLemmas.{look_follows, look_no_change, pairs_wanted, reads_no_look, tells_from_wanted, tells_of_change, wanted_for}
 use Rattle.strat_store.proofs.LeavingLemmas.{left_queried, leaves_wanted, untouched_by}
 use Rattle.strat_store.proofs.QueryLemmas.{query_leaves}
 use Rattle.strat_store.proofs.store.answer.Goals as goal
@@ -65,7 +65,6 @@ returns-in-Some-clause-same g c =
       subst (λ (pairs : Pairs). LeavesCursors old (request_of c.args.command.now) (as_told c.change.result pairs) new) (sym c.requires.room)
           (subst (λ (r : Request). LeavesCursors old r (plain c.change.result) new) (wanted_for (request_of c.args.command.now) _ c.in-Some.ensures) leaves.1),
       reads_no_look old (request_of c.args.command.now) _ _ _ c.in-Some.ensures,
-      skips_no_get old (request_of c.args.command.now) _ _ _ c.in-Some.ensures,
     )
 
 pub returns-in-None-clause-same : goal.returns-in-None-clause-same
@@ -84,7 +83,6 @@ returns-in-None-clause-same g c =
           (ap (λ (b : Bool). b && accepts c.query.result) still) c.query.ensures.same.0.disk,
       query_leaves c.args.held.now c.query.new.held c.args.cache.now c.query.new.cache (request_of c.args.command.now) (as_told c.query.result c.query.new.out) (is_fault c.query.result) c.in-None.ensures c.query.ensures.state,
       λ none. c.query.ensures.same.1,
-      c.query.ensures.same.2,
     )
 
 pub returns-in-Some-clause-found : goal.returns-in-Some-clause-found

@@ -37,8 +37,7 @@ returns-in-Get-clause-len g c = rw (c.in-Get.is) (pairs_beside c.get.result c.ge
 pub returns-in-Get-clause-same : goal.returns-in-Get-clause-same
 returns-in-Get-clause-same g c = (
   looks_wider _ _ (arrays_there c.args.held.now.published.levels) _ _ _ (λ a of. Contains-append_left (arrays_there c.args.held.now.published.levels) c.args.held.now.memory.cursors.retired a of) c.get.ensures.same,
-  rw (c.in-Get.is) (reads_known (is_known c.args.held.now.memory.parents c.in-Get.version) _ _ _ c.get.ensures.reads.0 (λ off. ap (λ (d : _). g.D.Disk.reads d) (c.get.ensures.none off).1)),
-  rw (c.in-Get.is) c.get.ensures.reads.1,
+  rw (c.in-Get.is) (reads_known (is_known c.args.held.now.memory.parents c.in-Get.version) _ _ _ c.get.ensures.reads (λ off. ap (λ (d : _). g.D.Disk.reads d) (c.get.ensures.none off).1)),
 )
 
 pub returns-in-Get-clause-cause : goal.returns-in-Get-clause-cause
@@ -76,7 +75,6 @@ pub returns-in-Scan-clause-same : goal.returns-in-Scan-clause-same
 returns-in-Scan-clause-same g c = (
   looks_wider _ _ (arrays_there c.args.held.now.published.levels) _ _ _ (λ a of. Contains-append_left (arrays_there c.args.held.now.published.levels) c.args.held.now.memory.cursors.retired a of) c.scan_range.ensures.same,
   rw (c.in-Scan.is) (reads_known (is_known c.args.held.now.memory.parents c.in-Scan.version) _ _ _ c.scan_range.ensures.reads (λ off. ap (λ (d : _). g.D.Disk.reads d) (c.scan_range.ensures.none off).1)),
-  rw (c.in-Scan.is) tt,
 )
 
 pub returns-in-Scan-clause-cause : goal.returns-in-Scan-clause-cause
@@ -108,7 +106,7 @@ returns-in-Info-clause-len g c =
     rw (c.in-Info.is) (no_pairs c.info.result c.args.out.now other c.requires.room)
 
 pub returns-in-Info-clause-same : goal.returns-in-Info-clause-same
-returns-in-Info-clause-same g c = (through_refl _ _ _, reads_still _ _, rw (c.in-Info.is) tt)
+returns-in-Info-clause-same g c = (through_refl _ _ _, reads_still _ _)
 
 pub returns-in-Info-clause-cause : goal.returns-in-Info-clause-cause
 returns-in-Info-clause-cause g c =
@@ -134,7 +132,7 @@ returns-in-Stat-clause-len g c =
     rw (c.in-Stat.is) (no_pairs c.stat.result c.args.out.now other c.requires.room)
 
 pub returns-in-Stat-clause-same : goal.returns-in-Stat-clause-same
-returns-in-Stat-clause-same g c = (through_refl _ _ _, reads_still _ _, rw (c.in-Stat.is) tt)
+returns-in-Stat-clause-same g c = (through_refl _ _ _, reads_still _ _)
 
 pub returns-in-Stat-clause-cause : goal.returns-in-Stat-clause-cause
 returns-in-Stat-clause-cause g c =
@@ -156,7 +154,7 @@ pub returns-in-OpenCursor-clause-len : goal.returns-in-OpenCursor-clause-len
 returns-in-OpenCursor-clause-len g c = rw (c.in-OpenCursor.is) (no_pairs c.reply_to_open_cursor.result c.args.out.now c.reply_to_open_cursor.ensures.cause.1 c.requires.room)
 
 pub returns-in-OpenCursor-clause-same : goal.returns-in-OpenCursor-clause-same
-returns-in-OpenCursor-clause-same g c = (through_refl _ _ _, reads_still _ _, rw (c.in-OpenCursor.is) tt)
+returns-in-OpenCursor-clause-same g c = (through_refl _ _ _, reads_still _ _)
 
 pub returns-in-OpenCursor-clause-cause : goal.returns-in-OpenCursor-clause-cause
 returns-in-OpenCursor-clause-cause g c = rw (c.in-OpenCursor.is) (
@@ -181,7 +179,6 @@ pub returns-in-NextPairs-clause-same : goal.returns-in-NextPairs-clause-same
 returns-in-NextPairs-clause-same g c = (
   looks_wider _ _ _ _ _ _ (c.requires.kept c.args.cache.now).kept.named c.reply_to_next_pairs.ensures.same,
   rw (c.in-NextPairs.is) c.reply_to_next_pairs.ensures.reads,
-  rw (c.in-NextPairs.is) tt,
 )
 
 pub returns-in-NextPairs-clause-cause : goal.returns-in-NextPairs-clause-cause
@@ -206,7 +203,7 @@ pub returns-in-CloseCursor-clause-len : goal.returns-in-CloseCursor-clause-len
 returns-in-CloseCursor-clause-len g c = rw (c.in-CloseCursor.is) (no_pairs c.reply_to_close_cursor.result c.args.out.now c.reply_to_close_cursor.ensures.cause.1 c.requires.room)
 
 pub returns-in-CloseCursor-clause-same : goal.returns-in-CloseCursor-clause-same
-returns-in-CloseCursor-clause-same g c = (through_refl _ _ _, reads_still _ _, rw (c.in-CloseCursor.is) tt)
+returns-in-CloseCursor-clause-same g c = (through_refl _ _ _, reads_still _ _)
 
 pub returns-in-CloseCursor-clause-cause : goal.returns-in-CloseCursor-clause-cause
 returns-in-CloseCursor-clause-cause g c = rw (c.in-CloseCursor.is) (

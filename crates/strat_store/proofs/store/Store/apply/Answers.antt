@@ -3,7 +3,7 @@ use Rattle.strat_model.specs.Answer.{as_told}
 use Rattle.strat_model.specs.Command.{request_of}
 use Rattle.strat_store.specs.Cursoring.{IsAppliedAt}
 use Rattle.strat_memory.specs.RecoveredFields.{held_of}
-use Rattle.strat_store.proofs.ApplyLemmas.{old_after, spent_at, spent_consistent, spent_reads, spent_skips, spent_tells}
+use Rattle.strat_store.proofs.ApplyLemmas.{old_after, spent_at, spent_consistent, spent_reads, spent_tells}
 use Rattle.strat_memory.proofs.PayingLemmas.{stored_since}
 use Rattle.strat_store.proofs.StagingLemmas.{as_ever, ever_joined, replies_none}
 use Rattle.strat_store.proofs.store.Store.apply.Goals as goal
@@ -70,7 +70,4 @@ pub returns-clause-reads : goal.returns-clause-reads
 returns-clause-reads g c =
     let before = g.D.Disk.reads c.args.disk.now in
     let now = g.D.Disk.reads c.answer-told.new.disk in
-    rw (← c.self.view_is) (
-      spent_reads (held_of c.self.inside.held c.self.inside.cache) c.self.inside.spent (request_of c.args.command.now) before now c.answer-told.ensures.same.3,
-      spent_skips (held_of c.self.inside.held c.self.inside.cache) c.self.inside.spent (request_of c.args.command.now) before now c.answer-told.ensures.same.4,
-    )
+    rw (← c.self.view_is) (spent_reads (held_of c.self.inside.held c.self.inside.cache) c.self.inside.spent (request_of c.args.command.now) before now c.answer-told.ensures.same.3)
