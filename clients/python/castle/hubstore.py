@@ -184,3 +184,7 @@ class HubStore(Store):
     def verdict(self) -> Verdict:
         """A `NotOverHub`: it is the store's file that is checked."""
         raise errors.NotOverHub("a check can't be had over a hub", file=self.path, command="check")
+
+    def _source(self) -> "Source":
+        """A `NotOverHub`: it is the store's file that is copied."""
+        raise errors.NotOverHub("a copy can't be had over a hub", file=self.path, command="copy")

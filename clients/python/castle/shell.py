@@ -7,7 +7,7 @@ import sys
 from collections import deque
 from typing import Callable, ContextManager, Dict, Iterable, Iterator, List, Optional, Sequence, TextIO, TypeVar
 
-from . import backup, dump, jsonform, levels, listing, loading, outfile, picture_levels, picture_tree, report, tree, verdict
+from . import dump, jsonform, levels, listing, loading, outfile, picture_levels, picture_tree, report, storetext, tree, verdict
 from .branches import Snapshot, nameless
 from .errors import CastleError, Ended, MergeConflict, NotSound, UnknownName, UnknownVersion, Wrong
 from .frames import NUMBER_MAX, Info, prefix_end
@@ -533,7 +533,7 @@ class Shell:
 
     def _dump_all(self, rest: List[Word]) -> None:
         self._refuse_version("dump")
-        lines = backup.lines_of(self.store, os.path.basename(self.store.path))
+        lines = storetext.lines_of(self.store, os.path.basename(self.store.path))
         if rest:
             self._save(rest[0], self._until_stopped(lines))
         else:
@@ -541,8 +541,8 @@ class Shell:
 
     def _load_all(self, rest: List[Word]) -> None:
         self._refuse_version("load")
-        loading = backup.Loading(self.store, rest[0].path)
-        with outfile.told(rest[0].path, "read"), backup.twice(rest[0].path) as lines:
+        loading = storetext.Loading(self.store, rest[0].path)
+        with outfile.told(rest[0].path, "read"), storetext.twice(rest[0].path) as lines:
             deque(self._until_stopped(loading.check(lines)), 0)
             lines.seek(0)
             try:

@@ -13,7 +13,7 @@ from unittest import mock
 from session import carried_out, carried_out_amid
 from support import DEADLINE, SHELL, StoreCase, Threads
 
-from castle import Counts, Name, Store, backup, errors
+from castle import Counts, Name, Store, errors, storetext
 from castle.text import unescaped
 
 Pairs = Dict[bytes, bytes]
@@ -335,9 +335,9 @@ class CutOffTest(BackupCase):
     def test_a_file_that_is_altered_between_check_and_load_is_told(self) -> None:
         store, path = self.fresh(100000), self.many()
         with open(path, encoding="utf-8") as lines:
-            list(backup.Loading(store, path).check(lines))
+            list(storetext.Loading(store, path).check(lines))
         self.expect_fresh(store)
-        loading = backup.Loading(store, path)
+        loading = storetext.Loading(store, path)
         with open(path, encoding="utf-8") as lines, self.assertRaisesRegex(errors.DumpFault, "cut off behind line 600"):
             list(loading.load(list(lines)[:600]))
         self.assertEqual((loading.counts, dict(store.names)), (Counts(1, 0, 512), {}))
