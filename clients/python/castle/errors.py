@@ -488,6 +488,13 @@ class Doubtful(CastleError):
     remedy = "Any pair may be wrong, so restore a copy that is sound. If there is none, --doubtful salvages what the file shows."
 
 
+class SomethingLost(CastleError):
+    """A script's line `salvage` made a new store, and something is lost or in doubt."""
+
+    what = "something is lost or in doubt; the new store has the rest"
+    remedy = "The lines before this one say what."
+
+
 class NamesWarning(UserWarning):
     """A store was opened without some of the names in its file."""
 

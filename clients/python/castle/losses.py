@@ -56,27 +56,33 @@ def key_behind(key: bytes) -> Optional[bytes]:
 
 
 class Tree:
-    """The versions with their parents, of which version 0 has none."""
+    """The versions with their parents, of which version 0 has none and each other one a lower number than its own."""
 
     def __init__(self, parents: Sequence[Optional[int]]) -> None:
-        self.parents = parents
+        self.parents = [0 if parent is None else parent for parent in parents]
+        self._sizes = [1] * len(parents)  # of subtrees
+        for version in range(len(parents) - 1, 0, -1):
+            self._sizes[self.parents[version]] += self._sizes[version]
+        self._starts = [0] * len(parents)  # the versions of a subtree are numbered in a row from here on
+        free = [1] * len(parents)
+        for version in range(1, len(parents)):
+            parent = self.parents[version]
+            self._starts[version] = free[parent]
+            free[version] = free[parent] + 1
+            free[parent] += self._sizes[version]
 
-    def below(self, version: int, horizon: int) -> int:
-        """The nearest version on the way to version 0, itself included, that was there when a level was made."""
-        while version >= horizon:
-            version = self._parent(version)
-        return version
+    def readers(self, horizon: int) -> List[int]:
+        """For each version the nearest one on the way to version 0, itself included, that was there when a level was made."""
+        found: List[int] = []
+        for version, parent in enumerate(self.parents):
+            found.append(version if version < horizon else found[parent])
+        return found
 
     def sees(self, version: int, other: int) -> bool:
         """Whether a version has what was changed at another one: that is itself or above it."""
-        while version > other:
-            version = self._parent(version)
-        return version == other
-
-    def _parent(self, version: int) -> int:
-        parent = self.parents[version]
-        assert parent is not None
-        return parent
+        if other >= len(self._starts):
+            return False
+        return 0 <= self._starts[version] - self._starts[other] < self._sizes[other]
 
 
 # Gaps
@@ -122,21 +128,23 @@ def lost_by(gap: Gap, reader: int, tree: Tree) -> Optional[Range]:
 
 def segments(lost: Iterable[Tuple[Range, int]]) -> List[Segment]:
     """The whole of all keys in segments, for ranges that are lost in levels of these numbers."""
-    losses = list(lost)
-    bounds = sorted({b"", *(found.lower for found, _ in losses), *(found.upper for found, _ in losses if found.upper is not None)})
+    steps: Dict[bytes, List[Tuple[int, int]]] = {b"": []}  # at a bound, how many more ranges of a level there are behind it
+    for found, level in lost:
+        steps.setdefault(found.lower, []).append((level, 1))
+        if found.upper is not None:
+            steps.setdefault(found.upper, []).append((level, -1))
+    bounds = sorted(steps)
+    counts: Dict[int, int] = {}
     parts: List[Segment] = []
     for lower, upper in zip(bounds, [*bounds[1:], None]):
-        level = min((number for found, number in losses if found.lower <= lower and _reaches(found, upper)), default=None)
-        if parts and parts[-1].level == level:
-            parts[-1] = Segment(Range(parts[-1].range.lower, upper), level)
+        for level, step in steps[lower]:
+            counts[level] = counts.get(level, 0) + step
+        least = min((level for level, count in counts.items() if count), default=None)
+        if parts and parts[-1].level == least:
+            parts[-1] = Segment(Range(parts[-1].range.lower, upper), least)
         else:
-            parts.append(Segment(Range(lower, upper), level))
+            parts.append(Segment(Range(lower, upper), least))
     return parts
-
-
-def _reaches(found: Range, upper: Optional[bytes]) -> bool:
-    """Whether a range goes on up to a bound at least."""
-    return found.upper is None or upper is not None and upper <= found.upper
 
 
 def plan(gaps: Sequence[Gap], parents: Sequence[Optional[int]]) -> List[Tuple[Segment, ...]]:
@@ -149,10 +157,11 @@ def plan(gaps: Sequence[Gap], parents: Sequence[Optional[int]]) -> List[Tuple[Se
             found = lost_by(gap, reader, tree)
             if found is not None:
                 readers.setdefault(reader, []).append((found, gap.level))
+    levels = [(tree.readers(horizon), readers) for (_, horizon), readers in lost.items()]
     shared: Dict[Tuple[Tuple[Range, int], ...], Tuple[Segment, ...]] = {}
     plans = []
     for version in range(len(parents)):
-        missed = tuple(item for (_, horizon), readers in lost.items() for item in readers.get(tree.below(version, horizon), ()))
+        missed = tuple(item for nearest, readers in levels for item in readers.get(nearest[version], ()))
         if missed not in shared:
             shared[missed] = tuple(segments(missed))
         plans.append(shared[missed])

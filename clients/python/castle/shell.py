@@ -7,7 +7,7 @@ import sys
 from collections import deque
 from typing import Callable, ContextManager, Dict, Iterable, Iterator, List, Optional, Sequence, TextIO, TypeVar
 
-from . import dump, jsonform, levels, listing, loading, outfile, picture_levels, picture_tree, report, storetext, tree, verdict
+from . import dump, exports, jsonform, keeping, levels, listing, loading, outfile, picture_levels, picture_tree, report, storetext, tree, verdict
 from .branches import Snapshot, nameless
 from .errors import CastleError, Ended, MergeConflict, NotSound, UnknownName, UnknownVersion, Wrong
 from .frames import NUMBER_MAX, Info, prefix_end
@@ -15,6 +15,7 @@ from .keycount import count_keys
 from .lines import Command, check_text, check_words, command_of, is_number, near, take_options
 from .merge import OURS, THEIRS
 from .paging import Left, unpaged
+from .progress import Line, teller
 from .store import Store
 from .terminal import INTERRUPTED, Interrupts, Stopped
 from .text import Word, argument, cell, counted, shortened, shown, words
@@ -511,8 +512,8 @@ class Shell:
             self.say(f"{removed} removed, {added} added, {changed} changed", removed=removed, added=added, changed=changed)
 
     def dump(self, rest: List[Word]) -> None:
-        if rest and rest[0].text == ALL:
-            self._dump_all(rest[1:])
+        if ALL in self.options:
+            self._dump_all(rest)
             return
         try:
             version = self.version(rest[:1])
@@ -520,6 +521,9 @@ class Shell:
             if len(rest) == 1:
                 error.remedy = f"{error.remedy} A file stands behind the version: dump V FILE.".strip()
             raise
+        if loading.FRAMES in self.options:
+            self._export(version, rest[1:])
+            return
         if len(rest) < 2 and self.json:
             for key, value in self._until_stopped(self.store.scan(version)):
                 self.say("", key=key, value=value)
@@ -531,8 +535,24 @@ class Shell:
         else:
             self._save(rest[1], lines)
 
+    def _export(self, version: int, rest: List[Word]) -> None:
+        """Writes a version's pairs as frames of puts."""
+        line = Line()
+        if not rest and (self.is_typed or self.out.isatty()):
+            raise Wrong("frames are bytes, and no text for a terminal", "A file stands behind the version: dump --frames V FILE.")
+        pieces = exports.frames_of(self._until_stopped(self.store.scan(version)), teller(self.interrupts, line))
+        try:
+            if rest:
+                self._save(rest[0], pieces)
+            else:
+                self.out.writelines(piece.decode("utf-8", "surrogateescape") for piece in pieces)
+        finally:
+            line.clear()
+
     def _dump_all(self, rest: List[Word]) -> None:
         self._refuse_version("dump")
+        if len(rest) > 1 or len(self.options) > 1:
+            raise Wrong(f"usage: {COMMANDS['dump'].usage}")
         lines = storetext.lines_of(self.store, os.path.basename(self.store.path))
         if rest:
             self._save(rest[0], self._until_stopped(lines))
@@ -616,11 +636,16 @@ COMMANDS: Dict[str, Command] = {
                      Shell.check, 0, 0, False),
     "report": Command(FILES, "report FILE", "writes a page of HTML: the tree, the levels, and what is used and left",
                       Shell.report, 1, 1, False),
-    "dump": Command(FILES, "dump [V [FILE] | --all [FILE]]", "writes a version's pairs, or the whole store, as lines of text",
-                    Shell.dump, 0, 2),
-    "load": Command(FILES, "load [--all | --csv | --json-lines] FILE [@V]",
+    "dump": Command(FILES, "dump [--frames] [V [FILE] | --all [FILE]]",
+                    "writes a version's pairs, or the whole store, as lines of text; --frames as frames of puts",
+                    Shell.dump, 0, 2, True, {ALL: "", "--frames": ""}),
+    "load": Command(FILES, "load [--all | --csv | --json-lines | --frames] FILE [@V]",
                     "puts the pairs of a file, or of - for standard input; --all fills a fresh store",
-                    Shell.load, 1, 1, True, {ALL: "", "--csv": "", "--json-lines": ""}),
+                    Shell.load, 1, 1, True, {ALL: "", "--csv": "", "--json-lines": "", "--frames": ""}),
+    "backup": Command(FILES, "backup [--overwrite] FILE", "copies the store and its names to another file, and checks the copy",
+                      keeping.backup, 1, 1, False, {"--overwrite": ""}),
+    "salvage": Command(FILES, "salvage [--overwrite] [--doubtful] FILE", "makes a new store of what a damaged one still gives",
+                       keeping.salvage, 1, 1, False, {"--overwrite": "", "--doubtful": ""}),
     "help": Command(SHELL, "help [COMMAND]", "shows this, or one command", Shell.help, 0, 1, False),
     "quit": Command(SHELL, "quit", "ends the shell", Shell.quit, 0, 0, False),
 }

@@ -13,9 +13,9 @@ from typing import Callable, Iterator, Optional, Tuple
 from . import errors
 from .files import keep_permissions, seen, sync_folder
 from .lock import Lock
+from .outfile import place_in_a_store
 
 CHUNK = 1 << 20  # bytes that are copied at once
-BESIDE = "", ".names", ".lock"  # endings of a store's files
 
 Progress = Callable[[str, int, Optional[int]], None]
 """What is told of the progress: what is done, how much so far, and of how much where that is known. It may raise."""
@@ -93,20 +93,11 @@ class Place:
         folder = os.path.dirname(self._real)
         if not os.path.isdir(folder):
             raise errors.StoreMissing(f"there is no folder {folder}", "Make it first.", file=self.path)
-        if any(self._is_source(ending) for ending in BESIDE):
-            raise errors.StoreExists("it is the store that is read, or belongs to it", "Take another path.", file=self.path)
-        for ending in BESIDE[:2]:
+        belongs = place_in_a_store(self._real, self._source)
+        if belongs:
+            raise errors.StoreExists(f"the file {belongs}", "Take another path.", file=self.path)
+        for ending in "", ".names":
             self._check_free(self._real + ending, "the file of its names" if ending else "it")
-
-    def _is_source(self, ending: str) -> bool:
-        """Whether the path is that of the store that is read, or of one of its files."""
-        other = self._source + ending
-        if self._real == other:
-            return True
-        try:
-            return os.path.samefile(self._real, other)
-        except OSError:
-            return False
 
     def _check_free(self, path: str, what: str) -> None:
         try:
