@@ -20,7 +20,7 @@ class Gap(NamedTuple):
     versions: Tuple[int, ...]
     """The array's tag."""
     before: Tuple[Block, ...]
-    """The block before it, and those before that one as far as they end with the same key; the nearest one first."""
+    """The readable block before it, and those before that one as far as they end with the same key; the nearest one first."""
     behind: Optional[Block]
 
 
@@ -97,7 +97,7 @@ def gaps_in(level: Level, array: Array, blocks: Sequence[Optional[Block]]) -> It
             continue
         if is_open:
             yield Gap(level.number, level.horizon, array.versions, tail, found)
-        goes_on = tail and not is_open and found.first[0] == found.last[0] == tail[0].last[0]
+        goes_on = tail and found.first[0] == found.last[0] == tail[0].last[0]
         tail = (found, *tail) if goes_on else (found,)
         is_open = False
     if is_open:
@@ -113,9 +113,12 @@ def lost_by(gap: Gap, reader: int, tree: Tree) -> Optional[Range]:
     lower: Optional[bytes] = b""
     upper = None
     if gap.before:
-        key = gap.before[0].last[0]
+        key, last = gap.before[0].last
         has_it = any(tree.sees(reader, other) for block in gap.before for other in block.ends)
         lower = key_behind(key) if has_it else key
+        if gap.behind is not None and key == gap.behind.first[0]:  # all that is lost is of this key
+            between = range(gap.behind.first[1] + 1, last)
+            return Range(key, key_behind(key)) if not has_it and any(tree.sees(reader, other) for other in between) else None
     if gap.behind is not None:
         key, first = gap.behind.first
         upper = key if reader <= first else key_behind(key)
