@@ -148,7 +148,7 @@ class Place:
             raise errors.Forked(file=self.path)
         self._sync()
         names, has_names = self._real + ".names", os.path.exists(self.names)
-        if os.path.exists(self._real):
+        if self._overwrite and os.path.exists(self._real):
             with contextlib.suppress(FileNotFoundError):
                 os.remove(names)
             os.replace(self.store, self._real)
