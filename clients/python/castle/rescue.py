@@ -2,13 +2,13 @@
 
 from __future__ import annotations
 
-from typing import Callable, ContextManager, NamedTuple, Optional
+from typing import Callable, NamedTuple, Optional
 
 from . import errors
+from .lock import unchanged
 from .process import find_program
 from .salvaging import Kit, Salvage
 from .salvaging import salvage as salvaged
-from .lock import unchanged
 from .store import Path, Store, check_file, checked, located
 from .storecopy import Place, Progress, copy_bytes, copy_names, silent, told
 
@@ -23,8 +23,8 @@ class Source(NamedTuple):
     real: str
     """The path beside which its names are."""
     program: str
-    at_rest: Callable[[], ContextManager[None]]
-    """Within it no program writes the file."""
+    at_rest: Callable[[Callable[[], None]], None]
+    """Does something while no program writes the file."""
 
 
 def backup(path: Path, to: Path, program: Optional[str] = None, *, overwrite: bool = False, progress: Progress = silent) -> None:
@@ -50,22 +50,35 @@ def salvage(path: Path, to: Path, program: Optional[str] = None, *, overwrite: b
 def _closed(path: Path, program: Optional[str]) -> Source:
     file, real = located(path)
     check_file(real, file)
-    return Source(file, real, real, find_program(program), lambda: unchanged(real, file))
+
+    def at_rest(act: Callable[[], None]) -> None:
+        with unchanged(real, file):
+            act()
+
+    return Source(file, real, real, find_program(program), at_rest)
 
 
 def make_backup(source: Source, to: Path, overwrite: bool, progress: Progress) -> None:
     """Copies a file under its lock, checks the copy, and has it take its name."""
     target = located(to)[0]
     with told(target, "the backup can't be made"), Place(target, source.real, overwrite) as place:
-        with source.at_rest():
-            copy_bytes(source.served, place.store, progress)
-            copy_names(source.real, place)
+        _copy(source, place, place.store, progress)
         progress("checking the copy", 0, None)
         verdict = checked(source.program, place.store, source.file)
         if not verdict:
             raise errors.NotSound(f"the store's file is not sound, and no backup was made: {verdict}",
                                   "`check` says what to do; `salvage` makes a new store of what can be read.", file=source.file)
         place.take()
+
+
+def _copy(source: Source, place: Place, path: str, progress: Progress) -> None:
+    """Copies a file under its lock to a path, and its names into the place."""
+
+    def act() -> None:
+        copy_bytes(source.served, path, progress)
+        copy_names(source.real, place)
+
+    source.at_rest(act)
 
 
 def make_salvage(source: Source, to: Path, overwrite: bool, doubtful: bool, progress: Progress) -> Salvage:
@@ -76,9 +89,7 @@ def make_salvage(source: Source, to: Path, overwrite: bool, doubtful: bool, prog
     target = located(to)[0]
     with told(target, "the new store can't be made"), Place(target, source.real, overwrite) as place:
         copy = place.file("damaged.store")
-        with source.at_rest():
-            copy_bytes(source.served, copy, progress)
-            copy_names(source.real, place)
+        _copy(source, place, copy, progress)
         found = salvaged(copy, place, kit, doubtful, progress)
         place.take()
         return found

@@ -83,30 +83,33 @@ class Salvage(NamedTuple):
 # What is damaged
 
 class Damage:
-    """What is damaged in a store's file, found by a look at each of its blocks. The program opens the file."""
+    """What is damaged in a private copy of a store's file, which the program opens. `around` is a copy without damaged blocks."""
 
-    def __init__(self, path: str, told: Set[int], progress: Progress) -> None:
-        """Reads a private copy, of which the program called these blocks damaged. `around` is a copy without damaged blocks."""
+    def __init__(self, path: str) -> None:
+        """Nothing is found so far."""
         self.path = self.around = path
-        self.blocks = set(told)
+        self.blocks: Set[int] = set()
         self.gaps: List[Gap] = []
         self.doubt: Optional[Unsound] = None
-        self._progress = progress
         with open(path, "rb", 0) as file:
             self.head = fileform.read_head(file.fileno())
             self.manifest = fileform.read_manifest(file.fileno(), self.head)
-            done, arrays = 0, [(level, array) for level in self.manifest.levels for array in level.arrays]
-            total = sum(len(array.blocks) for _, array in arrays)
-            for level, array in arrays:
-                found = [self._read(file.fileno(), block, done + at, total) for at, block in enumerate(array.blocks)]
-                done += len(found)
-                self.gaps += losses.gaps_in(level, array, found)
-                self.doubt = self.doubt or broken(level, array, found)
 
-    def _read(self, file: int, number: int, done: int, total: int) -> Optional[Block]:
+    def search(self, told: Set[int], progress: Progress) -> None:
+        """Looks at each block of each array. These are damaged, since the program called them so."""
+        self.blocks, self.gaps, self.doubt = set(told), [], None
+        done, total = 0, sum(len(array.blocks) for level in self.manifest.levels for array in level.arrays)
+        with open(self.path, "rb", 0) as file:
+            for level in self.manifest.levels:
+                for array in level.arrays:
+                    progress("blocks read", done, total)
+                    found = [self._read(file.fileno(), block) for block in array.blocks]
+                    done += len(found)
+                    self.gaps += losses.gaps_in(level, array, found)
+                    self.doubt = self.doubt or broken(level, array, found)
+
+    def _read(self, file: int, number: int) -> Optional[Block]:
         """What a block of an array has; None where it is damaged."""
-        if done % 1024 == 0:
-            self._progress("blocks read", done, total)
         found = None if number in self.blocks else fileform.read_block(file, number)
         if found is None:
             self.blocks.add(number)
@@ -147,24 +150,22 @@ def look(path: str, folder: str, kit: Kit, progress: Progress) -> Damage:
 
     It raises `Unreadable` where the program can't open the file.
     """
-    verdict = _first_verdict(path, kit)
+    progress("checking the store", 0, None)
+    seen = _first_verdict(path, kit)
+    damage = Damage(path)
+    if not isinstance(seen, Damaged):
+        damage.doubt = seen if isinstance(seen, Unsound) else None
+        return damage
     told: Set[int] = set()
-    while True:
-        progress("looking at each block", 0, None)
-        damage = Damage(path, told, progress)
-        if damage.gaps:
-            damage.around = damage.reduced(os.path.join(folder, f"around{len(told)}.store"), lambda _: True)
-            seen = kit.check(damage.around)
-        else:
-            seen = verdict
-        if not isinstance(seen, Damaged):
-            break
+    while isinstance(seen, Damaged):
         if seen.block in told or not damage.has(seen.block):
             raise errors.Unreadable(UNREADABLE.format(seen.block), file=kit.file)
-        told.add(seen.block)  # it is damaged for the program alone
-    if isinstance(verdict, Unsound):
-        damage.doubt = verdict
-    elif damage.gaps and damage.doubt is None:
+        told.add(seen.block)
+        damage.search(told, progress)
+        damage.around = damage.reduced(os.path.join(folder, f"around{len(told)}.store"), lambda _: True)
+        progress("checking what is left", 0, None)
+        seen = kit.check(damage.around)
+    if damage.doubt is None:
         others = kit.check(damage.reduced(os.path.join(folder, "others.store"), lambda number: number not in damage.levels))
         damage.doubt = others if isinstance(others, Unsound) else None
     return damage

@@ -2,7 +2,6 @@
 
 from __future__ import annotations
 
-import contextlib
 import errno
 import os
 import signal
@@ -13,7 +12,7 @@ import weakref
 from collections import deque
 from functools import partial
 from types import TracebackType
-from typing import TYPE_CHECKING, Iterator, List, NoReturn, Optional, Tuple, Type, Union, cast
+from typing import TYPE_CHECKING, Callable, List, NoReturn, Optional, Tuple, Type, Union, cast
 from weakref import WeakSet
 
 from . import branches, errors, files, frames, hubsocket, outfile, storetext, verdict
@@ -315,14 +314,15 @@ class Store:
 
     # Copies
 
-    @contextlib.contextmanager
-    def _at_rest(self) -> Iterator[None]:
-        """Within it the program waits, so that nobody writes the file."""
-        with self._program.lock:
-            self._program.settle()
+    def _at_rest(self, act: Callable[[], None]) -> None:
+        """Does something while the program waits, so that nobody writes the file."""
+
+        def acted() -> None:
             if not self._lock.is_of(self._served):
                 raise errors.StoreMoved(file=self.path, command="copy")
-            yield
+            act()
+
+        self._program.wait(acted)
 
     def _source(self) -> "Source":
         from .rescue import Source  # which is made of this class
@@ -331,7 +331,7 @@ class Store:
     def backup(self, to: Path, *, overwrite: bool = False, progress: Progress = silent) -> None:
         """Copies the store's file and its names to another path, as they are at this call.
 
-        The program waits until the bytes are copied. The copy is checked and synced before it takes its name, so at `to` is a
+        The program waits until the bytes are copied, and a command of `progress` or of a signal handler raises `Busy`. The copy is checked and synced before it takes its name, so at `to` is a
         whole store or what was there. `NotSound` tells that the file is damaged, and `StoreExists` that there is a file at `to`
         already, unless `overwrite`. `progress` is called as the work goes on. `castle.backup` copies a store that nobody has open.
         """

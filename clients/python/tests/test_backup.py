@@ -13,7 +13,7 @@ from typing import Dict, List, Optional
 from unittest import mock
 
 from session import Session, carried_out
-from support import NOBODY, StoreCase, Threads, unprivileged
+from support import NOBODY, StoreCase, Threads, on_signal, unprivileged
 
 import castle
 from castle import Store, errors, progress
@@ -234,6 +234,26 @@ class BackupTest(BackupCase):
             self.expect_left()
         store.put(0, "a", "1")
         store.backup(self.to)
+
+    def test_a_command_amid_the_copy_is_refused(self) -> None:
+        store = self.filled()
+
+        def put() -> None:
+            with self.assertRaises(errors.Busy):
+                store.put(0, "amid", "1")
+            with self.assertRaises(errors.Busy), store.batch() as batch:
+                batch.put(0, "amid", "1")
+            with self.assertRaises(errors.Busy):
+                store.close()
+            came.append("put")
+
+        came: List[str] = []
+        on_signal(self, lambda *_: put())
+        store.backup(self.to, progress=lambda what, *_: signal.raise_signal(signal.SIGALRM) if what == "bytes copied" else None)
+        self.assertTrue(came)
+        store.put(0, "behind", "1")
+        self.assertEqual(self.bytes_of("to.store")[:4096], self.bytes_of("a.store")[:4096])
+        self.assertEqual(set(self.pairs(self.to)) & {b"amid", b"behind"}, set())
 
     def test_permissions_and_another_user(self) -> None:
         self.filled().close()
