@@ -11,7 +11,6 @@
 docs/CLIENT.md goes through all of it.
 """
 
-from .storetext import Counts
 from .batch import Batch
 from .branches import Snapshot
 from .errors import CastleError, Ended, Refused
@@ -23,10 +22,11 @@ from .rescue import backup, salvage
 from .salvaging import Lost, Salvage
 from .scan import Difference, Differences, Scan
 from .store import Store
+from .storetext import Counts
 from .verdict import Damaged, Sound, Unsound, Verdict
 from .view import VersionView
 
 __all__ = ["Array", "Batch", "CastleError", "Counts", "Damaged", "Difference", "Differences", "Ended", "Info", "Level", "Levels",
-           "Lost", "Merge", "Name", "Names", "Page", "Refused", "Salvage", "Scan", "Snapshot", "Sound", "Stat", "Store", "ThreeWay", "Unsound", "Verdict",
-           "VersionView", "backup", "salvage"]
+           "Lost", "Merge", "Name", "Names", "Page", "Refused", "Salvage", "Scan", "Snapshot", "Sound", "Stat", "Store", "ThreeWay",
+           "Unsound", "Verdict", "VersionView", "backup", "salvage"]
 __version__ = "0.1.0"

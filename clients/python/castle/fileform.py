@@ -25,6 +25,7 @@ EXTENT = struct.Struct(">II")
 RECORD_MAX = 1288  # bytes of a record of the journal
 
 Place = Tuple[bytes, int]  # a key and a version of an entry
+Entry = Tuple[bytes, int, Optional[bytes]]  # these with the value; None where the key has none
 
 
 class Head(NamedTuple):
@@ -147,11 +148,11 @@ def _bytes_at(file: int, place: int, size: int) -> bytes:
     return os.pread(file, size, place).ljust(size, b"\0")
 
 
-def read_block(file: int, number: int) -> Optional[Block]:
-    """What a block of an array has; None where no entries have these bytes."""
+def read_entries(file: int, number: int) -> Optional[List[Entry]]:
+    """The entries of a block of an array; None where no entries have these bytes."""
     data = _bytes_at(file, number * BLOCK, BLOCK)
     count = SIZE.unpack_from(data)[0]
-    at, places = 2 + 2 * count, []
+    at, entries = 2 + 2 * count, []
     if not count or at > BLOCK:
         return None
     for begin in struct.unpack_from(f">{count}H", data, 2):
@@ -161,14 +162,13 @@ def read_block(file: int, number: int) -> Optional[Block]:
         end = _entry_end(data, key_end + 4) if data[at] else None
         if end is None:
             return None
-        places.append((data[at + 1:key_end], NUMBER.unpack_from(data, key_end)[0]))
+        value = data[key_end + 7:end] if data[key_end + 4] else None
+        entries.append((data[at + 1:key_end], NUMBER.unpack_from(data, key_end)[0], value))
         at = end
-    orders = [(key, -version) for key, version in places]
+    orders = [(key, -version) for key, version, _ in entries]
     if data[at:].strip(b"\0") or any(one >= other for one, other in zip(orders, orders[1:])):
         return None
-    key = places[-1][0]
-    return Block(places[0], places[-1], tuple(version for _, version in places),
-                 tuple(version for name, version in places if name == key))
+    return entries
 
 
 def _entry_end(data: bytes, at: int) -> Optional[int]:
@@ -181,6 +181,13 @@ def _entry_end(data: bytes, at: int) -> Optional[int]:
         return None
     size: int = SIZE.unpack_from(data, at + 1)[0]
     return at + 3 + size if size <= VALUE_MAX and at + 3 + size <= BLOCK else None
+
+
+def block_of(entries: Sequence[Entry]) -> Block:
+    """What a block has of these entries."""
+    first, last = entries[0], entries[-1]
+    return Block(first[:2], last[:2], tuple(version for _, version, _ in entries),
+                 tuple(version for key, version, _ in entries if key == last[0]))
 
 
 # Writing

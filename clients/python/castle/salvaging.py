@@ -13,8 +13,8 @@ import os
 from contextlib import ExitStack
 from typing import TYPE_CHECKING, Callable, Dict, Iterator, List, NamedTuple, Optional, Sequence, Set, Tuple
 
-from . import errors, fileform, losses
-from .fileform import Array, Block, Level
+from . import agreement, errors, fileform, losses
+from .fileform import Array, Block, Entry, Level
 from .frames import Pair
 from .levels import listed
 from .losses import Gap, Range, Segment
@@ -30,6 +30,7 @@ Change = Tuple[bytes, Optional[bytes]]  # a key, and its value; None where it is
 
 CHANGES_MOST = 1 << 24  # the largest C
 WINDOW = 256  # changes that are sent at once
+COMPARED_MOST = 2_000_000  # entries of a level whose arrays are compared, at most
 
 UNREADABLE = "nothing can be read: block {}, which is of the superblock, the journal or the manifest, is damaged"
 
@@ -106,14 +107,27 @@ class Damage:
                     found = [self._read(file.fileno(), block) for block in array.blocks]
                     done += len(found)
                     self.gaps += losses.gaps_in(level, array, found)
-                    self.doubt = self.doubt or broken(level, array, found)
+                    if self.doubt is None:  # a verdict that is not sound is false
+                        self.doubt = broken(level, array, found)
+            for level in self.manifest.levels:
+                if level.number in self.levels and self.doubt is None:
+                    progress(f"comparing the arrays of level {level.number}", 0, None)
+                    self.doubt = agreement.broken(level, self._entries(file.fileno(), level), losses.Tree((None, *self.manifest.parents)))
 
     def _read(self, file: int, number: int) -> Optional[Block]:
         """What a block of an array has; None where it is damaged."""
-        found = None if number in self.blocks else fileform.read_block(file, number)
-        if found is None:
+        entries = None if number in self.blocks else fileform.read_entries(file, number)
+        if entries is None:
             self.blocks.add(number)
-        return found
+            return None
+        return fileform.block_of(entries)
+
+    def _entries(self, file: int, level: Level) -> List[List[Optional[List[Entry]]]]:
+        """The entries of each block of each array of a level; None for a damaged one. There are none where they are too many."""
+        if sum(array.entries for array in level.arrays) > COMPARED_MOST:
+            return []
+        return [[None if block in self.blocks else fileform.read_entries(file, block) for block in array.blocks]
+                for array in level.arrays]
 
     @property
     def levels(self) -> Set[int]:

@@ -269,6 +269,18 @@ class Shell:
     def _until_stopped(self, items: Iterable[Item]) -> Iterator[Item]:
         return self.interrupts.items(items)
 
+    def _told(self, items: Iterable[Item], what: str) -> Iterator[Item]:
+        """The same items, up to a Ctrl-C, where a terminal shows how many there were."""
+        line = Line()
+        tell = teller(self.interrupts, line)
+        try:
+            for number, item in enumerate(self._until_stopped(items)):
+                if number % 256 == 0:
+                    tell(what, number, None)
+                yield item
+        finally:
+            line.clear()
+
     def _save(self, word: Word, pieces: Iterable[str]) -> None:
         """Writes a file that the user named, whole or not at all."""
         outfile.write(word.path, pieces, self.store.path)
@@ -533,7 +545,7 @@ class Shell:
         if len(rest) < 2:
             self.out.writelines(lines)
         else:
-            self._save(rest[1], lines)
+            self._save(rest[1], self._told(lines, "lines written"))
 
     def _export(self, version: int, rest: List[Word]) -> None:
         """Writes a version's pairs as frames of puts."""
@@ -555,7 +567,7 @@ class Shell:
             raise Wrong(f"usage: {COMMANDS['dump'].usage}")
         lines = storetext.lines_of(self.store, os.path.basename(self.store.path))
         if rest:
-            self._save(rest[0], self._until_stopped(lines))
+            self._save(rest[0], self._told(lines, "lines written"))
         else:
             self.out.writelines(self._until_stopped(lines))
 
@@ -566,7 +578,7 @@ class Shell:
             deque(self._until_stopped(loading.check(lines)), 0)
             lines.seek(0)
             try:
-                deque(self._until_stopped(loading.load(lines)), 0)
+                self._load_told(loading, lines)
             except (CastleError, Stopped, KeyboardInterrupt) as error:
                 versions, _, changes = loading.counts
                 what = f"with {counted(versions, 'version')} and {counted(changes, 'change')} loaded"
@@ -575,6 +587,16 @@ class Shell:
                 error.command = f"{error.command}, {what}" if error.command else what
                 raise
         self.say(f"loaded {loading.counts}", **dict(zip(("versions", "names", "changes"), loading.counts)))
+
+    def _load_told(self, loading: storetext.Loading, lines: Iterable[str]) -> None:
+        """Loads a whole store, where a terminal shows how many changes were made."""
+        line = Line()
+        tell = teller(self.interrupts, line)
+        try:
+            for _ in self._until_stopped(loading.load(lines)):
+                tell("changes loaded", loading.counts.changes, None)
+        finally:
+            line.clear()
 
     def _refuse_version(self, command: str) -> None:
         """Fails for a version behind @ where a command is about the whole store."""

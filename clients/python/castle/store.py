@@ -331,9 +331,10 @@ class Store:
     def backup(self, to: Path, *, overwrite: bool = False, progress: Progress = silent) -> None:
         """Copies the store's file and its names to another path, as they are at this call.
 
-        The program waits until the bytes are copied, and a command of `progress` or of a signal handler raises `Busy`. The copy is checked and synced before it takes its name, so at `to` is a
-        whole store or what was there. `NotSound` tells that the file is damaged, and `StoreExists` that there is a file at `to`
-        already, unless `overwrite`. `progress` is called as the work goes on. `castle.backup` copies a store that nobody has open.
+        The program waits until the bytes are copied, and a command of `progress` or of a signal handler raises `Busy`. The
+        copy is checked and synced before it takes its name, so at `to` is a whole store or what was there. `NotSound` tells
+        that the file is damaged, and `StoreExists` that there is a file at `to` already, unless `overwrite`. `progress` is
+        called as the work goes on. `castle.backup` copies a store that nobody has open.
         """
         from .rescue import make_backup
         make_backup(self._source(), to, overwrite, progress)

@@ -2,11 +2,13 @@
 
 from __future__ import annotations
 
+import contextlib
 import errno
 import fcntl
 import io
 import os
 import signal
+import tempfile
 import threading
 import unittest
 from typing import Dict, List, Optional
@@ -16,8 +18,9 @@ from session import Session, carried_out
 from support import NOBODY, StoreCase, Threads, on_signal, unprivileged
 
 import castle
-from castle import Store, errors, progress
+from castle import Store, errors, keeping, progress
 from castle.progress import Line
+from castle.shell import COMMANDS, Shell
 
 BLOCK = 4096
 
@@ -337,6 +340,26 @@ class ProgressTest(unittest.TestCase):
         line.show(lambda: "half")
         line.clear()
         self.assertEqual(out.getvalue(), "")
+
+    def test_commands_tell_how_far_they_are(self) -> None:
+        with tempfile.TemporaryDirectory() as folder:
+            path, to = os.path.join(folder, "a.store"), os.path.join(folder, "b.store")
+            Store.format(path, 8, 1000, 10)
+            with Store(path) as store, store.batch() as batch:
+                batch.update(0, [(b"%d" % number, b"") for number in range(30)])
+            for words, told in ((["backup", to], ["bytes copied: [0-9,]+ of [0-9,]+", "checking the copy"]),
+                                (["salvage", to + "2"], ["checking the store", "versions made: 0 of 1|versions made", "checking the new store"])):
+                out = self.Terminal()
+                with mock.patch.object(Line, "EVERY", 0), contextlib.redirect_stderr(out), contextlib.redirect_stdout(io.StringIO()):
+                    self.assertEqual(keeping.alone(COMMANDS[words[0]], path, words, False), 0)
+                for what in told:
+                    self.assertRegex(out.getvalue(), rf"\r({what}) *\r")
+            out = self.Terminal()
+            with Store(path) as store, mock.patch.object(Line, "EVERY", 0), contextlib.redirect_stderr(out):
+                for line, what in (("dump 0", "lines written"), ("dump --all", "lines written"), ("dump --frames 0", "pairs written: 30")):
+                    out.truncate(0)
+                    Shell(store, io.StringIO()).run(f"{line} {to}3")
+                    self.assertIn(what, out.getvalue())
 
     def test_words(self) -> None:
         for wanted, words in (("bytes copied: 1,000 of 2,000", ("bytes copied", 1000, 2000)), ("checking the copy", ("checking the copy", 0, None)),

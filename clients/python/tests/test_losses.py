@@ -154,10 +154,11 @@ class FormTest(unittest.TestCase):
     def compared(self, file: int, block: bytes) -> bool:
         """Whether a block has entries, by both readers."""
         os.pwrite(file, block, 0)
-        found, entries = fileform.read_block(file, 0), formats.entries_in(block)
+        found, entries = fileform.read_entries(file, 0), formats.entries_in(block)
         self.assertEqual(found is None, entries is None)
         if found is not None:
-            self.assertEqual(found, GapTest.block_of([entry[:2] for entry in entries]))
+            self.assertEqual(found, [tuple(entry) for entry in entries])
+            self.assertEqual(fileform.block_of(found), GapTest.block_of([entry[:2] for entry in entries]))
         return found is not None
 
     def test_extents_without_blocks(self) -> None:

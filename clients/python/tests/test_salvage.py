@@ -9,7 +9,7 @@ import os
 import random
 import signal
 import unittest
-from typing import Any, Dict, Iterator, List, Optional, Tuple
+from typing import Any, Dict, List, Optional, Tuple
 from unittest import mock
 
 import damaged
@@ -161,6 +161,38 @@ class DamageTest(SalvageCase):
         data = damaged.damages.laid_out(strata, (0, 0), lies={2: {"leads": 1}})
         self.write(with_block(data, formats.read(data).manifest.levels[1].arrays[0].extents[0][0], b""))
         with self.assertRaisesRegex(errors.Doubtful, "level 1 array"):
+            castle.salvage(self.path, self.to)
+
+    def test_arrays_of_a_damaged_level_that_do_not_agree_are_in_doubt(self) -> None:
+        entry, part = formats.Entry, damaged.damages.Part
+        whole = part(1, (0,), [[entry(b"a", 0, b"1"), entry(b"b", 0, b"1")], [entry(b"y", 0, b"1")]])
+        own = [entry(key, 1, b"2") for key in (b"c", b"d", b"y", b"z")]
+        copy, changed = entry(b"a", 0, b"1"), entry(b"b", 1, b"2")
+        for copies, versions, rule in (([copy], (1,), ""), ([entry(b"a", 0, b"other")], (1,), "c"), ([entry(b"a", 0, None)], (1,), "c"),
+                                       ([], (1,), "c"), ([copy, entry(b"aa", 0, b"1")], (1,), "c"), ([copy], (2,), "b")):
+            entries = [*copies, changed, *own] if versions == (1,) else [entry(key, 2, b"2") for key in (b"a", b"b", b"y")]
+            parents = (0, 0) if versions == (2,) else (0,)
+            strata = [damaged.damages.Stratum(3, len(parents) + 1, [whole, part(2, versions, [entries])])]
+            data = damaged.damages.laid_out(strata, parents)
+            data = with_block(data, formats.first_free(4) + 1, b"")
+            with self.subTest(entries=entries):
+                if rule or versions == (2,):
+                    self.write(data)
+                    with self.assertRaisesRegex(errors.Doubtful, f"breaks rule {rule}: unsound {rule} level 3"):
+                        castle.salvage(self.path, self.to, overwrite=True)
+                else:
+                    self.assertEqual(self.salvaged(data).lost, (Lost(b"b\0", None, (0,), 0),))
+
+    def test_a_block_that_is_another_array_s_is_in_doubt(self) -> None:
+        entry, part = formats.Entry, damaged.damages.Part
+        strata = [damaged.damages.Stratum(3, 2, [part(1, (0,), [[entry(b"a", 0, b"1")], [entry(b"b", 0, b"1")]]),
+                                                 part(2, (1,), [[entry(b"c", 1, b"1"), entry(b"a", 0, b"1"), entry(b"b", 0, b"1")]])])]
+        strata[0].parts[1].blocks[0].sort(key=formats.order)
+        data = damaged.damages.laid_out(strata, (0,), lies={2: {"leads": 2}})
+        first = formats.first_free(4)
+        other = data[(first + 1) * BLOCK:(first + 2) * BLOCK]
+        self.write(with_block(with_block(data, first, b""), first + 2, other))
+        with self.assertRaisesRegex(errors.Doubtful, "breaks rule k: unsound k level 3 array 2"):
             castle.salvage(self.path, self.to)
 
     def test_a_child_that_alone_lost_what_it_has_of_its_parent_takes_more_changes(self) -> None:
