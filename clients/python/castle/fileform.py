@@ -16,6 +16,7 @@ BLOCK = 4096
 CHAINED = BLOCK - 4  # bytes of the manifest in a block of its chain
 SLOT = struct.Struct(">9sHQIIBIII")
 OPEN = b"\xa7STRATBT1"
+FORM = 1  # the format that is read here
 NUMBER = struct.Struct(">I")
 SIZE = struct.Struct(">H")
 MANIFEST_HEAD = struct.Struct(">IIQQI")
@@ -89,15 +90,18 @@ class Block(NamedTuple):
 # Reading
 
 def read_head(file: int) -> Head:
-    """The superblock that counts. A ValueError tells that there is none; its fields were looked at by a program."""
+    """The superblock that counts. A ValueError tells that there is none, or one of another format; the program has looked at it."""
     found = []
     for slot in (0, 1):
         text, form, generation, first, length, region, mem, changes, versions = SLOT.unpack(_bytes_at(file, slot * BLOCK, SLOT.size))
-        if text == OPEN and form == 1:
-            found.append(Head(slot, generation, first, length, region, mem, changes, versions))
+        if text == OPEN:
+            found.append((generation, -slot, form, Head(slot, generation, first, length, region, mem, changes, versions)))
     if not found:
         raise ValueError("no superblock counts")
-    return max(found, key=lambda head: (head.generation, -head.slot))
+    _, _, form, head = max(found)
+    if form != FORM:
+        raise ValueError(f"it has format {form}")
+    return head
 
 
 def read_manifest(file: int, head: Head) -> Manifest:

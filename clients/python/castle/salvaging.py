@@ -166,7 +166,11 @@ def look(path: str, folder: str, kit: Kit, progress: Progress) -> Damage:
     """
     progress("checking the store", 0, None)
     seen = _first_verdict(path, kit)
-    damage = Damage(path)
+    try:
+        damage = Damage(path)
+    except ValueError as error:
+        raise errors.WrongProtocol(f"the file can't be salvaged by this package: {error}", "It is of a later build than this package.",
+                                   file=kit.file) from None
     if not isinstance(seen, Damaged):
         damage.doubt = seen if isinstance(seen, Unsound) else None
         return damage

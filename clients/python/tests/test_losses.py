@@ -138,6 +138,13 @@ class FormTest(unittest.TestCase):
             self.assertEqual([tuple(level) for level in manifest.levels], [tuple(level) for level in contents.manifest.levels])
             self.assertEqual(fileform.manifest_bytes(manifest), formats.spelled(contents.manifest))
 
+    def test_another_format_is_told(self) -> None:
+        for data, what in ((formats.head_bytes(formats.new_head(4, 10, 10)._replace(form=2)), "it has format 2"), (bytes(8192), "no superblock")):
+            with tempfile.TemporaryFile() as file:
+                file.write(data)
+                file.flush()
+                self.assertRaisesRegex(ValueError, what, fileform.read_head, file.fileno())
+
     def test_blocks(self) -> None:
         chance, counts = random.Random(12), {True: 0, False: 0}
         with tempfile.TemporaryFile() as file:
