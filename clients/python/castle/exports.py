@@ -79,5 +79,5 @@ def _pair_of(frame: bytes, number: int, last: bytes, name: str) -> Pair:
     return dump.checked(key, rest[2:], number, name, "frame")
 
 
-def _refuse(number: int, what: str, name: str, remedy: str = "It is no whole export of this shell: `dump --frames` writes one.") -> NoReturn:
+def _refuse(number: int, what: str, name: str, remedy: str = "It is no whole export: `dump --frames` writes one.") -> NoReturn:
     raise DumpFault(f"frame {number} {what}", remedy, file=name)

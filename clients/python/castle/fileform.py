@@ -17,6 +17,7 @@ CHAINED = BLOCK - 4  # bytes of the manifest in a block of its chain
 SLOT = struct.Struct(">9sHQIIBIII")
 OPEN = b"\xa7STRATBT1"
 FORM = 1  # the format that is read here
+OFTEN = 1024  # blocks between two times that it is told how many are done
 NUMBER = struct.Struct(">I")
 SIZE = struct.Struct(">H")
 MANIFEST_HEAD = struct.Struct(">IIQQI")
@@ -239,15 +240,17 @@ def _pieces(manifest: Manifest) -> Iterator[bytes]:
             yield NUMBER.pack(len(array.versions)) + struct.pack(f">{len(array.versions)}I", *array.versions)
 
 
-def write_reduced(source: int, target: int, head: Head, manifest: Manifest) -> None:
+def write_reduced(source: int, target: int, head: Head, manifest: Manifest, tell: Callable[[int, int], None]) -> None:
     """Writes a store's file with another manifest, of which all blocks are the old file's: the superblock, the journal and these.
 
-    All else is a hole. The manifest lies behind them.
+    All else is a hole. The manifest lies behind them. It is told now and then how many blocks of how many are written.
     """
-    mine = [extent for level in manifest.levels for array in level.arrays for extent in array.extents]
-    for first, count in [(2, 2 * -(-(RECORD_MAX * head.mem + 1) // BLOCK)), *mine]:
-        for block in range(first, first + count):
-            _write(target, os.pread(source, BLOCK, block * BLOCK), block * BLOCK)
+    journal = range(2, 2 + 2 * -(-(RECORD_MAX * head.mem + 1) // BLOCK))
+    blocks = [*journal, *(block for level in manifest.levels for array in level.arrays for block in array.blocks)]
+    for number, block in enumerate(blocks):
+        if number % OFTEN == 0:
+            tell(number, len(blocks))
+        _write(target, os.pread(source, BLOCK, block * BLOCK), block * BLOCK)
     data = manifest_bytes(manifest)
     start, count = -(-max(os.fstat(target).st_size, os.fstat(source).st_size) // BLOCK), -(-len(data) // CHAINED)
     for number in range(count):

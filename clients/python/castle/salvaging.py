@@ -11,6 +11,7 @@ from __future__ import annotations
 import itertools
 import os
 from contextlib import ExitStack
+from functools import partial
 from typing import TYPE_CHECKING, Callable, Dict, Iterator, List, NamedTuple, Optional, Sequence, Set, Tuple
 
 from . import agreement, errors, fileform, losses
@@ -86,9 +87,10 @@ class Salvage(NamedTuple):
 class Damage:
     """What is damaged in a private copy of a store's file, which the program opens. `around` is a copy without damaged blocks."""
 
-    def __init__(self, path: str) -> None:
+    def __init__(self, path: str, progress: Progress) -> None:
         """Nothing is found so far."""
         self.path = self.around = path
+        self._progress = progress
         self.blocks: Set[int] = set()
         self.gaps: List[Gap] = []
         self.doubt: Optional[Unsound] = None
@@ -96,26 +98,27 @@ class Damage:
             self.head = fileform.read_head(file.fileno())
             self.manifest = fileform.read_manifest(file.fileno(), self.head)
 
-    def search(self, told: Set[int], progress: Progress) -> None:
+    def search(self, told: Set[int]) -> None:
         """Looks at each block of each array. These are damaged, since the program called them so."""
         self.blocks, self.gaps, self.doubt = set(told), [], None
         done, total = 0, sum(len(array.blocks) for level in self.manifest.levels for array in level.arrays)
         with open(self.path, "rb", 0) as file:
             for level in self.manifest.levels:
                 for array in level.arrays:
-                    progress("blocks read", done, total)
-                    found = [self._read(file.fileno(), block) for block in array.blocks]
+                    found = [self._read(file.fileno(), block, number, total) for number, block in enumerate(array.blocks, done)]
                     done += len(found)
                     self.gaps += losses.gaps_in(level, array, found)
                     if self.doubt is None:  # a verdict that is not sound is false
                         self.doubt = broken(level, array, found)
             for level in self.manifest.levels:
                 if level.number in self.levels and self.doubt is None:
-                    progress(f"comparing the arrays of level {level.number}", 0, None)
+                    self._progress(f"comparing the arrays of level {level.number}", 0, None)
                     self.doubt = agreement.broken(level, self._entries(file.fileno(), level), losses.Tree((None, *self.manifest.parents)))
 
-    def _read(self, file: int, number: int) -> Optional[Block]:
+    def _read(self, file: int, number: int, done: int, total: int) -> Optional[Block]:
         """What a block of an array has; None where it is damaged."""
+        if done % fileform.OFTEN == 0:
+            self._progress("blocks read", done, total)
         entries = None if number in self.blocks else fileform.read_entries(file, number)
         if entries is None:
             self.blocks.add(number)
@@ -142,7 +145,7 @@ class Damage:
         """Writes a store's file that has no damaged block, and of the levels those alone whose numbers are kept; gives its path."""
         left = fileform.reduced(self.manifest, self.blocks, keeps)
         with open(self.path, "rb", 0) as old, open(path, "xb", 0) as new:
-            fileform.write_reduced(old.fileno(), new.fileno(), self.head, left)
+            fileform.write_reduced(old.fileno(), new.fileno(), self.head, left, partial(self._progress, "blocks copied"))
         return path
 
 
@@ -167,7 +170,7 @@ def look(path: str, folder: str, kit: Kit, progress: Progress) -> Damage:
     progress("checking the store", 0, None)
     seen = _first_verdict(path, kit)
     try:
-        damage = Damage(path)
+        damage = Damage(path, progress)
     except ValueError as error:
         raise errors.WrongProtocol(f"the file can't be salvaged by this package: {error}", "It is of a later build than this package.",
                                    file=kit.file) from None
@@ -179,7 +182,7 @@ def look(path: str, folder: str, kit: Kit, progress: Progress) -> Damage:
         if seen.block in told or not damage.has(seen.block):
             raise errors.Unreadable(UNREADABLE.format(seen.block), file=kit.file)
         told.add(seen.block)
-        damage.search(told, progress)
+        damage.search(told)
         damage.around = damage.reduced(os.path.join(folder, f"around{len(told)}.store"), lambda _: True)
         progress("checking what is left", 0, None)
         seen = kit.check(damage.around)
@@ -328,7 +331,8 @@ def salvage(path: str, place: Place, kit: Kit, doubtful: bool, progress: Progres
     progress("checking the new store", 0, None)
     verdict = kit.check(place.store)
     if not verdict:
-        raise errors.NotSound(f"the new store is not sound: {verdict}", "This is a mistake of the program; nothing was made.", file=kit.file)
+        raise errors.NotSound(f"the new store is not sound: {verdict}", "This is a mistake of the program; nothing was made.",
+                              file=kit.file)
     lost = tuple(lost_of(views.plans, made.found))
     return Salvage(len(views.parents), made.changes, tuple(sorted(damage.blocks)), lost, damage.doubt)
 
