@@ -6,6 +6,7 @@ parent's own array has. That is the rule that a check calls c, and for versions 
 
 from __future__ import annotations
 
+import bisect
 from typing import Dict, Iterator, List, Optional, Sequence, Set, Tuple
 
 from .fileform import Array, Entry, Level
@@ -23,23 +24,32 @@ class Side:
         self.array = array
         self.tag = set(array.versions)
         self.entries: Dict[bytes, List[Found]] = {}
-        self._gaps: List[Tuple[bytes, Optional[bytes]]] = []  # the first and the last key of each, where None is the last of all
+        self._firsts: List[bytes] = []  # the first key of each gap, ascending
+        self._lasts: List[Optional[bytes]] = []  # and the last one; None is the last of all
         last, is_open = b"", False
         for block in blocks:
             if block is None:
                 is_open = True
                 continue
             if is_open:
-                self._gaps.append((last, block[0][0]))
+                self._add_gap(last, block[0][0])
             for key, version, value in block:
                 self.entries.setdefault(key, []).append((version, value))
             last, is_open = block[-1][0], False
         if is_open:
-            self._gaps.append((last, None))
+            self._add_gap(last, None)
+
+    def _add_gap(self, first: bytes, last: Optional[bytes]) -> None:
+        self._firsts.append(first)
+        self._lasts.append(last)
 
     def is_sure(self, key: bytes) -> bool:
         """Whether no entry of a key can be missing."""
-        return not any(first <= key and (last is None or key <= last) for first, last in self._gaps)
+        at = bisect.bisect_right(self._firsts, key) - 1
+        if at < 0:
+            return True
+        last = self._lasts[at]
+        return last is not None and last < key
 
     def live(self, key: bytes, version: int, tree: Tree) -> Optional[Found]:
         """What a version sees of a key: the entry of its nearest ancestor."""

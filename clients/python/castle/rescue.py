@@ -18,13 +18,11 @@ class Source(NamedTuple):
 
     file: str
     """What errors call it."""
-    served: str
-    """The path of its bytes."""
     real: str
-    """The path beside which its names are."""
+    """Its path, beside which its names are."""
     program: str
-    at_rest: Callable[[Callable[[], None]], None]
-    """Does something while no program writes the file."""
+    at_rest: Callable[[Callable[[int], None]], None]
+    """Does something with the open file while no program writes it."""
 
 
 def backup(path: Path, to: Path, program: Optional[str] = None, *, overwrite: bool = False, progress: Progress = silent) -> None:
@@ -51,11 +49,11 @@ def _closed(path: Path, program: Optional[str]) -> Source:
     file, real = located(path)
     check_file(real, file)
 
-    def at_rest(act: Callable[[], None]) -> None:
-        with unchanged(real, file):
-            act()
+    def at_rest(act: Callable[[int], None]) -> None:
+        with unchanged(real, file) as opened:
+            act(opened)
 
-    return Source(file, real, real, find_program(program), at_rest)
+    return Source(file, real, find_program(program), at_rest)
 
 
 def make_backup(source: Source, to: Path, overwrite: bool, progress: Progress) -> None:
@@ -74,8 +72,8 @@ def make_backup(source: Source, to: Path, overwrite: bool, progress: Progress) -
 def _copy(source: Source, place: Place, path: str, progress: Progress) -> None:
     """Copies a file under its lock to a path, and its names into the place."""
 
-    def act() -> None:
-        copy_bytes(source.served, path, progress)
+    def act(opened: int) -> None:
+        copy_bytes(opened, path, progress)
         copy_names(source.real, place)
 
     source.at_rest(act)

@@ -314,19 +314,19 @@ class Store:
 
     # Copies
 
-    def _at_rest(self, act: Callable[[], None]) -> None:
-        """Does something while the program waits, so that nobody writes the file."""
+    def _at_rest(self, act: Callable[[int], None]) -> None:
+        """Does something with the open file while the program waits, so that nobody writes it."""
 
         def acted() -> None:
             if not self._lock.is_of(self._served):
                 raise errors.StoreMoved(file=self.path, command="copy")
-            act()
+            act(self._lock.itself)
 
         self._program.wait(acted)
 
     def _source(self) -> "Source":
         from .rescue import Source  # which is made of this class
-        return Source(self.path, self._served, self._real, self._found, self._at_rest)
+        return Source(self.path, self._real, self._found, self._at_rest)
 
     def backup(self, to: Path, *, overwrite: bool = False, progress: Progress = silent) -> None:
         """Copies the store's file and its names to another path, as they are at this call.

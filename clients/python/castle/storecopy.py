@@ -8,7 +8,7 @@ import os
 import secrets
 import shutil
 import stat
-from typing import Callable, Iterator, Optional, Tuple
+from typing import Callable, Iterator, Optional, Tuple, Union
 
 from . import errors
 from .files import keep_permissions, seen, sync_folder
@@ -27,9 +27,9 @@ def silent(what: str, done: int, total: Optional[int]) -> None:
 
 # Bytes
 
-def copy_bytes(source: str, target: str, progress: Progress = silent) -> None:
-    """Copies a file for good into a new one, which only its owner may use. Holes stay holes."""
-    with open(source, "rb", 0) as old, open(target, "xb", 0, opener=_private) as new:
+def copy_bytes(source: Union[str, int], target: str, progress: Progress = silent) -> None:
+    """Copies a file, given by its path or open, for good into a new one, which only its owner may use. Holes stay holes."""
+    with open(source, "rb", 0, closefd=isinstance(source, str)) as old, open(target, "xb", 0, opener=_private) as new:
         for done, total in _pieces(old.fileno(), new.fileno()):
             progress("bytes copied", done, total)
         os.fsync(new.fileno())

@@ -101,6 +101,27 @@ class BackupTest(BackupCase):
         self.assertTrue(refused)
         self.opened().put(0, "a", "1")
 
+    def test_a_file_that_takes_the_place_of_the_store_amid_the_copy_is_not_copied(self) -> None:
+        store = self.filled()
+        data, number = self.bytes_of("a.store"), os.lseek
+
+        def replaced(descriptor: int, place: int, how: int) -> int:
+            if os.path.exists(self.path + "2"):
+                os.replace(self.path + "2", self.path)
+            return number(descriptor, place, how)
+
+        for run in (store.backup, lambda to: castle.backup(self.path, to)):
+            self.written("a.store2", "another")
+            with mock.patch.object(os, "lseek", replaced):
+                run(self.to)
+            self.assertEqual(self.bytes_of("to.store"), data)
+            self.assertEqual(self.bytes_of("a.store"), b"another")
+            store.close()
+            for name in ("to.store", "to.store.names"):
+                os.remove(os.path.join(self.folder, name))
+            with open(self.path, "wb") as file:
+                file.write(data)
+
     def test_what_is_there_stays_unless_it_is_to_be_overwritten(self) -> None:
         store = self.filled()
         for name in ("to.store", "to.store.names"):

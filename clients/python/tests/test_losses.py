@@ -12,11 +12,11 @@ from typing import Dict, List, Optional, Tuple
 import damaged
 from damaged import BLOCK, formats
 
-from castle import fileform, losses
-from castle.fileform import Array, Block, Level
+from castle import Unsound, agreement, fileform, losses
+from castle.fileform import Array, Block, Entry, Level
 from castle.losses import WHOLE, Range, Segment, Tree, key_behind, lost_by, segments
 
-Entry = Tuple[bytes, int]
+Place = Tuple[bytes, int]
 
 
 class RangeTest(unittest.TestCase):
@@ -62,7 +62,7 @@ class RangeTest(unittest.TestCase):
 class GapTest(unittest.TestCase):
     """Arrays of random entries that lose blocks: what changes at a version lies in a range that is told, and ranges are close."""
 
-    def drawn(self, chance: random.Random) -> Tuple[List[Optional[int]], List[List[Entry]]]:
+    def drawn(self, chance: random.Random) -> Tuple[List[Optional[int]], List[List[Place]]]:
         """The parents of versions, and the entries of blocks."""
         parents: List[Optional[int]] = [None, *(chance.randrange(version) for version in range(1, chance.randrange(2, 9)))]
         places = {(b"%d" % chance.randrange(6), chance.randrange(len(parents))) for _ in range(chance.randrange(1, 30))}
@@ -71,13 +71,13 @@ class GapTest(unittest.TestCase):
         return parents, [entries[at:at + size] for at in range(0, len(entries), size)]
 
     @staticmethod
-    def block_of(entries: List[Entry]) -> Block:
+    def block_of(entries: List[Place]) -> Block:
         last = entries[-1][0]
         return Block(entries[0], entries[-1], tuple(version for _, version in entries),
                      tuple(version for key, version in entries if key == last))
 
     @staticmethod
-    def live(tree: Tree, reader: int, blocks: List[List[Entry]]) -> Dict[bytes, int]:
+    def live(tree: Tree, reader: int, blocks: List[List[Place]]) -> Dict[bytes, int]:
         """For each key the version of the entry that the reader sees."""
         found: Dict[bytes, int] = {}
         for key, version in (entry for block in blocks for entry in block):
@@ -120,6 +120,52 @@ class GapTest(unittest.TestCase):
             if first + 1 < len(seen) and seen[first + 1] is None:
                 return True
         return False
+
+
+class AgreementTest(unittest.TestCase):
+    """Arrays of a level agree where the level is sound, whichever of their blocks are damaged; a copy that is another is seen."""
+
+    def arrays(self, chance: random.Random) -> Tuple[Level, Tree, List[List[List[Entry]]]]:
+        """A sound level, and the entries of the blocks of its arrays."""
+        store = chance.choice(self.stores)
+        contents = formats.read(store.data)
+        level = chance.choice(contents.manifest.levels)
+        blocks = [[[tuple(entry) for entry in formats.entries_in(formats.block_at(store.data, number))] for number in formats.blocks_of(array)]
+                  for array in level.arrays]
+        return Level(*level), Tree((None, *contents.manifest.parents)), blocks
+
+    def setUp(self) -> None:
+        self.stores = damaged.stores(14)
+
+    def test_a_sound_level_agrees_whatever_is_damaged(self) -> None:
+        chance = random.Random(15)
+        for _ in range(150):
+            level, tree, blocks = self.arrays(chance)
+            seen = [[block if chance.random() < 0.8 else None for block in part] for part in blocks]
+            self.assertIsNone(agreement.broken(level, seen, tree))
+            self.assertIsNone(agreement.broken(level, blocks, tree))
+
+    def test_a_copy_with_another_value_is_seen_where_no_block_is_damaged(self) -> None:
+        chance, found = random.Random(16), 0
+        for _ in range(300):
+            level, tree, blocks = self.arrays(chance)
+            at = chance.randrange(len(blocks))
+            block = chance.choice(blocks[at])
+            place = chance.randrange(len(block))
+            key, version, value = block[place]
+            if version in level.arrays[at].versions:
+                continue
+            block[place] = key, version, (value or b"") + b"x"
+            entries = [entry for part in blocks[at] for entry in part]
+            sees = any(self.live(entries, key, reader, tree) == version for reader in level.arrays[at].versions)
+            self.assertEqual(agreement.broken(level, blocks, tree), Unsound("c", level.number, level.arrays[at].id) if sees else None)
+            found += sees
+        self.assertGreater(found, 10)
+
+    @staticmethod
+    def live(entries: List[Entry], key: bytes, reader: int, tree: Tree) -> Optional[int]:
+        """The version of the entry that a version sees."""
+        return max((version for name, version, _ in entries if name == key and tree.sees(reader, version)), default=None)
 
 
 class FormTest(unittest.TestCase):
