@@ -3,7 +3,7 @@
 from __future__ import annotations
 
 from itertools import islice
-from typing import BinaryIO, Iterable, Iterator, NoReturn
+from typing import BinaryIO, Iterable, Iterator, List, NoReturn
 
 from . import dump, frames
 from .errors import DumpFault
@@ -42,7 +42,8 @@ def pairs_of(pieces: Iterable[bytes], name: str) -> Iterator[Pair]:
     data, number, last = b"", 0, b""
     for piece in pieces:
         data += piece
-        at, found = 0, []
+        found: List[Pair] = []
+        at = 0
         while len(data) - at >= 4:
             end = at + 4 + int.from_bytes(data[at:at + 4], "big")
             if end - at > 4 + frames.BODY_MAX:

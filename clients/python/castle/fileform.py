@@ -107,13 +107,13 @@ def read_head(file: int) -> Head:
 
 def read_manifest(file: int, head: Head) -> Manifest:
     """The manifest that a superblock leads to. A ValueError tells that these are bytes of none."""
-    data, block = b"", head.first
-    while len(data) < head.length:
+    pieces, block = [], head.first
+    for _ in range(0, head.length, CHAINED):
         piece = _bytes_at(file, block * BLOCK, BLOCK)
-        data += piece[4:]
+        pieces.append(piece[4:])
         block = NUMBER.unpack_from(piece)[0]
     try:
-        return _manifest_of(data[:head.length])
+        return _manifest_of(b"".join(pieces)[:head.length])
     except struct.error:
         raise ValueError("the manifest ends amid a field") from None
 
@@ -123,7 +123,8 @@ def _manifest_of(data: bytes) -> Manifest:
     at = MANIFEST_HEAD.size
     parents = struct.unpack_from(f">{count - 1}I", data, at)
     at += 4 * len(parents)
-    levels, at = [], at + 1
+    levels: List[Level] = []
+    at += 1
     for _ in range(data[at - 1]):
         number, horizon, arrays = LEVEL_HEAD.unpack_from(data, at)
         at += LEVEL_HEAD.size
@@ -157,7 +158,8 @@ def read_entries(file: int, number: int) -> Optional[List[Entry]]:
     """The entries of a block of an array; None where no entries have these bytes."""
     data = _bytes_at(file, number * BLOCK, BLOCK)
     count = SIZE.unpack_from(data)[0]
-    at, entries = 2 + 2 * count, []
+    entries: List[Entry] = []
+    at = 2 + 2 * count
     if not count or at > BLOCK:
         return None
     for begin in struct.unpack_from(f">{count}H", data, 2):
