@@ -259,6 +259,13 @@ impl Store {
         self.spent
     }
 
+    /// How many changes it accepted in its life, those that are staged among them: the number of the next one. O(1).
+    pub fn changes(&self) -> u32
+        ensures ok { result ≡ self.now.memory.changes }
+    {
+        self.held.memory.counts().0
+    }
+
     /// Whether the store keeps a filter of an array of its levels. It keeps one of each array that it made since it was opened,
     /// if there was memory for it, and of no other. O(arrays of the levels).
     pub fn has_filter(&self, id: u64) -> bool
