@@ -30,8 +30,8 @@ use Rattle.strat_serve.specs.World.{World}
 
 -- a serving run so far, where the disk exposes a content that shows a table: these bodies were answered so by the table, and
 -- the store stands where that leads
-pub record RunSoFar (speech : Speech) (start current : Held) (before now : DiskView) (f : Image) (t : Table)
-    (bodies : List (List ℕ)) (answers : List Said) : Type 0 where
+pub record RunSoFar (speech : Speech) (start current : Held) (before now : DiskView) (f : Image)
+    (t : Table) (bodies : List (List ℕ)) (answers : List Said) : Type 0 where
   pub from : Position
   pub begins : Begins f start.log.mem from
   pub table : from.table ≡ t
@@ -48,8 +48,8 @@ pub record RunSoFar (speech : Speech) (start current : Held) (before now : DiskV
       (tables_before exchanges ++ table_of (contents_state contents) ∷ []) (length exchanges)
 
 -- a serving run so far: all whole frames in front of the bytes held were answered, the replies sent, and the changes kept
-pub record ServesSoFar (speech : Speech) (start current : Held) (count : ℕ) (held : List ℕ) (before now : World)
-    : Type 0 where
+pub record ServesSoFar (speech : Speech) (start current : Held) (count : ℕ) (held : List ℕ)
+    (before now : World) : Type 0 where
   pub taken : List ℕ
   pub counted : length taken ≡ count
   pub took : Took before.left now.left taken
@@ -82,8 +82,8 @@ abbrev pub sent_also : World → List ℕ → World
 sent_also now bytes = record now { held = with_sent now.held bytes }
 
 -- a serving run so far whose last replies are pending: it is in progress as if the sink held these, too
-pub record ServesPending (speech : Speech) (start current : Held) (count : ℕ) (held : List ℕ) (replies : Pending)
-    (before now : World) : Type 0 where
+pub record ServesPending (speech : Speech) (start current : Held) (count : ℕ) (held : List ℕ)
+    (replies : Pending) (before now : World) : Type 0 where
   pub so_far : ServesSoFar speech start current count held before (sent_also now replies.bytes)
   pub pending :
       ArePending replies so_far.taken so_far.bodies so_far.answers before.held now.held

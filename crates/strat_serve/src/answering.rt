@@ -109,7 +109,8 @@ pub(crate) fn serve_alone<P: Protocol, K: Sink, D: Disk>(
         (waiting next.Frame buffers.old.frames) buffers.old.pending
         (beside x (D.view d)) (world y.left y.source_faults (K.held sink.old) (K.faults sink.old)
         (D.view disk.old) (D.faults disk.old))
-        → TurnsTo P.speech result start store.new count budget buffers.new.frames buffers.new.pending
+        → TurnsTo P.speech result start store.new count budget
+        buffers.new.frames buffers.new.pending
         (beside x (D.view d)) (world y.left y.source_faults (K.held sink.new) (K.faults sink.new)
         (D.view disk.new) (D.faults disk.new)) }
     ensures kept { TurnGoesOn result store.new buffers.old.frames buffers.new.frames }

@@ -56,7 +56,8 @@ pub trait Protocol {
 
     /// Writes what is sent for a change at whose batch the device failed, whatever it asked for.
     fn tell_fault(&self, changes: u32, tag: u32, pairs: &mut PairBuf, out: &mut OutBuf)
-        ensures ok { (r : Request) → out.new ≡ speech.tells changes tag r (refusal why.DeviceFault) }
+        ensures ok { (r : Request)
+            → out.new ≡ speech.tells changes tag r (refusal why.DeviceFault) }
         ensures len { length out.new ≤ 328460 };
 
     /// Writes what is sent for a frame that is too long, whose body was not read. It may be nothing.
