@@ -28,11 +28,11 @@ IsReply said = said.sent ≡ response_bytes (response_of said)
 
 text_is : (changes : ℕ) (body : List ℕ) (said : Said) → IsDeclined replies changes body said ⊎ IsSaidFor replies changes body said → IsReply said
 text_is changes body said (inl declined) = declined.declines.text
-text_is changes body said (inr for) = for.asked.text
+text_is changes body said (inr asker) = asker.asked.text
 
 responds : (changes : ℕ) (body : List ℕ) (said : Said) → IsDeclined replies changes body said ⊎ IsSaidFor replies changes body said → RespondsTo body (response_of said)
 responds changes body said (inl declined) = inl declined.declines.refused
-responds changes body said (inr for) = inr (record { request = for.request; spelled = for.asked.asks; reached = for.reached; short = for.short; few = for.few })
+responds changes body said (inr asker) = inr (record { request = asker.request; spelled = asker.asked.asks; reached = asker.reached; short = asker.short; few = asker.few })
 
 -- to each body one response
 answered_by : (bodies : List (List ℕ)) (said : List Said) → AreSaidTo replies bodies said → AreAnsweredBy bodies (map response_of said)

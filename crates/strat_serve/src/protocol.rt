@@ -6,7 +6,6 @@ ghost use Rattle.strat_model.specs.Command.{request_of};
 ghost use Rattle.strat_model.specs.Request.{Request};
 ghost use Rattle.strat_model.specs.Spelling.{has_lawful_sizes};
 ghost use Rattle.strat_model.specs.declared.replies.Refusal.TheVariants as why;
-ghost use Rattle.strat_model.specs.declared.replies.Reply.TheVariants as reply;
 ghost use Rattle.strat_serve.specs.Grouping.{TellsMade};
 ghost use Rattle.strat_serve.specs.Speech.{Said, Speech, IsDeclined};
 
@@ -47,7 +46,7 @@ pub trait Protocol {
         out: &mut OutBuf,
     )
         requires none { out.old ≡ [] }
-        requires found { reply.now ≡ reply.Found → length pairs.now ≡ 1 }
+        requires found { reply.now ≡ Reply.Found → length pairs.now ≡ 1 }
         requires fits { has_lawful_sizes (request_of command.now) ≡ true }
         ensures ok { out.new ≡ speech.tells changes tag (request_of command.now)
             (as_told reply.now pairs.now) }

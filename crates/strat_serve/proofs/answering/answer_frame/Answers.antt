@@ -16,7 +16,7 @@ returns-clause-ok g c =
     let request : Request = request_of c.in-Some.command in
     let told : Said = record { tag = c.in-Some.tag; answer = as_told c.apply-reply.result c.apply-reply.new.out; sent = c.tell.new.out } in
     let asked : IsAskedFor speech c.args.store.now.memory.changes c.args.body.now request told =
-    subst (λ (n : ℕ). IsAskedFor speech n c.args.body.now request told) c.changes.ensures.ok (record { asks = c.in-Some.ensures.ok; text = c.tell.ensures.ok }) in
+    subst (λ (n : ℕ). IsAskedFor speech n c.args.body.now request told) c.changes-changes.ensures.ok (record { asks = c.in-Some.ensures.ok; text = c.tell.ensures.ok }) in
     answered speech (g.D.Disk.view c.args.disk.now) (g.D.Disk.view c.apply-reply.new.disk) c.args.store.now c.apply-reply.new.self c.args.body.now c.in-Some.tag c.tell.new.out request c.apply-reply.result c.apply-reply.new.out
     asked c.requires.kept c.fault.result c.fault.ensures
     (record { request = request; asked = asked; found = c.apply-reply.ensures.found; same = c.apply-reply.ensures.same.1; err = c.apply-reply.ensures.cause.1; leaves = c.apply-reply.ensures.same.2; cursors = c.apply-reply.ensures.same.3; few = c.apply-reply.ensures.len.0 })
@@ -27,7 +27,7 @@ returns-in_default-clause-ok g c =
     let speech = g.P.Protocol.speech in
     let none = c.in_default.ensures.none in
     told_nothing speech (g.D.Disk.view c.args.disk.now) c.args.store.now c.args.body.now none.0 c.ask.new.out c.requires.fits c.requires.kept
-    (subst (λ (n : ℕ). IsDeclined speech n c.args.body.now none.0) c.changes.ensures.ok none.1) none.2
+    (subst (λ (n : ℕ). IsDeclined speech n c.args.body.now none.0) c.changes-changes.ensures.ok none.1) none.2
 
 pub returns-clause-damaged : goal.returns-clause-damaged
 returns-clause-damaged g c =

@@ -86,6 +86,11 @@ make_room-requires g c =
     let before = (goal.at.make_room-requires g c).After-stage_frames-met in
     record { len = (many g before (batch g before) c.staged-many.result (c.staged-many.ensures.ok c.stage_frames-met.ensures.state)).1 }
 
+pub refuse_batch-requires-clause-len : goal.refuse_batch-requires-clause-len
+refuse_batch-requires-clause-len g c =
+    let before = (goal.at.refuse_batch-requires-clause-len g c).After-stage_frames-met in
+    omega (arith, (many g before (batch g before) c.staged-many.result (c.staged-many.ensures.ok c.stage_frames-met.ensures.state)).0, c.in-Ok.ensures.len)
+
 -- the replies that were pending could not be sent
 pub returns-in_default-clause-ok : goal.returns-in_default-clause-ok
 returns-in_default-clause-ok g c = λ start count budget x y d within p.

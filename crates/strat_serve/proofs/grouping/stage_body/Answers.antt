@@ -44,11 +44,11 @@ staged g c told =
 made : (g : Over) (c : After-last_reply-reply g) → TellsMade c.last_reply-reply.result
 made g c = reply_made c.stage.new.self (length c.stage.new.self.log.batch - 1) c.last_reply-reply.result c.last_reply-reply.ensures.found
 
-pub last_reply-requires-clause-fits : goal.last_reply-requires-clause-fits
-last_reply-requires-clause-fits g c = (staged g (goal.at.last_reply-requires-clause-fits g c).After-stage c.if-stage.true).spent
+pub last_reply-reply-requires-clause-fits : goal.last_reply-reply-requires-clause-fits
+last_reply-reply-requires-clause-fits g c = (staged g (goal.at.last_reply-reply-requires-clause-fits g c).After-stage c.if-stage.true).spent
 
-pub last_reply-requires-clause-found : goal.last_reply-requires-clause-found
-last_reply-requires-clause-found g c = omega (arith, (staged g (goal.at.last_reply-requires-clause-found g c).After-stage c.if-stage.true).more)
+pub last_reply-reply-requires-clause-found : goal.last_reply-reply-requires-clause-found
+last_reply-reply-requires-clause-found g c = omega (arith, (staged g (goal.at.last_reply-reply-requires-clause-found g c).After-stage c.if-stage.true).more)
 
 pub tell-requires-clause-found : goal.tell-requires-clause-found
 tell-requires-clause-found g c = λ found. absurd (made_no_pair c.last_reply-reply.result (made g (goal.at.tell-requires-clause-found g c).After-last_reply-reply) found)
@@ -65,13 +65,13 @@ returns-then-stage-clause-ok g c =
     let index : length c.stage.new.self.log.batch - 1 ≡ length c.args.store.now.log.batch = omega (arith, s.more) in
     let request : Request = request_of c.in-Some.command in
     let said : Said = record { tag = c.in-Some.tag; answer = plain c.last_reply-reply.result; sent = c.tell.new.out } in
-    let text : c.tell.new.out ≡ speech.tells c.changes.result c.in-Some.tag request (plain c.last_reply-reply.result) =
-    c.tell.ensures.ok ∙ ap (λ (p : Pairs). speech.tells c.changes.result c.in-Some.tag request (as_told c.last_reply-reply.result p)) c.clear.ensures.ok in (
+    let text : c.tell.new.out ≡ speech.tells c.changes-changes.result c.in-Some.tag request (plain c.last_reply-reply.result) =
+    c.tell.ensures.ok ∙ ap (λ (p : Pairs). speech.tells c.changes-changes.result c.in-Some.tag request (as_told c.last_reply-reply.result p)) c.clear.ensures.ok in (
       said,
       refl,
       record {
         request = request;
-        asked = subst (λ (n : ℕ). IsAskedFor speech n c.args.body.now request said) c.changes.ensures.ok (record { asks = c.in-Some.ensures.ok; text = text });
+        asked = subst (λ (n : ℕ). IsAskedFor speech n c.args.body.now request said) c.changes-changes.ensures.ok (record { asks = c.in-Some.ensures.ok; text = text });
         change = s.change;
         wanted = s.wanted;
         may = s.may;

@@ -4,6 +4,7 @@ use Rattle.std.proofs.lemmas.List.Concat.{flat_map-append}
 use Rattle.strat_model.specs.Stream.{frame}
 use Rattle.strat_serve.specs.Grouping.{StagesBody}
 use Rattle.strat_serve.proofs.ProgressLemmas.{each_more}
+use Rattle.strat_serve.proofs.SendLemmas.{frame_shrinks}
 use Rattle.strat_serve.proofs.SessionLemmas.{whole_taken}
 use Rattle.strat_serve.proofs.StagedLemmas.{stages_more}
 use Rattle.strat_serve.proofs.TurnLemmas.{some_of}
@@ -29,7 +30,7 @@ loop-store-preserved g c =
     let body : List ℕ = c.next.new.self.body in
     let some : is_some c.stage_body-staged.result ≡ true = c.is_none.ensures ∙ ap not c.if-is_none.false in
     let one = some_of c.stage_body-staged.result some c.stage_body-staged.ensures.ok in
-    let response : Response = one.1.0 in
+    let response : Said = one.1.0 in
     let stages : StagesBody g.P.Protocol.speech c.loop-store.store body response c.stage_body-staged.new.store = subst (λ (b : List ℕ). StagesBody g.P.Protocol.speech c.loop-store.store b response c.stage_body-staged.new.store) c.body.ensures one.1.2 in
     record {
       bodies = so_far.bodies ++ body ∷ [];
@@ -45,3 +46,6 @@ loop-store-preserved g c =
       same = so_far.same;
       going = c.stage_body-staged.ensures.state;
     }
+
+pub loop-store-smaller : goal.loop-store-smaller
+loop-store-smaller g c = frame_shrinks c.loop-store.buffers.frames.held c.next.new.self.body c.next.new.self.held c.in-Frame.ensures.ok.0
