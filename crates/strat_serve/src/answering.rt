@@ -18,7 +18,7 @@ ghost use Rattle.strat_model.specs.declared.ended.Ended.TheVariants as ended;
 ghost use Rattle.strat_memory.specs.Held.{Held, IsConsistent, arrays_held};
 ghost use Rattle.strat_model.specs.Stream.{IsBody};
 
-use crate::pending::{PendingReplies, end_run, make_room};
+use crate::pending::{PendingReplies, StagedReplies, end_run, make_room};
 use crate::protocol::Protocol;
 use std::alloc::Global;
 use strat_base::{Fault, NoMemory, PairBuf};
@@ -28,12 +28,14 @@ use strat_io::Sink;
 use strat_model::Ended;
 use strat_store::Store;
 
-/// What a serving run keeps beside its store: the bytes that came in, room for an answer, and the replies that are pending.
+/// What a serving run keeps beside its store: the bytes that came in, room for an answer, the replies to staged changes, and
+/// those that are pending.
 #[derive(Drop)]
 pub struct Buffers {
     pub frames: Deframer,
     pub pairs: PairBuf,
     pub out: OutBuf,
+    pub staged: StagedReplies,
     pub pending: PendingReplies,
 }
 
@@ -46,11 +48,13 @@ impl Buffers {
         let frames = Deframer::new(alloc)?;
         let pairs = PairBuf::new(alloc)?;
         let out = OutBuf::new(alloc)?;
+        let staged = StagedReplies::new(alloc)?;
         let pending = PendingReplies::new(alloc)?;
         Ok(Buffers {
             frames,
             pairs,
             out,
+            staged,
             pending,
         })
     }

@@ -18,9 +18,8 @@ ghost use Rattle.strat_serve.specs.World.{Streams, beside, world};
 ghost use Rattle.strat_store.specs.Staging.{replies_staged};
 
 use crate::answering::{Buffers, serve_alone};
-use crate::pending::{end_run, make_room};
+use crate::pending::{StagedReplies, end_run, make_room};
 use crate::protocol::Protocol;
-use arrayvec::ArrayVec;
 use strat_base::PairBuf;
 use strat_disk::Disk;
 use strat_frame::{Next, OutBuf};
@@ -28,18 +27,6 @@ use strat_io::Sink;
 use strat_model::{Ended, Reply};
 use strat_store::Store;
 use strat_store::staging_laws::staging_follows_the_table;
-
-/// Bytes of what is sent for a batch: sixteen replies of 1,295 each, as long as the frame of the largest change.
-const REPLIES_MAX: usize = 20_720;
-
-/// Adds bytes to the replies that wait.
-fn keep_bytes(kept: &mut ArrayVec<u8, REPLIES_MAX>, bytes: &[u8])
-    requires { length kept.old.items + length bytes.now ≤ 20720 }
-    ensures ok { kept.new.items ≡ kept.old.items ++ bytes.now }
-    ensures len { length kept.new.items ≡ length kept.old.items + length bytes.now }
-{
-    kept.try_extend_from_slice(bytes).unwrap();
-}
 
 /// What is told of the change that was staged last.
 fn last_reply(store: &Store) -> Reply
@@ -59,16 +46,16 @@ fn stage_body<P: Protocol>(
     body: &[u8],
     pairs: &mut PairBuf,
     out: &mut OutBuf,
-    kept: &mut ArrayVec<u8, REPLIES_MAX>,
+    kept: &mut StagedReplies,
 ) -> Option<u32>
     requires fits { store.old.spent ≡ false }
-    requires room { length kept.old.items ≤ 1295 * length store.old.log.batch }
+    requires room { length kept.old ≤ 1295 * length store.old.log.batch }
     ensures ok { IfSome result (λ tag. (said : Said) × (said.tag ≡ tag)
         × StagesBody P.speech store.old body.now said store.new
-        × (kept.new.items ≡ kept.old.items ++ said.sent)) }
+        × (kept.new ≡ kept.old ++ said.sent)) }
     ensures none { IfNone result ((store.new ≡ store.old)
-        × (kept.new.items ≡ kept.old.items)) }
-    ensures room { length kept.new.items ≤ 1295 * length store.new.log.batch }
+        × (kept.new ≡ kept.old)) }
+    ensures room { length kept.new ≤ 1295 * length store.new.log.batch }
     ensures state { store.new.spent ≡ false }
 {
     let changes = store.changes();
@@ -80,7 +67,7 @@ fn stage_body<P: Protocol>(
         pairs.clear();
         out.clear();
         protocol.tell(changes, tag, &command, &reply, pairs, out);
-        keep_bytes(kept, out.bytes());
+        kept.keep(out.bytes());
         return Some(tag);
     }
     None
@@ -88,18 +75,13 @@ fn stage_body<P: Protocol>(
 
 /// Stages the changes of the frames that are held, one after the other. Answers what ended that: a body that is not
 /// staged, the end of what is held, or a frame that is too long.
-fn stage_frames<P: Protocol>(
-    protocol: &P,
-    store: &mut Store,
-    buffers: &mut Buffers,
-    kept: &mut ArrayVec<u8, REPLIES_MAX>,
-) -> Next
+fn stage_frames<P: Protocol>(protocol: &P, store: &mut Store, buffers: &mut Buffers) -> Next
     requires fits { store.old.spent ≡ false }
-    requires room { length kept.old.items ≤ 1295 * length store.old.log.batch }
+    requires room { length buffers.old.staged ≤ 1295 * length store.old.log.batch }
     ensures ok { GathersBatch P.speech store.old store.new buffers.old.frames buffers.new.frames
-        result kept.old.items kept.new.items }
+        result buffers.old.staged buffers.new.staged }
     ensures fits { AreBytes buffers.new.frames.held }
-    ensures room { length kept.new.items ≤ 1295 * length store.new.log.batch }
+    ensures room { length buffers.new.staged ≤ 1295 * length store.new.log.batch }
     ensures same { buffers.new.pending ≡ buffers.old.pending }
     ensures state { store.new.spent ≡ false }
 {
@@ -112,7 +94,7 @@ fn stage_frames<P: Protocol>(
                     buffers.frames.body(),
                     &mut buffers.pairs,
                     &mut buffers.out,
-                    kept,
+                    &mut buffers.staged,
                 );
                 if staged.is_none() {
                     return Next::Frame;
@@ -179,7 +161,7 @@ fn serve_group<P: Protocol, K: Sink, D: Disk>(
         (world y.left y.source_faults (K.held sink.new) (K.faults sink.new)
         (D.view disk.new) (D.faults disk.new))) }
 {
-    let mut kept = ArrayVec::new();
+    buffers.staged.clear();
     let before = store.changes();
     let first = stage_body(
         protocol,
@@ -187,9 +169,9 @@ fn serve_group<P: Protocol, K: Sink, D: Disk>(
         buffers.frames.body(),
         &mut buffers.pairs,
         &mut buffers.out,
-        &mut kept,
+        &mut buffers.staged,
     )?;
-    let met = stage_frames(protocol, store, buffers, &mut kept);
+    let met = stage_frames(protocol, store, buffers);
     let many = store.staged();
     let Ok(()) = make_room(sink, &mut buffers.pending, many) else {
         return Some(Err(Ended::Sink));
@@ -198,7 +180,7 @@ fn serve_group<P: Protocol, K: Sink, D: Disk>(
     if store.commit(disk).is_err() {
         return Some(Err(refuse_batch(protocol, sink, before, first, buffers)));
     }
-    buffers.pending.keep(kept.as_slice(), many);
+    buffers.pending.keep(buffers.staged.bytes(), many);
     Some(Ok(met))
 }
 

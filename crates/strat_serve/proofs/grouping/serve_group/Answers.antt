@@ -42,7 +42,7 @@ record Batch (g : Over) (c : After-stage_frames-met g) : Type 0 where
   each : AllByRecursion IsBody (c.args.buffers.now.frames.body ∷ others)
   behind : c.args.buffers.now.frames.held ≡ flat_map frame others ++ waiting c.stage_frames-met.result c.stage_frames-met.new.buffers.frames
   meets : Meets c.stage_frames-met.result c.stage_frames-met.new.buffers.frames
-  text : c.stage_frames-met.new.kept.items ≡ said_bytes (response ∷ more)
+  text : c.stage_frames-met.new.buffers.staged ≡ said_bytes (response ∷ more)
 
 batch : (g : Over) (c : After-stage_frames-met g) → Batch g c
 batch g c =
@@ -57,7 +57,7 @@ batch g c =
       each = (c.requires.len, others.each);
       behind = others.parts;
       meets = others.meets;
-      text = others.text ∙ ap (λ (x : List ℕ). x ++ said_bytes others.responses) (one.3 ∙ ap (λ (x : List ℕ). x ++ one.0.sent) c.new-kept.ensures);
+      text = others.text ∙ ap (λ (x : List ℕ). x ++ said_bytes others.responses) (one.3 ∙ ap (λ (x : List ℕ). x ++ one.0.sent) c.clear.ensures);
     }
 
 front : (g : Over) (c : After-stage_frames-met g) (b : Batch g c)
@@ -130,7 +130,7 @@ returns-clause-ok g c = λ start count budget x y d within p.
     (beside x (g.D.Disk.view d)) mid now q made (front g at.After-stage_frames-met b) refl
     (omega (arith, count_is, c.in-Ok.ensures.len)) in
     let pending : c.keep.new.self ≡ record { bytes = c.make_room.new.pending.bytes ++ said_bytes (b.response ∷ b.more); count = c.make_room.new.pending.count + length (b.response ∷ b.more) } =
-    c.keep.ensures.ok ∙ (λ i. record { bytes = c.make_room.new.pending.bytes ++ (c.as_slice.ensures.value ∙ b.text) i; count = c.make_room.new.pending.count + sym count_is i }) in
+    c.keep.ensures.ok ∙ (λ i. record { bytes = c.make_room.new.pending.bytes ++ (c.bytes.ensures ∙ b.text) i; count = c.make_room.new.pending.count + sym count_is i }) in
     subst (λ (k : Pending). ServesPending g.P.Protocol.speech start c.commit.new.self count rest k (beside x (g.D.Disk.view d)) (shown g y c.make_room.new.sink c.commit.new.disk)) (sym pending) r
 
 pub returns-clause-kept : goal.returns-clause-kept

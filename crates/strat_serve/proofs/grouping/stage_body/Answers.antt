@@ -53,9 +53,9 @@ last_reply-reply-requires-clause-found g c = omega (arith, (staged g (goal.at.la
 pub tell-requires-clause-found : goal.tell-requires-clause-found
 tell-requires-clause-found g c = λ found. absurd (made_no_pair c.last_reply-reply.result (made g (goal.at.tell-requires-clause-found g c).After-last_reply-reply) found)
 
-pub keep_bytes-requires : goal.keep_bytes-requires
-keep_bytes-requires g c =
-    let at = goal.at.keep_bytes-requires g c in
+pub keep-requires : goal.keep-requires
+keep-requires g c =
+    let at = goal.at.keep-requires g c in
     omega (arith, (staged g at.After-stage c.if-stage.true).place, c.requires.room, c.tell.ensures.room (made g at.After-last_reply-reply) c.clear.ensures.ok, ap length c.bytes.ensures)
 
 pub returns-then-stage-clause-ok : goal.returns-then-stage-clause-ok
@@ -82,7 +82,7 @@ returns-then-stage-clause-ok g c =
         kept = subst (λ (n : ℕ). slice_get (replies_staged c.stage.new.self) n ≡ Some c.last_reply-reply.result) index c.last_reply-reply.ensures.found;
         answer = refl;
       },
-      c.keep_bytes.ensures.ok ∙ ap (λ (x : List ℕ). c.args.kept.now.items ++ x) c.bytes.ensures,
+      c.keep.ensures.ok ∙ ap (λ (x : List ℕ). c.args.kept.now ++ x) c.bytes.ensures,
     )
 
 pub returns-then-stage-clause-room : goal.returns-then-stage-clause-room
@@ -91,7 +91,7 @@ returns-then-stage-clause-room g c =
     omega (
       arith,
       (staged g at.After-stage c.if-stage.true).more,
-      c.keep_bytes.ensures.len,
+      c.keep.ensures.len,
       c.requires.room,
       c.tell.ensures.room (made g at.After-last_reply-reply) c.clear.ensures.ok,
       ap length c.bytes.ensures,

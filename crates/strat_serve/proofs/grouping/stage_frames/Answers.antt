@@ -18,7 +18,7 @@ loop-store-init g c = record {
   stages = refl;
   each = tt;
   parts = refl;
-  text = sym (append-nil c.args.kept.now.items);
+  text = sym (append-nil c.args.buffers.now.staged);
   room = c.requires.room;
   same = refl;
   going = c.requires.fits;
@@ -39,8 +39,8 @@ loop-store-preserved g c =
       each = each_more so_far.bodies body so_far.each c.in-Frame.ensures.ok.1;
       parts = whole_taken c.args.buffers.now.frames.held c.loop-store.buffers.frames.held c.next.new.self.held so_far.bodies (body ∷ []) so_far.parts
           (c.in-Frame.ensures.ok.0 ∙ ap (λ (x : List ℕ). x ++ c.next.new.self.held) (sym (append-nil (frame body))));
-      text = one.1.3 ∙ ap (λ (x : List ℕ). x ++ response.sent) so_far.text ∙ append_assoc c.args.kept.now.items (said_bytes so_far.responses) (response.sent)
-          ∙ ap (λ (x : List ℕ). c.args.kept.now.items ++ x)
+      text = one.1.3 ∙ ap (λ (x : List ℕ). x ++ response.sent) so_far.text ∙ append_assoc c.args.buffers.now.staged (said_bytes so_far.responses) (response.sent)
+          ∙ ap (λ (x : List ℕ). c.args.buffers.now.staged ++ x)
           (sym (flat_map-append (λ (r : Said). r.sent) so_far.responses (response ∷ []) ∙ ap (λ (x : List ℕ). said_bytes so_far.responses ++ x) (append-nil (response.sent))));
       room = c.stage_body-staged.ensures.room;
       same = so_far.same;

@@ -13,8 +13,8 @@ invariant-loop-store g l = record {
   stages : StagesBodies g.P.Protocol.speech l.fn.store bodies responses l.store;
   each : AllByRecursion IsBody bodies;
   parts : l.fn.buffers.frames.held ≡ flat_map frame bodies ++ l.buffers.frames.held;
-  text : l.kept.items ≡ l.fn.kept.items ++ said_bytes responses;
-  room : length l.kept.items ≤ 1295 * length l.store.log.batch;
+  text : l.buffers.staged ≡ l.fn.buffers.staged ++ said_bytes responses;
+  room : length l.buffers.staged ≤ 1295 * length l.store.log.batch;
   same : l.buffers.pending ≡ l.fn.buffers.pending;
   going : l.store.spent ≡ false;
 }
