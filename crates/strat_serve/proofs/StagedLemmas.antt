@@ -98,6 +98,13 @@ place_where s r may =
     let both = and_parts (ltb (length s.log.batch) 16) (ltb (length s.log.list + length s.log.batch) s.log.mem) place.0 in
     (ltb-true _ _ both.0, ltb-true _ _ both.1)
 
+-- each change that memory takes counts
+counts_on : (m : Memory) (c : Change) → is_none (refusal_of_change m c) ≡ true → (memory_after m c).changes ≡ m.changes + 1
+counts_on m (Put version key value) taken = refl
+counts_on m (Delete version key) taken = refl
+counts_on m (Clone version) taken = refl
+counts_on m (DropVersion version) taken = absurd (true≢false (sym taken))
+
 -- a change that a store says it staged
 pub staged_by : (old new : Held) (r : Request) → may_stage old r ≡ true → ((c : Change) → change_wanted r ≡ Some c → new ≡ with_staged old c)
     → (c : Change) × (change_wanted r ≡ Some c) × (new ≡ with_staged old c)
@@ -172,6 +179,12 @@ module _ (speech : Speech) where
     one_writes calm =
         let wrote : may_write response.answer.reply ≡ true = ap (λ (a : Answer). may_write a.reply) one.answer ∙ made_writes one.told told_made in
         true≢false (sym wrote ∙ calm old.memory.changes one.request one.asked.asks asks.change)
+
+    pub one_counts : new.memory.changes ≡ old.memory.changes + 1
+    one_counts =
+        let takes : (has_place old.log && is_none (refusal_of_change old.memory one.change)) ≡ true = sym (ap (takes_staged old) one.wanted) ∙ one.may in
+        ap (λ (s : Held). s.memory.changes) one.after
+        ∙ counts_on old.memory one.change (and_parts (has_place old.log) (is_none (refusal_of_change old.memory one.change)) takes).1
 
     pub one_staged : length new.log.batch ≡ length old.log.batch + 1
     one_staged = ap (λ (s : Held). length s.log.batch) one.after ∙ length-append old.log.batch (one.change ∷ [])
