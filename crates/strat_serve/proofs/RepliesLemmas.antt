@@ -1,5 +1,5 @@
 -- What is said by the protocol of commands and replies is what responses are, and a run of it is one of commands and replies.
-use Rattle.std.proofs.Common.{◌≡◌, ◌≤◌, ◌+◌, ℕ, zero, suc, eqb, Bool, List, [], ◌∷◌, ◌++◌, length, take, map, Option, Some, None, refl, sym, ap, subst, ◌∙◌, ◌⊎◌, inl, inr, arith}
+use Rattle.std.proofs.Common.{◌≡◌, ◌+◌, ℕ, zero, suc, eqb, Bool, List, [], ◌∷◌, ◌++◌, length, take, map, Option, Some, None, refl, sym, ap, subst, ◌∙◌, ◌⊎◌, inl, inr, arith}
 use Rattle.std.specs.Prelude.{IfSome, IsSome, option_map}
 use Rattle.std.specs.List.{AllByRecursion}
 use Rattle.std.proofs.lemmas.List.{length-map, map-append}
@@ -7,7 +7,7 @@ use Rattle.strat_io.specs.Streams.{Appends}
 use Rattle.strat_model.specs.Answer.{Answer, refusal}
 use Rattle.strat_model.specs.Batch.{AsksForChange, Continuation, IsBatch, IsChangeMade}
 use Rattle.strat_model.specs.Faults.{fault_told}
-use Rattle.strat_model.specs.Run.{Answers, AnswersFault, Exchange, Interruption, IsRun, IsTranscript, Position, Response, Transcript, response_bytes, sent_bytes}
+use Rattle.strat_model.specs.Run.{Answers, AnswersFault, Exchange, Interruption, IsRun, IsTranscript, Position, Response, response_bytes, sent_bytes}
 use Rattle.strat_model.specs.Spelling.{Spells}
 use Rattle.strat_model.specs.Stream.{is_too_long}
 use Rattle.strat_model.specs.Table.{Table}
@@ -18,8 +18,8 @@ use Rattle.def_crash.specs.Image.{Image}
 use Rattle.def_crash.specs.Moments.{DiskView}
 use Rattle.strat_serve.specs.Replying.{replies}
 use Rattle.strat_serve.specs.Session.{AreAnsweredBy, AreCalm, FollowsRun, IsSession, RespondsTo, RunOutcome, Sends, SendsAllBut, Served, WaitsForNone, all_responses, last_output, listed_response, output}
-use Rattle.strat_serve.specs.Speech.{IsDeclined, IsSpokenBatch, IsSpokenChange, IsSpokenRun, Said, Says, SaysFault, SpokenContinuation, response_of, said_bytes}
-use Rattle.strat_serve.specs.Spoken.{AreSaidCalmly, AreSaidTo, FollowsSpokenRun, IsSaidFor, IsSitting, SaysTo, SendsAllButLast, SendsSaid, ServedBy, Sitting, SpokenOutcome, all_said, last_said, listed_said, output_of, session_of}
+use Rattle.strat_serve.specs.Speech.{IsDeclined, IsSpokenBatch, IsSpokenChange, IsSpokenRun, Said, Says, SaysFault, response_of, said_bytes}
+use Rattle.strat_serve.specs.Spoken.{AreSaidCalmly, AreSaidTo, FollowsSpokenRun, IsSaidFor, IsSitting, SendsAllButLast, SendsSaid, ServedBy, Sitting, SpokenOutcome, all_said, last_said, listed_said, output_of, session_of}
 use Rattle.strat_serve.specs.World.{World}
 
 -- the bytes of what was said are those of the response

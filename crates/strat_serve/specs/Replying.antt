@@ -1,9 +1,7 @@
 -- The protocol of commands and replies.
 use Rattle.std.specs.Prelude.{◌≡◌, ℕ, List}
-use Rattle.strat_model.specs.declared.replies.Refusal.{Refusal}
-use Rattle.strat_model.specs.Answer.{refusal}
 use Rattle.strat_model.specs.Run.{response_bytes}
-use Rattle.strat_model.specs.Spelling.{Spells, IsRefusedAs, reply_body}
+use Rattle.strat_model.specs.Spelling.{Spells, reply_body}
 use Rattle.strat_model.specs.Stream.{frame}
 use Rattle.strat_serve.specs.Session.{IsRefusedFor, too_long_bytes}
 use Rattle.strat_serve.specs.Speech.{Said, Speech, response_of}

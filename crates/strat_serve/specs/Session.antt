@@ -8,8 +8,7 @@ use Rattle.strat_base.specs.declared.failures.Fault.TheVariants as fault
 use Rattle.def_crash.specs.Blocks.{AgreeOn}
 use Rattle.def_crash.specs.Faults.{Rose}
 use Rattle.def_crash.specs.Image.{Image}
-use Rattle.def_crash.specs.Moments.{DiskView, Exposes, Images, OnlyReads, Passes}
-use Rattle.def_crash.specs.Trail.{Trail}
+use Rattle.def_crash.specs.Moments.{DiskView, Exposes, Images, Passes}
 use Rattle.def_bytes.specs.Chained.{Chained, manifest_at}
 use Rattle.def_bytes.specs.SuperBlock.{Super, newest_in}
 use Rattle.strat_io.specs.Streams.{Appends}
@@ -23,22 +22,18 @@ use Rattle.strat_model.specs.Answer.{refusal}
 use Rattle.strat_model.specs.Request.{Request}
 use Rattle.strat_model.specs.Spelling.{Spells, IsRefusedAs, reply_body}
 use Rattle.strat_model.specs.Stream.{frame, Splits, Whole, Rest, Long, ending_of, is_partial, is_too_long}
-use Rattle.strat_model.specs.Table.{Cursor, Table, bare}
+use Rattle.strat_model.specs.Table.{Table}
 use Rattle.strat_model.specs.Batch.{Continuation, tables_continued}
-use Rattle.strat_model.specs.Run.{is_change, reaches_disk, takes_memory, Position, Response, Exchange, response_bytes, Answers, AnswersFault, Transcript, IsTranscript, UsesOneRegion, bodies_of, sent_bytes}
+use Rattle.strat_model.specs.Run.{is_change, reaches_disk, takes_memory, Position, Response, Exchange, Transcript, IsTranscript, UsesOneRegion, bodies_of, sent_bytes}
 use Rattle.strat_promote.specs.Job.{blocks_listed}
 use Rattle.def_recovery.specs.Head.{Head, descriptors}
 use Rattle.def_recovery.specs.Opening.{recover}
-use Rattle.def_meaning.specs.StateTable.{table_of}
-use Rattle.def_publish.specs.Contents.{Contents, contents_state}
 use Rattle.def_publish.specs.Standing.{ShowsTable}
 use Rattle.strat_publish.specs.Outcomes.{IsDamagedIn}
-use Rattle.strat_store.specs.Applying.{IsUntouched, TellsTroubleOf, is_fault, may_write}
-use Rattle.strat_store.specs.Cursoring.{LeavesCursors}
+use Rattle.strat_store.specs.Applying.{is_fault, may_write}
 use Rattle.strat_open.specs.Following.{ChangesGateAlone, FollowsFrom, IsOpenedAs, IsUnchanged, LeavesOpening}
-use Rattle.strat_memory.specs.Held.{Held, IsConsistent, IsOnDisk, StandsAt, arrays_held, head_held, position_at}
-use Rattle.strat_store.specs.Ranging.{HasPairsFor, TellsFrom}
-use Rattle.strat_publish.specs.Settling.{LeavesPublished, carries_out}
+use Rattle.strat_memory.specs.Held.{Held, IsConsistent, IsOnDisk, arrays_held, head_held}
+use Rattle.strat_store.specs.Ranging.{HasPairsFor}
 use Rattle.strat_serve.specs.World.{World}
 
 -- these bytes were taken from the front of a source

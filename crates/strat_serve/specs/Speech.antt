@@ -1,12 +1,12 @@
 -- How a run treats the bodies of frames, whatever the protocol, and runs of a table that treat them so.
-use Rattle.std.specs.Prelude.{◌≡◌, ◌≤◌, ◌⊎◌, ℕ, Bool, true, List, [], ◌∷◌, length, map, Option, None, Some, IfSome}
+use Rattle.std.specs.Prelude.{◌≡◌, ◌≤◌, ◌⊎◌, ℕ, true, List, [], ◌∷◌, length, Option, None, Some, IfSome}
 use Rattle.std.specs.List.{flat_map, AllByRecursion}
 use Rattle.strat_model.specs.declared.replies.Refusal.TheVariants as why
 use Rattle.strat_model.specs.Answer.{Answer, refusal, accepts}
 use Rattle.strat_model.specs.Batch.{IsDeviceFault}
 use Rattle.strat_model.specs.Faults.{fault_told}
 use Rattle.strat_model.specs.Request.{Request}
-use Rattle.strat_model.specs.Run.{Exchange, Interruption, IsAfter, IsFault, Position, Response, Transcript, is_carried_out, is_change, reaches_disk, takes_memory}
+use Rattle.strat_model.specs.Run.{Exchange, IsAfter, IsFault, Position, Response, Transcript, is_carried_out, is_change, reaches_disk, takes_memory}
 use Rattle.strat_model.specs.Step.{step}
 
 -- what was said to a body: the answer, under a tag, and the bytes that are sent for it

@@ -1,6 +1,6 @@
 //! The serving run.
 
-ghost use Rattle.std.specs.Prelude.{◌≡◌, ◌≢◌, ◌<◌, ◌≤◌, ◌+◌, length, take, [], IfOk, IfSome, IfNone, OnOk, OnErr, false};
+ghost use Rattle.std.specs.Prelude.{◌≡◌, ◌≢◌, ◌<◌, ◌≤◌, ◌+◌, length, take, [], IfOk, IfSome, IfNone, OnErr, false};
 ghost use Rattle.def_crash.specs.Faults.{CountsFaults};
 ghost use Rattle.def_crash.specs.Moments.{Passes};
 ghost use Rattle.strat_memory.specs.Held.{IsConsistent};

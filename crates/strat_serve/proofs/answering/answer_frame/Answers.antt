@@ -1,4 +1,4 @@
-use Rattle.std.proofs.Common.{◌≡◌, ◌∙◌, ◌≤◌, List, ℕ, [], length, ap, sym, subst, arith}
+use Rattle.std.proofs.Common.{◌≡◌, ◌∙◌, ℕ, sym, subst}
 use Rattle.strat_model.specs.declared.replies.Refusal.TheVariants as why
 use Rattle.strat_model.specs.declared.replies.Reply.{Reply}
 use Rattle.strat_model.specs.declared.replies.Reply.TheVariants as reply
@@ -7,7 +7,6 @@ use Rattle.strat_model.specs.Answer.{as_told}
 use Rattle.strat_model.specs.Request.{Request}
 use Rattle.strat_serve.specs.Speech.{IsAskedFor, IsDeclined, Said}
 use Rattle.strat_serve.proofs.AnswerLemmas.{answered, fails_as_met, told_nothing, told_damaged}
-use Rattle.strat_serve.proofs.answering.answer_frame.Given.{Over}
 use Rattle.strat_serve.proofs.answering.answer_frame.Goals as goal
 
 pub returns-clause-ok : goal.returns-clause-ok

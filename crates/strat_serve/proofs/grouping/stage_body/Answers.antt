@@ -1,4 +1,4 @@
-use Rattle.std.proofs.Common.{◌≡◌, ◌<◌, ◌≤◌, ◌++◌, List, ◌+◌, ◌-◌, ℕ, [], ◌∷◌, length, true, false, refl, sym, ap, subst, ◌∙◌, length-append, arith}
+use Rattle.std.proofs.Common.{◌≡◌, ◌<◌, ◌++◌, List, ◌+◌, ◌-◌, ℕ, [], ◌∷◌, length, true, false, refl, sym, ap, subst, ◌∙◌, length-append, arith}
 use Rattle.std.specs.Prelude.{slice_get, Some}
 use Rattle.strat_base.specs.Change.{Change}
 use Rattle.strat_model.specs.Answer.{as_told, plain}

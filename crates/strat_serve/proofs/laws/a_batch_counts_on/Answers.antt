@@ -1,4 +1,3 @@
-use Rattle.std.proofs.Common.{subst}
 use Rattle.strat_serve.proofs.SaidLemmas.{counts_one}
 use Rattle.strat_serve.proofs.laws.a_batch_counts_on.Goals as goal
 

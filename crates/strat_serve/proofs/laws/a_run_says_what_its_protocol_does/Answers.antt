@@ -1,4 +1,3 @@
-use Rattle.std.proofs.Common.{inl, inr}
 use Rattle.strat_serve.proofs.SaidLemmas.{said_so}
 use Rattle.strat_serve.proofs.laws.a_run_says_what_its_protocol_does.Goals as goal
 
