@@ -255,6 +255,13 @@ impl Store {
         self.spent
     }
 
+    /// How many changes it accepted in its life, those that are staged among them: the number of the next one. O(1).
+    pub fn changes(&self) -> u32
+        ensures ok { result ≡ self.now.memory.changes }
+    {
+        self.held.memory.counts().0
+    }
+
     /// Whether the store keeps a filter of an array of its levels. One that was opened has none; its checkpoints make them, as
     /// far as there is memory. O(arrays of the levels).
     pub fn has_filter(&self, id: u64) -> bool
