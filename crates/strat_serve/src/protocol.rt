@@ -13,14 +13,14 @@ use strat_base::PairBuf;
 use strat_frame::OutBuf;
 use strat_model::{Command, Reply};
 
-/// What bodies ask of a store, and what is sent for them. Each call is given how many changes the store accepted before it.
-/// None reaches the store, which the run calls itself, so that changes of any protocol become durable together.
+/// What bodies ask of a store, and what is sent for them. Each call is given how many changes the store accepted before. The
+/// run calls the store itself, so that changes of any protocol become durable together. Only `tell` gets `out` empty.
 pub trait Protocol {
     /// What it may say.
     ghost speech: { Speech };
 
     /// The command that a body asks for, and the tag of its answer. `None` if it asks for nothing. Then what is sent is in
-    /// `out`.
+    /// `out`. A run may ask this of one body more than once.
     fn ask<'a>(
         &self,
         changes: u32,
@@ -35,7 +35,7 @@ pub trait Protocol {
         ensures len { length out.new ≤ 328460 };
 
     /// Writes what is sent for the reply to a command. That to a change that was made is short: sixteen of these wait for
-    /// their batch.
+    /// their batch. They are written before the batch is durable, and sent after it.
     fn tell(
         &self,
         changes: u32,
