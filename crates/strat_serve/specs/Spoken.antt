@@ -19,7 +19,7 @@ use Rattle.strat_model.specs.Request.{Request}
 use Rattle.strat_model.specs.Stream.{Splits, is_too_long}
 use Rattle.strat_model.specs.Table.{Cursor, Table, bare}
 use Rattle.strat_model.specs.Batch.{tables_continued}
-use Rattle.strat_model.specs.Run.{is_change, reaches_disk, takes_memory, Position, Transcript, UsesOneRegion, bodies_of}
+use Rattle.strat_model.specs.Run.{is_change, reaches_disk, takes_memory, Exchange, Position, Transcript, UsesOneRegion, bodies_of}
 use Rattle.def_recovery.specs.Head.{Head}
 use Rattle.def_recovery.specs.Opening.{recover}
 use Rattle.def_meaning.specs.StateTable.{table_of}
@@ -221,6 +221,20 @@ pub record FollowsSpokenRun (speech : Speech) (before now : DiskView) (f : Image
   pub next : AreNextIn s.bodies transcript continued.more
   pub follows : FollowsFrom before now f (tables_continued transcript continued.end)
       (length transcript.exchanges)
+
+-- this is what a protocol says to a body at so many changes: that it asks for nothing, or the bytes for the answer to what it
+-- asks for
+abbrev pub IsSaidAt : Speech → ℕ → List ℕ → Said → Type 0
+IsSaidAt speech changes body said = speech.Declines changes body said
+    ⊎ ((request : Request) × speech.Asks changes body said.tag request
+    × (said.sent ≡ speech.tells changes said.tag request said.answer))
+
+-- so it is with each body of a run, at the changes of its table there
+abbrev pub AreSaidAt : Speech → List Exchange → List Said → Type 0
+AreSaidAt speech [] [] = Unit {0}
+AreSaidAt speech (x ∷ xs) (said ∷ more) =
+    IsSaidAt speech x.at.table.changes x.body said × AreSaidAt speech xs more
+AreSaidAt speech _ _ = ⊥
 
 -- a run of this protocol was served over the store that it opened, and ended so
 pub record ServedBy (speech : Speech) (budget : ℕ) (how : Ended) (before now : World)

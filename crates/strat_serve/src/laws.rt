@@ -21,7 +21,7 @@ ghost use Rattle.strat_model.specs.Answer.{refusal};
 ghost use Rattle.strat_model.specs.Ended.{status_of};
 ghost use Rattle.strat_model.specs.Request.{Request};
 ghost use Rattle.strat_model.specs.Batch.{tables_continued};
-ghost use Rattle.strat_model.specs.Run.{Position, Response, Transcript, bodies_of, positions_of, reaches_disk, takes_memory};
+ghost use Rattle.strat_model.specs.Run.{Interruption, Position, Response, Transcript, bodies_of, positions_of, reaches_disk, takes_memory};
 ghost use Rattle.strat_model.specs.Spelling.{Spells, IsRefusedAs};
 ghost use Rattle.strat_model.specs.Stream.{Splits, frame};
 ghost use Rattle.strat_model.specs.Table.{Table, bare};
@@ -37,6 +37,7 @@ ghost use Rattle.strat_store.specs.Ranging.{HasPairsFor};
 ghost use Rattle.strat_serve.specs.Session.{Begins, AreCalm, GaveUp, IsSession, IsTaggedFor, RespondsTo, Served, Session, WasPublished, all_responses};
 ghost use Rattle.strat_serve.specs.Grouping.{StagesBody};
 ghost use Rattle.strat_serve.specs.Speech.{Said, Says, SaysFault};
+ghost use Rattle.strat_serve.specs.Spoken.{AreSaidAt, FollowsSpokenRun, IsSaidAt, Sitting};
 ghost use Rattle.strat_serve.specs.Tables.{AnswersAsTable, EndsAtTables, GoesThroughTables, KeepsSpace, begins_at};
 ghost use Rattle.strat_serve.specs.World.{Streams, beside};
 
@@ -225,4 +226,16 @@ pub fn a_batch_counts_on<P: Protocol>()
         → StagesBody P.speech old body said mid → StagesBody P.speech mid other more new
         → (request : Request) × P.speech.Asks (old.memory.changes + 1) other more.tag request
         × (more.sent ≡ P.speech.tells (old.memory.changes + 1) more.tag request more.answer) }
+{}
+
+/// In a run of a table each body was told what the protocol says at the changes of the table there, and the sink got that. So
+/// was the body that met a fault, behind the others.
+pub fn what_a_run_sent_is_what_its_protocol_says<P: Protocol, D: Viewed>()
+    ensures ok { (d e : D) (f : Image) (t : Table) (s : Sitting)
+        → (r : FollowsSpokenRun P.speech (D.view d) (D.view e) f t s)
+        → AreSaidAt P.speech r.transcript.exchanges s.answers }
+    ensures fault { (d e : D) (f : Image) (t : Table) (s : Sitting) (said : Said)
+        → (r : FollowsSpokenRun P.speech (D.view d) (D.view e) f t s) → s.broken ≡ Some said
+        → (h : Interruption) × (r.transcript.interruption ≡ Some h)
+        × IsSaidAt P.speech r.transcript.after.table.changes h.body said }
 {}
