@@ -82,8 +82,8 @@ module _ (sb : Super) (manifest : Manifest) (m : Memory) (of : IsMemoryOf (recor
   pub memory_room : (n : ℕ) → n ≤ sb.mem → n ≤ m.spare
   memory_room n few = omega (arith, of.room, few)
 
-  pub memory_redone : (now : Memory) (changes : List Change) → are_accepted m.changes_max m.versions_max m.parents [] m.changes changes ≡ true → now ≡ fold memory_after m changes → IsMemoryOf (record { sb = sb; manifest = manifest; journal = changes }) now
-  memory_redone now changes accepted is = subst (IsMemoryOf (record { sb = sb; manifest = manifest; journal = changes })) (sym is) (memory_follows_all sb manifest [] changes m [] of refl accepted)
+  pub memory_redone : (now : Memory) (changes : List Change) → are_accepted m.changes_max m.versions_max m.parents [] m.changes changes ≡ true → length changes ≤ sb.mem → now ≡ fold memory_after m changes → IsMemoryOf (record { sb = sb; manifest = manifest; journal = changes }) now
+  memory_redone now changes accepted few is = subst (IsMemoryOf (record { sb = sb; manifest = manifest; journal = changes })) (sym is) (memory_follows_all sb manifest [] changes m [] of refl accepted few)
 
 -- changes that are accepted as records are accepted each in its turn
 pub accepted_in_turn : (changes_max versions_max : ℕ) (parents : Parents) (marks : Marks) (n : ℕ) (logged : List Logged) (journal : List Change)
