@@ -145,11 +145,11 @@ prepared m o n = record m { ready = o; cursors = record m.cursors { room = n } }
 abbrev pub renewed : List ArrayDesc → Memory → Memory
 renewed gone m = record (unsealed m) { cursors = retired_all gone m.cursors }
 
--- memory made ready for a checkpoint, of which nothing came: as it was, but for the next level 0, which may stand ready, and
--- for the room for arrays that are kept for cursors; and if level 0 was not sealed, it may be now
-abbrev pub IsReadyFrom : Memory → Memory → Type 0
-IsReadyFrom old new = (new ≡ prepared old new.ready new.cursors.room)
-    ⊎ ((old.sealed ≡ None) × (new ≡ prepared (sealed_off new.spare old) None new.cursors.room))
+-- memory made ready for a checkpoint: as it was, but for the next level 0, which may stand ready, and for the room for arrays
+-- that are kept for cursors; and if level 0 was not sealed, it may be now, with room for so many updates in the new one
+abbrev pub IsReadyFrom : ℕ → Memory → Memory → Type 0
+IsReadyFrom mem old new = (new ≡ prepared old new.ready new.cursors.room)
+    ⊎ ((old.sealed ≡ None) × (new ≡ prepared (sealed_off mem old) None new.cursors.room))
 
 -- memory of a new store
 abbrev pub fresh_memory : ℕ → ℕ → ℕ → Memory
