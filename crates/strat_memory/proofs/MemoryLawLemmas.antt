@@ -36,7 +36,7 @@ use Rattle.def_state.specs.Sound.{is_accepted, accepts_change, journal_max, IsSo
 use Rattle.def_state.specs.State.{State, versions_of, journal_updates, updates_of, changes_of, tree_after, update_of, marks_of, marks_after, map_at, is_living}
 use Rattle.def_state.proofs.SoundLemmas.{sound_tree}
 use Rattle.def_state.proofs.UpdateLemmas.{all_lives}
-use Rattle.strat_memory.specs.Memory.{Memory, SealedLevel, refusal_of_update, refusal_of_clone, refusal_of_change, with_update, memory_after, HasRoomFor, reply_to, info_told, stat_told, fresh_memory, lists_of, oldest_entries, sealed_entries, sealed_off, unsealed, table_with, CountsSealed, IsMemoryOf}
+use Rattle.strat_memory.specs.Memory.{Memory, SealedLevel, refusal_of_update, refusal_of_clone, refusal_of_change, with_update, memory_after, HasRoomFor, reply_to, info_told, stat_told, fresh_memory, lists_in_memory, oldest_entries, sealed_entries, sealed_off, unsealed, table_with, CountsSealed, IsMemoryOf}
 use Rattle.def_promote.proofs.PaidLemmas.{updates_few}
 use Rattle.strat_memory.proofs.MemoryLemmas.{left_few}
 use Rattle.strat_memory.proofs.ThreeTests.{three_none, three_pass, three_refuse}
@@ -266,10 +266,10 @@ module _ (f : Image) (h : Head) (s : State) (m : Memory) (read : state_of f h �
   key_found = lives_same s m the
 
   -- level 0, what is sealed and the levels are asked as the table is
-  pub key_asked : IsSound s → (v : ℕ) (key : List ℕ) → is_known m.parents v ≡ true → asked f m.parents (lists_of m) h.manifest.levels v key ≡ value_of (pairs_at (table_of s) v) key
+  pub key_asked : IsSound s → (v : ℕ) (key : List ℕ) → is_known m.parents v ≡ true → asked f m.parents (lists_in_memory m) h.manifest.levels v key ≡ value_of (pairs_at (table_of s) v) key
   key_asked sound v key here =
       let lt : v < length (versions_of s) = subst (λ (ps : Parents). v < length ps) the.parents (ltb-true v (length m.parents) here) in
-      ap (λ (ps : Parents). asked f ps (lists_of m) h.manifest.levels v key) the.parents
+      ap (λ (ps : Parents). asked f ps (lists_in_memory m) h.manifest.levels v key) the.parents
       ∙ lists_asked f h s m.entries (sealed_entries m) m.spare v key read sound the.lists lt (living_of v)
 
 -- a head with one more change

@@ -160,10 +160,6 @@ pub sealed_read : (pool : List PoolEntry) (parents : Parents) (zero : Memtable) 
 sealed_read pool parents zero None next beside below = tt
 sealed_read pool parents zero (Some s) next beside below = (beside.0.stands.list, sealed_known pool parents s below)
 
-pub sealed_shown : (pool : List PoolEntry) (sealed : Option Sealed) → sealed_held pool (option_map (λ (s : Sealed). s.zero.list) sealed) ≡ option_to_list (option_map (λ (z : SealedLevel). z.entries) (option_map (sealed_seen pool) sealed))
-sealed_shown pool None = refl
-sealed_shown pool (Some s) = refl
-
 pub same_reads : (pool : List PoolEntry) (others : List Memtable) → ReadsBeside pool pool others
 same_reads pool others z among = refl
 
@@ -312,10 +308,6 @@ module _ (old new : List PoolEntry) (a : ℕ) (ok : shares_at new a + 1 ≡ shar
     left_reads = beside_reads old new zero others left_others beside
 
 -- without the next one, which stands last
-pub next_beside : (pool : List PoolEntry) (zero z : Memtable) (sealed : Option Sealed) → AllByRecursion (StandsBeside pool zero) (lists_beside sealed (Some z)) → StandsBeside pool zero z
-next_beside pool zero z None beside = beside.0
-next_beside pool zero z (Some s) beside = beside.1.0
-
 pub beside_without_next : (pool : List PoolEntry) (zero z : Memtable) (sealed : Option Sealed) → AllByRecursion (StandsBeside pool zero) (lists_beside sealed (Some z))
     → AllByRecursion (StandsBeside pool zero) (lists_beside sealed None)
 beside_without_next pool zero z None beside = tt
@@ -335,24 +327,6 @@ pub without_sealed_shares : (pool : List PoolEntry) (parents : Parents) (zero : 
     → StandInPool pool parents zero (lists_beside (Some s) next) cursors → (n : ℕ) → shares_at pool n ≡ (owns zero (lists_beside None next) n + once s.zero.list.arena n) + shares_of cursors n
 without_sealed_shares pool parents zero s next cursors stand n =
     omega (arith, stand.shares n, owns_is zero (lists_beside (Some s) next) n, owns_is zero (lists_beside None next) n, owned_cons s.zero (lists_beside None next) n)
-
--- with the next one in the place of level 0, which is sealed
-pub turned_stands : (pool : List PoolEntry) (parents : Parents) (zero z : Memtable) (s : Sealed) (cursors : List OpenCursor) → s.zero ≡ zero → StandInPool pool parents zero (lists_beside None (Some z)) cursors
-    → StandInPool pool parents z (lists_beside (Some s) None) cursors
-turned_stands pool parents zero z s cursors same stand = record {
-  level = stand.beside.0.stands;
-  beside = (
-    record {
-      stands = subst (λ (x : Memtable). MemtableStands pool x) (sym same) stand.level;
-      apart = λ e. stand.beside.0.apart (sym (sym (ap (λ (x : Memtable). x.list.arena) same) ∙ e));
-    },
-    tt,
-  );
-  pinned = stand.pinned;
-  shares = λ n.
-      let here : once s.zero.list.arena n ≡ once zero.list.arena n = ap (λ (x : Memtable). once x.list.arena n) same in
-      omega (arith, stand.shares n, owns_is zero (z ∷ []) n, owned_cons z [] n, owns_is z (s.zero ∷ []) n, owned_cons s.zero [] n, here);
-}
 
 -- after a next one was made
 module _ (old new : List PoolEntry) (parents : Parents) (zero z : Memtable) (sealed : Option Sealed) (cursors : List OpenCursor) (stand : StandInPool old parents zero (lists_beside sealed None) cursors)
@@ -414,13 +388,6 @@ no_entries pool list none = ap (λ (items : List Item). entries_of (arena_at poo
 pub none_ready : (next : Option Memtable) → option_map (λ (z : Memtable). z.spare) next ≡ None → next ≡ None
 none_ready None none = refl
 none_ready (Some z) none = absurd (cc)
-
-pub room_ready : (next : Option Memtable) (z : Memtable) (mem : ℕ) → next ≡ Some z → option_map (λ (x : Memtable). x.spare) next ≡ Some mem → z.spare ≡ mem
-room_ready None z mem is ready = absurd (cc)
-room_ready (Some y) z mem is ready =
-    let same : y ≡ z = cc in
-    let room : y.spare ≡ mem = cc in
-    ap (λ (x : Memtable). x.spare) (sym same) ∙ room
 
 -- after the tree got a child
 pub grown_stands : (pool : List PoolEntry) (parents : Parents) (p : ℕ) (zero : Memtable) (others : List Memtable) (cursors : List OpenCursor) → IsTree parents → p < length parents

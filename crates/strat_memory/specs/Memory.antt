@@ -50,8 +50,8 @@ abbrev pub sealed_entries : Memory → Option (List Entry)
 sealed_entries m = option_map (λ z. z.entries) m.sealed
 
 -- the lists of level 0 that a look-up asks, the newest first
-abbrev pub lists_of : Memory → List (List Entry)
-lists_of m = lists_read m.entries (sealed_entries m)
+abbrev pub lists_in_memory : Memory → List (List Entry)
+lists_in_memory m = lists_read m.entries (sealed_entries m)
 
 -- the entries that a promotion takes: those that are sealed, or level 0's where nothing is
 abbrev pub oldest_entries : Memory → List Entry

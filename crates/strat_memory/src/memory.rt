@@ -27,7 +27,7 @@ ghost use Rattle.strat_model.specs.Pairs.{Pairs};
 ghost use Rattle.def_meaning.specs.TableOver.{are_known};
 ghost use Rattle.def_state.specs.LookUp.{first_live};
 ghost use Rattle.def_state.specs.Reading.{live_of};
-ghost use Rattle.strat_memory.specs.Memory.{SealedLevel, refusal_of_update, refusal_of_clone, refusal_of_change, with_update, memory_after, HasRoomFor, reply_to, info_told, stat_told, fresh_memory, KeepsRows, cursor_from, with_cursor, lists_of, oldest_entries, sealed_entries, sealed_off, unsealed};
+ghost use Rattle.strat_memory.specs.Memory.{SealedLevel, refusal_of_update, refusal_of_clone, refusal_of_change, with_update, memory_after, HasRoomFor, reply_to, info_told, stat_told, fresh_memory, KeepsRows, cursor_from, with_cursor, lists_in_memory, oldest_entries, sealed_entries, sealed_off, unsealed};
 ghost use Rattle.strat_base.specs.Marks.{is_dropped};
 
 use std::alloc::Global;
@@ -342,7 +342,7 @@ impl Memory {
     pub fn find(&self, key: &[u8], version: Version, out: &mut PairBuf) -> Seen
         requires found { version < length self.now.parents }
         requires room { length out.old < PAIRS_MAX }
-        ensures ok { TellsFound (first_live self.now.parents (lists_of self.now) version key.now)
+        ensures ok { TellsFound (first_live self.now.parents (lists_in_memory self.now) version key.now)
             key.now out.old out.new result }
     {
         match find_in(&self.zero, &self.pool, &self.tree, key, version, out) {

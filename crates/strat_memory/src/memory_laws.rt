@@ -21,7 +21,7 @@ ghost use Rattle.def_state.specs.Reading.{live_of, level_zero};
 ghost use Rattle.def_state.specs.Setting.{set_all};
 ghost use Rattle.def_state.specs.Sound.{is_accepted, accepts_change, journal_max, IsSound};
 ghost use Rattle.def_state.specs.State.{State, update_of};
-ghost use Rattle.strat_memory.specs.Memory.{Memory, refusal_of_change, memory_after, HasRoomFor, reply_to, info_told, stat_told, fresh_memory, lists_of, oldest_entries, sealed_off, unsealed, table_with, IsMemoryOf};
+ghost use Rattle.strat_memory.specs.Memory.{Memory, refusal_of_change, memory_after, HasRoomFor, reply_to, info_told, stat_told, fresh_memory, lists_in_memory, oldest_entries, sealed_off, unsealed, table_with, IsMemoryOf};
 ghost use Rattle.strat_base.specs.Marks.{Marks, none_dropped};
 
 /// Memory refuses a change just where the table does, and for the same reason; of any other it tells
@@ -77,7 +77,7 @@ pub fn memory_finds_what_level_zero_says()
 pub fn memory_is_asked_as_the_table()
     ensures ok { (f : Image) (h : Head) (s : State) (m : Memory) (v : ℕ) (key : List ℕ)
         → state_of f h ≡ Some s → IsMemoryOf h m → IsSound s → IsTrue (is_known m.parents v)
-        → asked f m.parents (lists_of m) h.manifest.levels v key
+        → asked f m.parents (lists_in_memory m) h.manifest.levels v key
         ≡ value_of (pairs_at (table_of s) v) key }
 {}
 

@@ -1,7 +1,7 @@
 -- A journal's changes carried out one by one on what is in memory.
 use Rattle.std.proofs.Common.{◌≡◌, ◌≤◌, ◌<◌, ◌+◌, ℕ, suc, true, not, List, [], ◌∷◌, ◌++◌, length, map, take, drop, get_or, Option, None, Ok, Err, refl, sym, ap, ◌∙◌, subst, arith, append_assoc, append-nil, length-append, Bool, false, cond, eqb, ◌&&◌, Some}
 use Rattle.std.specs.Prelude.{fold, is_some}
-use Rattle.std.specs.List.{list_all}
+use Rattle.std.specs.List.{filter_map, list_all}
 use Rattle.std.proofs.lemmas.Bool.{and_from, and_parts, cond-true, cond-false}
 use Rattle.std.proofs.lemmas.List.{map_more, drop_more, take_all, drop_all}
 use Rattle.strat_base.proofs.ListFacts.{fold-push}
@@ -13,9 +13,11 @@ use Rattle.def_bytes.specs.Records.{Logged}
 use Rattle.def_bytes.specs.SuperBlock.{Super}
 use Rattle.strat_model.specs.declared.replies.Refusal.{Refusal}
 use Rattle.def_recovery.specs.Opening.{accepted_in}
-use Rattle.def_state.specs.State.{tree_after, marks_after}
-use Rattle.strat_memory.specs.Memory.{Memory, refusal_of_change, memory_after, HasRoomFor, IsMemoryOf}
-use Rattle.strat_memory.proofs.MemoryLawLemmas.{accepted_same, memory_follows}
+use Rattle.def_recovery.specs.Head.{Head}
+use Rattle.def_state.specs.Setting.{set_all}
+use Rattle.def_state.specs.State.{tree_after, marks_after, update_of}
+use Rattle.strat_memory.specs.Memory.{Memory, refusal_of_change, memory_after, oldest_entries, HasRoomFor, IsMemoryOf}
+use Rattle.strat_memory.proofs.MemoryLawLemmas.{accepted_same, memory_follows, oldest_whole}
 use Rattle.strat_base.specs.Marks.{Marks, none_dropped}
 use Rattle.def_state.specs.Sound.{is_accepted, are_accepted}
 use Rattle.def_state.proofs.UndroppedLemmas.{there_made, open_made, none_after}
@@ -190,6 +192,10 @@ memory_follows_all sb manifest before (c ∷ changes) m marks of none accepted f
     (memory_follows_all sb manifest (before ++ c ∷ []) changes (memory_after m c) (marks_after marks c)
     (memory_follows (record { sb = sb; manifest = manifest; journal = before }) m of c free (λ unsealed. omega (arith, few)))
     (none_after m.changes_max m.versions_max m.parents marks m.changes c none parts.0) later (omega (arith, few, size)))
+
+-- what a promotion would take of memory is what the journal says, where that fits a region
+pub oldest_read : (h : Head) (m : Memory) → IsMemoryOf h m → length h.journal ≤ h.sb.mem → oldest_entries m ≡ set_all (filter_map update_of h.journal)
+oldest_read h m of few = oldest_whole h m of few
 
 -- changes leave the cursors
 pub cursors_redone : (changes : List Change) (m : Memory) → (fold memory_after m changes).cursors ≡ m.cursors

@@ -39,7 +39,7 @@ use Rattle.def_state.specs.Sound.{IsSound}
 use Rattle.def_state.specs.State.{State, IsPaid}
 use Rattle.strat_cursor.specs.Looking.{arrays_there}
 use Rattle.strat_memory.proofs.FilterLemmas.{filtered_after}
-use Rattle.strat_memory.proofs.MemoryLawLemmas.{oldest_whole}
+use Rattle.strat_publish.proofs.SealedLemmas.{oldest_here}
 use Rattle.strat_memory.specs.Filters.{LevelFilters, AreFiltersOn}
 use Rattle.strat_memory.specs.Memory.{Memory}
 use Rattle.strat_publish.specs.Promoting.{HoldInMemory, IsPromotedTo}
@@ -90,7 +90,7 @@ module _ (v : DiskView) (s : SpaceView) (m : Memory) (levels : List (Option Leve
 
   holds : HoldInMemory f (contents_state x) m levels
   holds = record {
-    entries = oldest_whole (contents_head x) m may.memory (omega (arith, may.full));
+    entries = oldest_here (contents_head x) m may.memory (omega (arith, may.full));
     levels_are = ap (all_some (level_on f)) may.placed.listed_are ∙ (may.stands.reads f may.stands.left).lies.arrays;
     numbered = may.placed.numbered;
     parents = may.memory.parents;

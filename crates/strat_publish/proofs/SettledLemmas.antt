@@ -1,7 +1,7 @@
 -- A publication of a store: what stands before it, between its calls and after it.
 use Rattle.std.proofs.Common.{◌≡◌, ◌≤◌, ◌+◌, ◌-◌, ◌*◌, ℕ, Bool, true, false, eqb, ◌&&◌, ◌||◌, inl, inr, ◌⊎◌, List, [], ◌∷◌, ◌++◌, length, Contains, drop, flat_map, fold, map, Option, None, Some, refl, sym, ap, ◌∙◌, subst, arith, true≢false}
 use Rattle.std.specs.List.{list_all}
-use Rattle.std.specs.Option.{option_map, option_to_list}
+use Rattle.std.specs.Option.{option_to_list}
 use Rattle.std.specs.Prelude.{is_some}
 use Rattle.std.proofs.lemmas.List.{drop_all}
 use Rattle.std.proofs.lemmas.Bool.{and_parts, eqb-true, le-ltb}
@@ -26,7 +26,6 @@ use Rattle.def_bytes.specs.Chained.{Chained}
 use Rattle.def_bytes.specs.Layout.{first_free, other_region, newest_format}
 use Rattle.def_bytes.specs.Manifest.{Manifest, is_lawful_manifest}
 use Rattle.def_bytes.specs.SuperBlock.{Super}
-use Rattle.def_slice.specs.Lists.{entries_left, HoldLists}
 use Rattle.def_split.proofs.ListLemmas.{among_map}
 use Rattle.strat_promote.proofs.LeadLemmas.{read_whole}
 use Rattle.strat_promote.specs.Job.{IsBadInput, blocks_listed}
@@ -47,9 +46,9 @@ use Rattle.def_state.specs.Level.{TaggedArray, Level, own_leads, least_live}
 use Rattle.def_state.specs.Sound.{IsSound, is_described, has_ascending_entries}
 use Rattle.def_state.specs.State.{State, versions_of, tree_after}
 use Rattle.strat_publish.proofs.LookLawLemmas.{made_of}
-use Rattle.strat_memory.proofs.MemoryLawLemmas.{memory_sealed, memory_unsealed}
 use Rattle.strat_publish.proofs.KeptLemmas.{array_named, held_behind, kept_next, named_behind}
 use Rattle.strat_publish.proofs.RetiringLemmas.{retired_room}
+use Rattle.strat_publish.proofs.SealedLemmas.{behind_none, emptied_first, emptied_next, let_go, ready_cursors, ready_manifest, ready_of, ready_parents}
 use Rattle.strat_publish.proofs.SettlingLemmas.{listed_arrays, named_there}
 use Rattle.strat_publish.specs.Outcomes.{IsDamagedIn, IsPublishedAs}
 use Rattle.strat_memory.specs.Filters.{LevelFilters, filters_after}
@@ -57,22 +56,9 @@ use Rattle.strat_memory.specs.Held.{Held, AreKept, ArePlaced, IsConsistent, Stan
 use Rattle.strat_cursor.specs.Cursors.{retired_all}
 use Rattle.strat_cursor.specs.Held.{HeldCursors}
 use Rattle.strat_cursor.specs.Looking.{AreCachedFrom, arrays_there}
-use Rattle.strat_memory.specs.Memory.{Memory, SealedLevel, IsMemoryOf, IsReadyFrom, emptied, prepared, renewed, sealed_off}
+use Rattle.strat_memory.specs.Memory.{Memory, IsMemoryOf, IsReadyFrom, emptied, renewed}
 use Rattle.strat_publish.specs.Publishing.{is_in_front, manifest_after}
 use Rattle.strat_publish.specs.Settling.{held_next, contents_next, MayFollow, StandApart, WritesBeside, IsReadied, ArePublishedAfter, ArePublishedTo, arrays_taken}
-
--- memory with another level 0 ready, or none, and other room for arrays that are kept
-prepared_of : (h : Head) (m : Memory) (o : Option ℕ) (n : ℕ) → IsMemoryOf h m → IsMemoryOf h (prepared m o n)
-prepared_of h m o n of = record {
-  changes_max = of.changes_max;
-  versions_max = of.versions_max;
-  parents = of.parents;
-  undropped = of.undropped;
-  updates = of.updates;
-  changes = of.changes;
-  lists = of.lists;
-  counted = of.counted;
-}
 
 -- a store keeps what it holds as its memory is another of its head, with the cursors that it had
 memory_kept : (s : Held) (m : Memory) → IsMemoryOf (head_held s) m → m.cursors ≡ record s.memory.cursors { room = m.cursors.room } → IsConsistent s → IsConsistent (record s { memory = m })
@@ -99,50 +85,6 @@ memory_kept s m of cursors whole =
       placed = whole.placed;
       kept = subst (λ (j : Memory). AreKept s.sb s.chained s.levels j) same here;
     }
-
--- memory that is ready for a publication has the cursors of before, and what it counts is as it was
-pub ready_cursors : (mem : ℕ) (m k : Memory) → IsReadyFrom mem m k → k.cursors ≡ record m.cursors { room = k.cursors.room }
-ready_cursors mem m k (inl is) = ap (λ (j : Memory). j.cursors) is
-ready_cursors mem m k (inr is) = ap (λ (j : Memory). j.cursors) is.1
-
-ready_parents : (mem : ℕ) (m k : Memory) → IsReadyFrom mem m k → k.parents ≡ m.parents
-ready_parents mem m k (inl is) = ap (λ (j : Memory). j.parents) is
-ready_parents mem m k (inr is) = ap (λ (j : Memory). j.parents) is.1
-
-ready_manifest : (mem target : ℕ) (x : Manifest) (made : Option LevelDesc) (m k : Memory) → IsReadyFrom mem m k → manifest_after x k target made ≡ manifest_after x m target made
-ready_manifest mem target x made m k (inl is) = ap (λ (j : Memory). manifest_after x j target made) is
-ready_manifest mem target x made m k (inr is) = ap (λ (j : Memory). manifest_after x j target made) is.1
-
-pub ready_counts : (mem : ℕ) (m k : Memory) → IsReadyFrom mem m k → (k.parents ≡ m.parents) × (k.updates ≡ m.updates) × (k.changes ≡ m.changes) × (k.cursors.opened ≡ m.cursors.opened) × (k.cursors.retired ≡ m.cursors.retired)
-ready_counts mem m k (inl is) =
-    (ap (λ (j : Memory). j.parents) is, ap (λ (j : Memory). j.updates) is, ap (λ (j : Memory). j.changes) is, ap (λ (j : Memory). j.cursors.opened) is, ap (λ (j : Memory). j.cursors.retired) is)
-ready_counts mem m k (inr is) =
-    (ap (λ (j : Memory). j.parents) is.1, ap (λ (j : Memory). j.updates) is.1, ap (λ (j : Memory). j.changes) is.1, ap (λ (j : Memory). j.cursors.opened) is.1, ap (λ (j : Memory). j.cursors.retired) is.1)
-
--- it may differ in its lists alone
-ready_rest : (mem : ℕ) (m k : Memory) → IsReadyFrom mem m k → k ≡ record m { entries = k.entries; sealed = k.sealed; spare = k.spare; ready = k.ready; cursors = k.cursors }
-ready_rest mem m k (inl is) =
-    is ∙ (λ i. record m {
-      entries = sym (ap (λ (j : Memory). j.entries) is) i;
-      sealed = sym (ap (λ (j : Memory). j.sealed) is) i;
-      spare = sym (ap (λ (j : Memory). j.spare) is) i;
-      ready = k.ready;
-      cursors = sym (ap (λ (j : Memory). j.cursors) is) i;
-    })
-ready_rest mem m k (inr is) =
-    is.1 ∙ (λ i. record m {
-      entries = sym (ap (λ (j : Memory). j.entries) is.1) i;
-      sealed = sym (ap (λ (j : Memory). j.sealed) is.1) i;
-      spare = sym (ap (λ (j : Memory). j.spare) is.1) i;
-      ready = sym (ap (λ (j : Memory). j.ready) is.1) i;
-      cursors = sym (ap (λ (j : Memory). j.cursors) is.1) i;
-    })
-
--- and is still that of the head, whose journal just fills its region
-ready_of : (h : Head) (m k : Memory) → IsReadyFrom h.sb.mem m k → length h.journal ≡ h.sb.mem → IsMemoryOf h m → IsMemoryOf h k
-ready_of h m k (inl is) full of = subst (λ (j : Memory). IsMemoryOf h j) (sym is) (prepared_of h m k.ready k.cursors.room of)
-ready_of h m k (inr is) full of =
-    subst (λ (j : Memory). IsMemoryOf h j) (sym is.1) (prepared_of h (sealed_off h.sb.mem m) None k.cursors.room (memory_sealed h m of is.0 full))
 
 pub consistent_ready : (s : Held) (m : Memory) → IsReadyFrom s.sb.mem s.memory m → length s.log.list ≡ s.sb.mem → IsConsistent s → IsConsistent (record s { memory = m })
 consistent_ready s m is full whole = memory_kept s m (ready_of (head_held s) s.memory m is full whole.memory) (ready_cursors s.sb.mem s.memory m is) whole
@@ -393,7 +335,7 @@ consistent_next s target sb chained levels made whole some full follows are spel
       accepted = refl;
       memory =
           let none : [] ≡ drop s.sb.mem s.log.list = sym (drop_all s.sb.mem s.log.list (omega (arith, full))) in
-          let here = memory_unsealed h new s.memory whole.memory some none (omega arith) follows.mem follows.changes_max follows.versions_max versions updates changes follows.undropped in
+          let here = let_go h new s.memory whole.memory some none (omega arith) follows.mem follows.changes_max follows.versions_max versions updates changes follows.undropped in
           record {
             changes_max = here.changes_max;
             versions_max = here.versions_max;
@@ -450,32 +392,6 @@ none_damaged v s x b whole stands bad =
     let levels : List LevelDesc = x.chained.manifest.levels in
     let st : State = contents_state x in
     none_bad f levels st b arrays read stands.stands.sound at (bad f stands.stands.exposed)
-
--- once the journal just fills its region, and level 0 is sealed, the new level 0 has no entries
-behind_none : (mem : ℕ) (journal : List Change) (entries : List Entry) (sealed : Option SealedLevel) (spare : ℕ) → HoldLists mem journal entries (option_map (λ z. z.entries) sealed) spare → is_some sealed ≡ true
-    → length journal ≡ mem → entries ≡ []
-behind_none mem journal entries None spare lists some full = absurd (true≢false (sym some))
-behind_none mem journal entries (Some z) spare lists some full = lists.2 ∙ ap entries_left (drop_all mem journal (omega (arith, full)))
-
--- what was emptied
-emptied_next : (mem : ℕ) (gone : List ArrayDesc) (m k now : Memory) → now ≡ renewed gone k → IsReadyFrom mem m k → k.entries ≡ []
-    → now ≡ record (emptied now.spare m) { ready = now.ready; cursors = now.cursors }
-emptied_next mem gone m k now is ready none =
-    is ∙ ap (λ (j : Memory). renewed gone j) (ready_rest mem m k ready)
-    ∙ (λ i. record m {
-      entries = none i;
-      sealed = None;
-      spare = sym (ap (λ (j : Memory). j.spare) is) i;
-      ready = sym (ap (λ (j : Memory). j.ready) is) i;
-      cursors = sym (ap (λ (j : Memory). j.cursors) is) i;
-    })
-
--- which was sealed just before, where it was not yet
-emptied_first : (mem : ℕ) (gone : List ArrayDesc) (m k now : Memory) → now ≡ renewed gone k → IsReadyFrom mem m k → is_some k.sealed ≡ true → m.sealed ≡ None → now ≡ record (emptied mem m) { cursors = now.cursors }
-emptied_first mem gone m k now is (inl same) some none =
-    absurd (true≢false (sym some ∙ ap (λ (j : Memory). is_some j.sealed) same ∙ ap (λ (o : Option SealedLevel). is_some o) none))
-emptied_first mem gone m k now is (inr same) some none =
-    is ∙ ap (λ (j : Memory). record (renewed gone j) { cursors = retired_all gone k.cursors }) same.1 ∙ (λ i. record (emptied mem m) { cursors = sym (ap (λ (j : Memory). j.cursors) is) i })
 
 -- and what is found of a store after a publication
 pub found_next : (s t : Held) (m : Memory) (target : ℕ) (sb : Super) (chained : Chained) (levels : List (Option LevelDesc)) (made : LevelFilters) → IsReadyFrom s.sb.mem s.memory m

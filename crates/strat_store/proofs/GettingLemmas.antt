@@ -50,7 +50,7 @@ use Rattle.strat_store.specs.Getting.{reply_of_get}
 use Rattle.strat_memory.specs.Filters.{LevelFilters}
 use Rattle.strat_memory.specs.Held.{Held, IsConsistent, StandsWith, arrays_held, contents_held, head_held}
 use Rattle.strat_cursor.specs.Looking.{levels_there, arrays_asked, arrays_there, AreInOrder, AreCachedFrom, LooksThrough, NamesNoBlock, HaveOwnIds}
-use Rattle.strat_memory.specs.Memory.{Memory, lists_of}
+use Rattle.strat_memory.specs.Memory.{Memory, lists_in_memory}
 use Rattle.strat_cursor.proofs.HoldingLemmas.{asked_cached, asked_ordered}
 use Rattle.strat_cursor.proofs.ThroughLemmas.{still_cached}
 use Rattle.strat_publish.proofs.WholeLemmas.{whole_read}
@@ -185,19 +185,19 @@ module _ (v : DiskView) (s : Held) (levels : List Level) (whole : IsConsistent s
 
   -- what is looked up is what the table has
   pub asked_is : (n : ℕ) (key : List ℕ) → is_known s.memory.parents n ≡ true
-      → asked w.stands.content s.memory.parents (lists_of s.memory) (levels_there s.levels) n key ≡ value_of (pairs_at (table_of it) n) key
+      → asked w.stands.content s.memory.parents (lists_in_memory s.memory) (levels_there s.levels) n key ≡ value_of (pairs_at (table_of it) n) key
   asked_is n key is =
-      ap (λ (ds : List LevelDesc). asked w.stands.content s.memory.parents (lists_of s.memory) ds n key) whole.placed.listed_are
+      ap (λ (ds : List LevelDesc). asked w.stands.content s.memory.parents (lists_in_memory s.memory) ds n key) whole.placed.listed_are
       ∙ key_asked w.stands.content (head_held s) it s.memory read whole.memory w.stands.sound n key is
 
   -- also where filters are asked, which are of the keys of its arrays
   pub filtered_is : (n : ℕ) (key : List ℕ) → is_known s.memory.parents n ≡ true
-      → asked_filtered w.stands.content s.filters s.memory.parents (lists_of s.memory) (levels_there s.levels) n key ≡ value_of (pairs_at (table_of it) n) key
+      → asked_filtered w.stands.content s.filters s.memory.parents (lists_in_memory s.memory) (levels_there s.levels) n key ≡ value_of (pairs_at (table_of it) n) key
   filtered_is n key is =
       let lies = (w.stands.reads w.stands.content w.stands.left).lies.arrays in
       let silent = subst (λ (ds : List LevelDesc). AreSilent w.stands.content s.filters s.memory.parents n key ds) (sym whole.placed.listed_are)
       (are_silent w.stands.content s.filters s.memory.parents n key s.chained.manifest.levels levels lies w.filtered) in
-      ap (λ (o : Option Entry). option_and_then (λ x. x.value) o) (filtered_agrees w.stands.content s.filters s.memory.parents n key (lists_of s.memory) (levels_there s.levels) silent)
+      ap (λ (o : Option Entry). option_and_then (λ x. x.value) o) (filtered_agrees w.stands.content s.filters s.memory.parents n key (lists_in_memory s.memory) (levels_there s.levels) silent)
       ∙ asked_is n key is
 
   accepted : (n : ℕ) (key : List ℕ) → is_known s.memory.parents n ≡ true → accepts (step (table_of it) (Get n key)).answer.reply ≡ true
@@ -229,13 +229,13 @@ module _ (v : DiskView) (s : Held) (levels : List Level) (whole : IsConsistent s
     not_there : (n : ℕ) (key : List ℕ) → is_known s.memory.parents n ≡ false → IsLookedUp now (record s { cached = d }) y (Get n key) (as_told (reply.Refused why.UnknownVersion) [])
     not_there n key off = inl (sym (ap (λ (o : Outcome). o.answer) (key_unknown w.stands.content (head_held s) it s.memory read whole.memory n key off)), stays)
 
-    there : (n : ℕ) (key : List ℕ) (out : TheirPairs) (r : Result Seen Fault) → is_known s.memory.parents n ≡ true → IfOk r (FindsIt v.content s.filters s.memory.parents (lists_of s.memory) s.levels n key s.cached out)
+    there : (n : ℕ) (key : List ℕ) (out : TheirPairs) (r : Result Seen Fault) → is_known s.memory.parents n ≡ true → IfOk r (FindsIt v.content s.filters s.memory.parents (lists_in_memory s.memory) s.levels n key s.cached out)
         → OnErr r (out ≡ []) → ((b : ℕ) → IsErrOf r (fault.Damaged b) → NamesNoBlock v.content (arrays_there s.levels) b)
         → IsLookedUp now (record s { cached = d }) y (Get n key) (as_told (reply_of_get r) out)
     there n key out (Ok told) is tells none names =
         let may = whole_read s whole in
         inl (
-          answer_of (looked_up (on_disk_filtered w.stands.content s.filters) s.memory.parents (lists_of s.memory) (levels_there s.levels) n key) key out told
+          answer_of (looked_up (on_disk_filtered w.stands.content s.filters) s.memory.parents (lists_in_memory s.memory) (levels_there s.levels) n key) key out told
               (tells w.stands.content s.chained.manifest.next_array w.stands.exposed (asked_ordered s.memory.parents s.levels n w.stands.content ordered) may.own whole.placed.numbered (asked_cached s.memory.parents s.levels n w.stands.content s.chained.manifest.next_array s.cached cached))
               ∙ ap (found key) (filtered_is n key is) ∙ sym (stepped n key is),
           stays,
@@ -252,7 +252,7 @@ module _ (v now : DiskView) (s : Held) (x : Contents) (d : Blocks) (n : ℕ) (ke
       (subst (λ (ps : TheirPairs). IsLookedUp now (record s { cached = d }) (contents_held s x.levels) (Get n key) (as_told (reply.Refused why.UnknownVersion) ps)) (sym none)
       (not_there v s x.levels whole (subst (StandsWith v s) w.held w) now d looks leaves n key off))
 
-  pub known_looked_up : (r : Result Seen Fault) → is_known s.memory.parents n ≡ true → IfOk r (FindsIt v.content s.filters s.memory.parents (lists_of s.memory) s.levels n key s.cached out)
+  pub known_looked_up : (r : Result Seen Fault) → is_known s.memory.parents n ≡ true → IfOk r (FindsIt v.content s.filters s.memory.parents (lists_in_memory s.memory) s.levels n key s.cached out)
       → OnErr r (out ≡ []) → ((b : ℕ) → IsErrOf r (fault.Damaged b) → NamesNoBlock v.content (arrays_there s.levels) b)
       → IsLookedUp now (record s { cached = d }) x (Get n key) (as_told (reply_of_get r) out)
   known_looked_up r is tells none names =

@@ -47,7 +47,7 @@ use Rattle.strat_publish.proofs.WholeLemmas.{whole_read}
 use Rattle.strat_store.specs.Applying.{is_fault, IsLookedUp}
 use Rattle.strat_publish.specs.Outcomes.{IsDamagedIn}
 use Rattle.strat_memory.specs.Held.{Held, IsConsistent, StandsWith, contents_held}
-use Rattle.strat_memory.specs.Memory.{Memory, lists_of}
+use Rattle.strat_memory.specs.Memory.{Memory, lists_in_memory}
 use Rattle.strat_store.specs.Ranging.{reply_of_scan, HasPairs, IsMapAsked}
 
 -- what is made of what is picked is picked of what is made
@@ -188,7 +188,7 @@ module _ (v : DiskView) (s : Held) (levels : List Level) (whole : IsConsistent s
       (sym (known v s levels whole w n) ∙ off)
 
   -- its map is what is asked
-  pub table_asked : (n : ℕ) → is_known s.memory.parents n ≡ true → IsMapAsked w.stands.content s.memory.parents (lists_of s.memory) s.levels n (table_pairs n)
+  pub table_asked : (n : ℕ) → is_known s.memory.parents n ≡ true → IsMapAsked w.stands.content s.memory.parents (lists_in_memory s.memory) s.levels n (table_pairs n)
   table_asked n is =
       let here : n < length (versions_of state) = subst (λ (ps : Parents). n < length ps) whole.memory.parents (ltb-true n (length s.memory.parents) is) in
       record {
@@ -202,7 +202,7 @@ module _ (v : DiskView) (s : Held) (levels : List Level) (whole : IsConsistent s
     not_there n lo hi limit off = inl (sym (unknown n lo hi limit off), stays v s levels whole w now d looks leaves)
 
     there : (n : ℕ) (lo hi : List ℕ) (limit : ℕ) (out : TheirPairs) (r : Result Bool Fault) → is_known s.memory.parents n ≡ true
-        → IfOk r (FindsRange v.content s.memory.parents (lists_of s.memory) s.levels n lo hi limit s.cached out) → OnErr r (out ≡ [])
+        → IfOk r (FindsRange v.content s.memory.parents (lists_in_memory s.memory) s.levels n lo hi limit s.cached out) → OnErr r (out ≡ [])
         → ((b : ℕ) → IsErrOf r (fault.Damaged b) → NamesNoBlock v.content (arrays_there s.levels) b)
         → IsLookedUp now (record s { cached = d }) (contents_held s levels) (Scan n lo hi limit) (as_told (reply_of_scan r) out)
     there n lo hi limit out (Ok more) is tells none names =
@@ -210,7 +210,7 @@ module _ (v : DiskView) (s : Held) (levels : List Level) (whole : IsConsistent s
         let told : IsPageOf (range (table_pairs n) lo hi) limit out more =
         tells w.stands.content s.chained.manifest.next_array w.stands.exposed (asked_ordered s.memory.parents s.levels n w.stands.content (ordered v s levels whole w)) may.own
         (asked_cached s.memory.parents s.levels n w.stands.content s.chained.manifest.next_array s.cached (cached v s levels whole w)) (table_pairs n)
-        (map_seen w.stands.content s.memory.parents (lists_of s.memory) s.levels n (table_pairs n) (table_asked n is)) in
+        (map_seen w.stands.content s.memory.parents (lists_in_memory s.memory) s.levels n (table_pairs n) (table_asked n is)) in
         inl (page_told (range (table_pairs n) lo hi) limit out more told ∙ sym (stepped n lo hi limit is), stays v s levels whole w now d looks leaves)
     there n lo hi limit out (Err fault.Device) is tells none names =
         inr (ap (as_told (reply.Refused why.DeviceFault)) none, refl, ap (λ (a : Answer). accepts a.reply) (stepped n lo hi limit is))
@@ -226,7 +226,7 @@ module _ (v now : DiskView) (s : Held) (x : Contents) (d : Blocks) (n : ℕ) (lo
       (subst (λ (ps : TheirPairs). IsLookedUp now (record s { cached = d }) (contents_held s x.levels) (Scan n lo hi limit) (as_told (reply.Refused why.UnknownVersion) ps)) (sym none)
       (not_there v s x.levels whole (subst (StandsWith v s) w.held w) now d looks leaves n lo hi limit off))
 
-  pub known_range : (r : Result Bool Fault) → is_known s.memory.parents n ≡ true → IfOk r (FindsRange v.content s.memory.parents (lists_of s.memory) s.levels n lo hi limit s.cached out)
+  pub known_range : (r : Result Bool Fault) → is_known s.memory.parents n ≡ true → IfOk r (FindsRange v.content s.memory.parents (lists_in_memory s.memory) s.levels n lo hi limit s.cached out)
       → OnErr r (out ≡ []) → ((b : ℕ) → IsErrOf r (fault.Damaged b) → NamesNoBlock v.content (arrays_there s.levels) b)
       → IsLookedUp now (record s { cached = d }) x (Scan n lo hi limit) (as_told (reply_of_scan r) out)
   known_range r is tells none names =

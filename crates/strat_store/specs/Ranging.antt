@@ -25,7 +25,7 @@ use Rattle.strat_store.specs.Applying.{change_wanted}
 use Rattle.strat_store.specs.Filtering.{asked_filtered}
 use Rattle.strat_store.specs.Getting.{MayTellOfKey}
 use Rattle.strat_memory.specs.Held.{Held}
-use Rattle.strat_memory.specs.Memory.{Memory, info_told, lists_of, stat_told}
+use Rattle.strat_memory.specs.Memory.{Memory, info_told, lists_in_memory, stat_told}
 
 -- what is told of a range after a scan, or after the fault that ended it
 abbrev pub reply_of_scan : Result Bool Fault → Reply
@@ -113,11 +113,11 @@ ReadsForLook s request before now =
 abbrev pub TellsFrom : Image → Held → Request → Answer → Type 0
 TellsFrom f s (Get version key) answer = TellsOfVersion s.memory version answer
     (MayTellOfKey answer.reply × (AreReadAs f s version
-    → answer ≡ found key (asked_filtered f s.filters s.memory.parents (lists_of s.memory)
+    → answer ≡ found key (asked_filtered f s.filters s.memory.parents (lists_in_memory s.memory)
     (levels_there s.levels) version key)))
 TellsFrom f s (Scan version lo hi limit) answer = TellsOfVersion s.memory version answer
     (MayTellOfRange answer.reply × (AreReadAs f s version → (pairs : Pairs)
-    → IsMapAsked f s.memory.parents (lists_of s.memory) s.levels version pairs
+    → IsMapAsked f s.memory.parents (lists_in_memory s.memory) s.levels version pairs
     → answer ≡ page (range pairs lo hi) limit))
 TellsFrom f s (Info version) answer =
     TellsOfVersion s.memory version answer (answer ≡ plain (info_told s.memory version))

@@ -17,7 +17,7 @@ ghost use Rattle.strat_store.specs.Filtering.{AllRefuse, asked_filtered};
 ghost use Rattle.strat_publish.specs.Outcomes.{IsDamagedIn};
 ghost use Rattle.strat_store.specs.Getting.{reply_of_get, MayTellOfKey};
 ghost use Rattle.strat_memory.specs.Held.{IsConsistent, StandsWith};
-ghost use Rattle.strat_memory.specs.Memory.{lists_of};
+ghost use Rattle.strat_memory.specs.Memory.{lists_in_memory};
 ghost use Rattle.strat_cursor.specs.Looking.{levels_there, arrays_there, AreInOrder, AreCachedFrom, LooksThrough, ReadsArrays, arrays_asked};
 ghost use Rattle.strat_memory.specs.RecoveredFields.{held_of};
 
@@ -66,7 +66,7 @@ pub(crate) fn get<D: Disk>(
         (arrays_asked held.now.memory.parents held.now.published.levels version) cache.old
         → is_fault result ≡ false → is_known held.now.memory.parents version ≡ true
         → as_told result out.new ≡ answer_found key.now (asked_filtered f held.now.filters
-        held.now.memory.parents (lists_of held.now.memory)
+        held.now.memory.parents (lists_in_memory held.now.memory)
         (levels_there held.now.published.levels) version key.now) }
     ensures none { is_known held.now.memory.parents version ≡ false
         → (result ≡ reply.Refused why.UnknownVersion) × (disk.new ≡ disk.old) }

@@ -29,7 +29,7 @@ ghost use Rattle.strat_filter.specs.Bits.{may_hold};
 ghost use Rattle.strat_filter.specs.Keys.{IsFilterOf};
 ghost use Rattle.strat_memory.specs.Filters.{AreFiltersOf, LevelFilters};
 ghost use Rattle.strat_memory.specs.Held.{Held, IsConsistent, StandsWith};
-ghost use Rattle.strat_memory.specs.Memory.{lists_of};
+ghost use Rattle.strat_memory.specs.Memory.{lists_in_memory};
 ghost use Rattle.strat_store.specs.Filtering.{KeepsFilter, asked_filtered};
 ghost use Rattle.strat_store.specs.Ranging.{AreReadAs, IsMapAsked, TellsFrom};
 
@@ -58,7 +58,7 @@ pub fn a_scan_and_a_page_tell_of_a_map()
     ensures ok { (f : Image) (s : Held) (v limit : ℕ) (lo hi : List ℕ) (answer : Answer)
         → TellsFrom f s (Scan v lo hi limit) answer → is_known s.memory.parents v ≡ true
         → AreReadAs f s v
-        → (m : Pairs) × IsMapAsked f s.memory.parents (lists_of s.memory) s.levels v m
+        → (m : Pairs) × IsMapAsked f s.memory.parents (lists_in_memory s.memory) s.levels v m
         × (answer ≡ page (range m lo hi) limit) }
     ensures end { (f : Image) (s : Held) (c : HeldCursor) (limit : ℕ) (answer : Answer)
         → TellsFrom f s (NextPairs c.number limit) answer → Contains s.memory.cursors.opened c

@@ -17,7 +17,7 @@ ghost use Rattle.def_publish.specs.Contents.{Contents};
 ghost use Rattle.strat_store.specs.Applying.{is_fault, IsLookedUp, FailsAsTold};
 ghost use Rattle.strat_publish.specs.Outcomes.{IsDamagedIn};
 ghost use Rattle.strat_memory.specs.Held.{IsConsistent, StandsWith};
-ghost use Rattle.strat_memory.specs.Memory.{lists_of};
+ghost use Rattle.strat_memory.specs.Memory.{lists_in_memory};
 ghost use Rattle.strat_store.specs.Ranging.{reply_of_scan, HasPairsFor, IsMapAsked, MayTellOfRange};
 ghost use Rattle.strat_memory.specs.RecoveredFields.{held_of};
 
@@ -64,7 +64,7 @@ pub(crate) fn scan_range<D: Disk>(
         → AreCachedFrom f held.now.published.manifest.next_array
         (arrays_asked held.now.memory.parents held.now.published.levels version) cache.old
         → is_fault result ≡ false → is_known held.now.memory.parents version ≡ true
-        → IsMapAsked f held.now.memory.parents (lists_of held.now.memory)
+        → IsMapAsked f held.now.memory.parents (lists_in_memory held.now.memory)
         held.now.published.levels version m
         → as_told result out.new ≡ page (range m lo.now hi.now) limit }
     ensures none { is_known held.now.memory.parents version ≡ false

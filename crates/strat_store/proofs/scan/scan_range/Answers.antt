@@ -9,7 +9,7 @@ use Rattle.strat_model.specs.declared.replies.Reply.{Reply}
 use Rattle.def_meaning.specs.TableOver.{are_known}
 use Rattle.strat_store.specs.Applying.{is_fault, IsLookedUp}
 use Rattle.strat_store.specs.Ranging.{HasPairs}
-use Rattle.strat_memory.specs.Memory.{lists_of}
+use Rattle.strat_memory.specs.Memory.{lists_in_memory}
 use Rattle.strat_memory.specs.RecoveredFields.{held_of}
 use Rattle.strat_publish.proofs.WholeLemmas.{whole_read}
 use Rattle.strat_store.proofs.RangingLemmas.{few_arrays, finds_range, range_told, damaged_range, none_in_range, unknown_range, known_range, pairs_scanned}
@@ -42,7 +42,7 @@ returns-clause-ok g c = λ x w.
     (sym c.reply_of_scan.ensures.ok)
     (known_range _ _ (held_of c.args.held.now c.args.cache.now) x c.scan-found.new.cache c.args.version c.args.lo.now c.args.hi.now c.args.limit c.scan-found.new.out (c.requires.kept c.args.cache.now) w
     (through_more _ _ _ (arrays_there c.args.held.now.published.levels) _ _ c.scan-found.ensures.same (asked_in_all c.lists.result.3.now.parents c.args.held.now.published.levels c.args.version)) (g.met.D.Disk.leaves_content c.scan-found.new.disk) c.scan-found.result (sym c.has.ensures.ok ∙ c.if-not-has.false)
-    (finds_range _ _ c.args.held.now.memory.parents (lists_of c.args.held.now.memory) c.args.held.now.published.levels c.args.version c.args.lo.now c.args.hi.now c.args.limit c.args.cache.now c.scan-found.new.out c.scan-found.result
+    (finds_range _ _ c.args.held.now.memory.parents (lists_in_memory c.args.held.now.memory) c.args.held.now.published.levels c.args.version c.args.lo.now c.args.hi.now c.args.limit c.args.cache.now c.scan-found.new.out c.scan-found.result
     c.lists.ensures.found.0 (λ i. c.lists.ensures.ok.0 i ∷ c.lists.ensures.ok.1 i) (λ ps. refl) c.scan-found.ensures.ok)
     c.scan-found.ensures.err
     (λ block torn. names_more _ _ (arrays_there c.args.held.now.published.levels) block (asked_in_all c.lists.result.3.now.parents c.args.held.now.published.levels c.args.version) (c.scan-found.ensures.damaged block torn)))
@@ -51,9 +51,9 @@ pub returns-clause-found : goal.returns-clause-found
 returns-clause-found g c = λ f m exposed ordered cached none is asked.
     let may = whole_read (held_of c.args.held.now c.args.cache.now) (c.requires.kept c.args.cache.now) in
     ap (λ (told : Reply). as_told told c.scan-found.new.out) c.reply_of_scan.ensures.ok
-    ∙ range_told _ c.args.held.now.memory.parents (lists_of c.args.held.now.memory) c.args.held.now.published.levels c.args.version c.args.lo.now c.args.hi.now c.args.limit c.args.cache.now c.scan-found.new.out
+    ∙ range_told _ c.args.held.now.memory.parents (lists_in_memory c.args.held.now.memory) c.args.held.now.published.levels c.args.version c.args.lo.now c.args.hi.now c.args.limit c.args.cache.now c.scan-found.new.out
     c.scan-found.result
-    (finds_range _ _ c.args.held.now.memory.parents (lists_of c.args.held.now.memory) c.args.held.now.published.levels c.args.version c.args.lo.now c.args.hi.now c.args.limit c.args.cache.now c.scan-found.new.out c.scan-found.result
+    (finds_range _ _ c.args.held.now.memory.parents (lists_in_memory c.args.held.now.memory) c.args.held.now.published.levels c.args.version c.args.lo.now c.args.hi.now c.args.limit c.args.cache.now c.scan-found.new.out c.scan-found.result
     c.lists.ensures.found.0 (λ i. c.lists.ensures.ok.0 i ∷ c.lists.ensures.ok.1 i) (λ ps. refl) c.scan-found.ensures.ok)
     (ap is_fault (sym c.reply_of_scan.ensures.ok) ∙ none) f _ m exposed ordered may.own cached asked
 
