@@ -342,7 +342,8 @@ impl Memory {
     pub fn find(&self, key: &[u8], version: Version, out: &mut PairBuf) -> Seen
         requires found { version < length self.now.parents }
         requires room { length out.old < PAIRS_MAX }
-        ensures ok { TellsFound (first_live self.now.parents (lists_in_memory self.now) version key.now)
+        ensures ok { TellsFound
+            (first_live self.now.parents (lists_in_memory self.now) version key.now)
             key.now out.old out.new result }
     {
         match find_in(&self.zero, &self.pool, &self.tree, key, version, out) {

@@ -104,4 +104,3 @@ emptied_first mem gone m k now is (inl same) some none =
     absurd (true≢false (sym some ∙ ap (λ (j : Memory). is_some j.sealed) same ∙ ap (λ (o : Option SealedLevel). is_some o) none))
 emptied_first mem gone m k now is (inr same) some none =
     is ∙ ap (λ (j : Memory). record (renewed gone j) { cursors = retired_all gone k.cursors }) same.1 ∙ (λ i. record (emptied mem m) { cursors = sym (ap (λ (j : Memory). j.cursors) is) i })
-

@@ -35,8 +35,8 @@ pub fn a_filter_that_refuses_a_key_spares_its_read()
 
 /// The map of a version has the values of its keys, and no others.
 pub fn the_map_of_a_version_is_asked()
-    ensures ok { IsMapAsked one_block children_apart.memory.parents (lists_in_memory children_apart.memory)
-        children_apart.levels 1 ((97 ∷ [], 49 ∷ []) ∷ []) }
+    ensures ok { IsMapAsked one_block children_apart.memory.parents
+        (lists_in_memory children_apart.memory) children_apart.levels 1 ((97 ∷ [], 49 ∷ []) ∷ []) }
     ensures none { ¬ IsMapAsked one_block children_apart.memory.parents
         (lists_in_memory children_apart.memory) children_apart.levels 1 [] }
     ensures found { (answer : Answer)
