@@ -1,7 +1,7 @@
 -- Level 0, the memtables beside it and the cursors in a pool, as calls change it.
 use Rattle.std.proofs.Common.{◌≡◌, ◌≢◌, ◌≤◌, ◌<◌, ◌+◌, ◌*◌, ℕ, Bool, true, false, cond, eqb, ltb, inl, inr, List, [], ◌∷◌, map, Option, Some, None, Result, Ok, Err, length, refl, sym, ap, ◌∙◌, subst, arith}
 use Rattle.std.specs.List.{AllByRecursion, Contains, count_by, list_all}
-use Rattle.std.specs.Option.{IfSome, option_map, option_to_list}
+use Rattle.std.specs.Option.{IfSome, option_map}
 use Rattle.std.specs.Result.{OnErr, OnOk}
 use Rattle.std.proofs.lemmas.Bool.{cases_eq, eq-eqb, lt-ltb, ltb-true, ne_eqb}
 use Rattle.std.proofs.lemmas.List.{length-map}
@@ -22,7 +22,6 @@ use Rattle.strat_cursor.specs.Pins.{ArePinned, IsListKnown, IsSamePool, SharesFo
 use Rattle.strat_cursor.proofs.PinLemmas.{arenas_stay, shares_moved}
 use Rattle.strat_cursor.proofs.HoldingLemmas.{pool_few, shares_few}
 use Rattle.strat_cursor.proofs.RowLemmas.{pool_pinned, pool_held, tree_pinned}
-use Rattle.strat_cursor.specs.Ranges.{sealed_held}
 use Rattle.def_meaning.specs.TableOver.{are_known}
 use Rattle.strat_memory.specs.Memory.{SealedLevel}
 use Rattle.strat_memory.specs.MemoryFields.{lists_beside, own_arenas, sealed_seen, IsSealedBelow, StandInPool, StandsBeside}

@@ -40,7 +40,6 @@ use Rattle.def_publish.proofs.ListLemmas.{contained_among, among_contained}
 use Rattle.def_publish.proofs.TableLemmas.{same_table}
 use Rattle.def_publish.specs.Contents.{Contents, contents_state}
 use Rattle.def_publish.specs.Next.{arrays_made}
-use Rattle.def_publish.specs.Occupied.{arrays_in}
 use Rattle.def_publish.specs.Standing.{AreFree, LeavesContent, ShowsTable, ContentsStand}
 use Rattle.def_state.specs.Level.{TaggedArray, Level, own_leads, least_live}
 use Rattle.def_state.specs.Sound.{IsSound, is_described, has_ascending_entries}
@@ -57,7 +56,7 @@ use Rattle.strat_cursor.specs.Cursors.{retired_all}
 use Rattle.strat_cursor.specs.Held.{HeldCursors}
 use Rattle.strat_cursor.specs.Looking.{AreCachedFrom, arrays_there}
 use Rattle.strat_memory.specs.Memory.{Memory, IsMemoryOf, IsReadyFrom, emptied, renewed}
-use Rattle.strat_publish.specs.Publishing.{is_in_front, manifest_after}
+use Rattle.strat_publish.specs.Publishing.{is_in_front}
 use Rattle.strat_publish.specs.Settling.{held_next, contents_next, MayFollow, StandApart, WritesBeside, IsReadied, ArePublishedAfter, ArePublishedTo, arrays_taken}
 
 -- a store keeps what it holds as its memory is another of its head, with the cursors that it had

@@ -1,8 +1,8 @@
 -- What a store says of a key: level 0 and its levels answer as its table.
-use Rattle.std.proofs.Common.{◌≡◌, ◌<◌, ◌+◌, ℕ, Bool, true, false, eqb, inl, inr, List, [], ◌∷◌, ◌++◌, length, if◌then◌else◌, Contains, flat_map, Option, Some, None, Result, Ok, Err, IfOk, OnErr, IsErrOf, refl, sym, ap, ◌∙◌, subst, true≢false}
-use Rattle.std.proofs.lemmas.Bool.{ltb-true, eqb-true}
+use Rattle.std.proofs.Common.{◌≡◌, ◌+◌, ℕ, Bool, true, false, eqb, inl, inr, List, [], ◌∷◌, ◌++◌, length, if◌then◌else◌, Contains, flat_map, Option, Some, None, Result, Ok, Err, IfOk, OnErr, IsErrOf, refl, sym, ap, ◌∙◌, subst, true≢false}
+use Rattle.std.proofs.lemmas.Bool.{eqb-true}
 use Rattle.std.proofs.lemmas.List.Elements.{Contains-append_left}
-use Rattle.std.specs.Option.{option_and_then, option_map, option_or}
+use Rattle.std.specs.Option.{option_and_then, option_map}
 use Rattle.strat_array.specs.Kept.{Blocks}
 use Rattle.strat_array.specs.Told.{TheirPairs, TellsFound, AddsPair}
 use Rattle.strat_array.specs.declared.seen.Seen.{Seen}
@@ -25,10 +25,9 @@ use Rattle.strat_model.specs.declared.replies.Refusal.TheVariants as why
 use Rattle.strat_model.specs.declared.replies.Reply.{Reply}
 use Rattle.strat_model.specs.declared.replies.Reply.TheVariants as reply
 use Rattle.strat_promote.specs.Job.{blocks_listed}
-use Rattle.def_recovery.proofs.AskedLemmas.{asked_same}
 use Rattle.def_recovery.proofs.HeadLemmas.{state_with}
 use Rattle.def_recovery.proofs.OpeningLemmas.{map_some, next_some}
-use Rattle.def_recovery.specs.Asked.{on_disk, asked}
+use Rattle.def_recovery.specs.Asked.{asked}
 use Rattle.def_recovery.specs.Head.{descriptors}
 use Rattle.def_recovery.specs.Opening.{state_of}
 use Rattle.def_meaning.specs.StateTable.{table_of}
@@ -38,8 +37,7 @@ use Rattle.def_publish.specs.Contents.{Contents, contents_state}
 use Rattle.def_publish.specs.Standing.{LeavesContent, ContentsStand}
 use Rattle.def_state.specs.Level.{Level}
 use Rattle.def_state.specs.LookUp.{looked_up}
-use Rattle.def_state.specs.Reading.{level_zero}
-use Rattle.def_state.specs.State.{State, versions_of, is_living}
+use Rattle.def_state.specs.State.{State, is_living}
 use Rattle.strat_publish.proofs.LookLawLemmas.{in_order}
 use Rattle.strat_memory.proofs.MemoryLawLemmas.{key_asked, key_unknown, known_of, living_of}
 use Rattle.strat_store.proofs.FilteringLemmas.{AreSilent, are_silent, filtered_agrees}

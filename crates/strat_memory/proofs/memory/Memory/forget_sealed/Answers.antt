@@ -1,7 +1,6 @@
-use Rattle.std.proofs.Common.{◌≡◌, List, Option, None, Some, sym, ap, ◌∙◌, subst, arith}
+use Rattle.std.proofs.Common.{◌≡◌, Option, None, Some, sym, ap, ◌∙◌, subst}
 use Rattle.std.specs.Option.{IfSome, option_map}
-use Rattle.strat_base.specs.Tree.{Parents}
-use Rattle.strat_level.specs.Memtable.{Memtable, entries_held}
+use Rattle.strat_level.specs.Memtable.{entries_held}
 use Rattle.strat_tree.specs.TreeView.{TreeView}
 use Rattle.strat_memory.specs.MemoryFields.{lists_beside, memory_held, sealed_seen, IsSealedBelow, StandInPool}
 use Rattle.strat_memory.specs.declared.memory.Sealed.{Sealed}
