@@ -166,7 +166,7 @@ class DumpTest(BackupCase):
         store = self.small()
         self.written("a.dump", SMALL)
         self.written("one.dump", "# castle dump 1\na\t1\n# end, 1 pair\n")
-        for line, what in (("dump --all @0", "usage: dump [V [FILE] | --all [FILE]]"), ("load --all", "usage: load [--all | --csv | --json-lines] FILE [@V]"),
+        for line, what in (("dump --all @0", "usage: dump [--frames] [V [FILE] | --all [FILE]]"), ("load --all", "usage: load [--all | --csv | --json-lines | --frames] FILE [@V]"),
                            ("load --all a @0", "usage: load [--all |"), ("load a b", "usage: load [--all |"),
                            ("dump --all a b", "usage: dump"), ("load --all none", "none: the file can't be read: No such file"),
                            (f"load {self.folder}/a.dump", "a.dump: line 1 is not that of a dump. `load --all FILE` loads a whole store.")):
