@@ -1,13 +1,18 @@
 """Filters of arrays: how often the file is read for keys that are not in it."""
 
 import os
+import pathlib
 import re
 import shutil
+import tempfile
+import threading
 
-from model import VALUE_MAX, get, put
-from program import PROGRAM, Skipped, StoreFile, Wrong, bytes_of, expect, fed
+from model import DONE, VALUE_MAX, get, put, reply
+from program import DEADLINE, PROGRAM, Skipped, StoreFile, Wrong, bytes_of, close, expect, fed, send, start
 
 STORED, ASKED = 3000, 300  # keys
+FEW, MANY = 40_000, 340_000  # entries
+MEMORY = "/dev/shm"  # a folder where a sync costs nothing
 
 
 def reads_in(folder, store, frames):
@@ -41,6 +46,44 @@ def keys_of_new_arrays_that_are_absent_are_read_seldom(folder):
         raise Wrong(f"{ASKED} keys that are not there cost {beside - alone} reads, and {opened} without filters")
 
 
+def peak_behind_puts(path, count):
+    """Most bytes of memory that a run had until it had answered so many puts of different keys."""
+    child = start(path)
+    guard = threading.Timer(10 * DEADLINE, child.kill)
+    guard.start()
+    puts = b"".join(put(at, b"%07d" % (at * 7919 % count), b"v") for at in range(count))
+    writer = threading.Thread(target=send, args=(child, [puts]))
+    writer.start()
+    try:
+        left = count * len(reply(0, DONE))
+        while left:
+            piece = os.read(child.stdout.fileno(), min(left, 1 << 16))
+            if not piece:
+                raise Wrong(f"the program ended before it had answered {count:,} puts")
+            left -= len(piece)
+        status = pathlib.Path(f"/proc/{child.pid}/status").read_text()
+        return int(re.search(r"^VmHWM:\s+(\d+) kB$", status, re.M)[1]) * 1024
+    finally:
+        guard.cancel()
+        child.kill()
+        child.wait()
+        writer.join()
+        close(child)
+
+
+def filters_take_the_memory_that_is_said(_):
+    if not os.path.exists("/proc/self/status") or not os.access(MEMORY, os.W_OK):
+        raise Skipped(f"no /proc here, or no {MEMORY}, without which it would take minutes")
+    with tempfile.TemporaryDirectory(dir=MEMORY) as folder:
+        peaks = [peak_behind_puts(StoreFile(folder, 64, 2 ** 24, 1).path, count) for count in (FEW, MANY)]
+    # two bytes an entry while a journal is emptied, and 0.2 MB for levels that are more and larger
+    least, most = MANY - FEW, 2 * (MANY - FEW) + 200_000
+    grown = peaks[1] - peaks[0]
+    if not least // 2 < grown <= most:
+        raise Wrong(f"{MANY - FEW:,} entries more take {grown:,} bytes, said are {most:,}, and {least:,} of them for filters that stay")
+
+
 CHECKS = [
     keys_of_new_arrays_that_are_absent_are_read_seldom,
+    filters_take_the_memory_that_is_said,
 ]
