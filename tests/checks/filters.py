@@ -1,14 +1,13 @@
 """Filters of arrays: how often the file is read for keys that are not in it."""
 
 import os
-import pathlib
 import re
 import shutil
 import tempfile
 import threading
 
 from model import DONE, VALUE_MAX, get, put, reply
-from program import DEADLINE, PROGRAM, Skipped, StoreFile, Wrong, bytes_of, close, expect, fed, send, start
+from program import DEADLINE, PROGRAM, Skipped, StoreFile, Wrong, bytes_of, close, expect, fed, memory_of, send, start
 
 STORED, ASKED = 3000, 300  # keys
 FEW, MANY = 40_000, 340_000  # entries
@@ -61,8 +60,7 @@ def peak_behind_puts(path, count):
             if not piece:
                 raise Wrong(f"the program ended before it had answered {count:,} puts")
             left -= len(piece)
-        status = pathlib.Path(f"/proc/{child.pid}/status").read_text()
-        return int(re.search(r"^VmHWM:\s+(\d+) kB$", status, re.M)[1]) * 1024
+        return memory_of(child)
     finally:
         guard.cancel()
         child.kill()
