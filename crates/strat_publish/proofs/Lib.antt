@@ -5,7 +5,6 @@ pub mod PromotingLemmas
 pub mod WritingLemmas
 pub mod ComputingLemmas
 pub mod NextContentsLemmas
-pub mod KeepingLemmas
 pub mod ComputedLemmas
 pub mod WholeLemmas
 pub mod RoomLemmas

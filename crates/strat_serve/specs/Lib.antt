@@ -1,8 +1,5 @@
 pub mod Generated
 pub mod Session
-pub mod Speech
-pub mod Spoken
-pub mod Replying
 pub mod World
 pub mod Tables
 pub mod Pending

@@ -4,8 +4,8 @@ ghost use Rattle.std.specs.Prelude.{◌≡◌, ◌≤◌, ◌<◌, ◌+◌, ◌-
 ghost use Rattle.strat_base.specs.Numbers.{AreBytes};
 ghost use Rattle.def_crash.specs.Moments.{Passes};
 ghost use Rattle.strat_memory.specs.Held.{Held, IsConsistent};
-ghost use Rattle.strat_model.specs.Answer.{refusal};
-ghost use Rattle.strat_model.specs.Request.{Request};
+ghost use Rattle.strat_model.specs.Answer.{plain, refusal};
+ghost use Rattle.strat_model.specs.Run.{Response, response_bytes};
 ghost use Rattle.strat_model.specs.Stream.{IsBody};
 ghost use Rattle.strat_model.specs.declared.ended.Ended.TheVariants as ended;
 ghost use Rattle.strat_model.specs.declared.replies.Refusal.TheVariants as why;
@@ -13,61 +13,81 @@ ghost use Rattle.strat_frame.specs.declared.deframer.Next.TheVariants as next;
 ghost use Rattle.strat_serve.specs.Grouping.{GathersBatch, StagesBody};
 ghost use Rattle.strat_serve.specs.Pending.{SendsAtEnd};
 ghost use Rattle.strat_serve.specs.Progress.{TurnGoesOn, ServesPending, TurnHasCause, TurnsTo, waiting};
-ghost use Rattle.strat_serve.specs.Speech.{Said};
 ghost use Rattle.strat_serve.specs.World.{Streams, beside, world};
 ghost use Rattle.strat_store.specs.Staging.{replies_staged};
 
 use crate::answering::{Buffers, serve_alone};
-use crate::pending::{StagedReplies, end_run, make_room};
-use crate::protocol::Protocol;
+use crate::pending::{end_run, make_room};
+use arrayvec::ArrayVec;
 use strat_base::PairBuf;
 use strat_disk::Disk;
-use strat_frame::{Next, OutBuf};
+use strat_frame::{Next, OutBuf, parse_command, write_reply};
 use strat_io::Sink;
-use strat_model::{Ended, Reply};
+use strat_model::{Ended, Refusal, Reply};
 use strat_store::Store;
 use strat_store::staging_laws::staging_follows_the_table;
 
-/// What is told of the change that was staged last.
-fn last_reply(store: &Store) -> Reply
-    requires fits { store.now.spent ≡ false }
-    requires found { 0 < length store.now.log.batch }
-    ensures found { slice_get (replies_staged store.now) (length store.now.log.batch - 1)
-        ≡ Some result }
+/// Bytes of the replies to a batch: sixteen of 13 each.
+const REPLIES_MAX: usize = 208;
+
+/// Adds bytes to the replies that wait.
+fn keep_bytes(kept: &mut ArrayVec<u8, REPLIES_MAX>, bytes: &[u8])
+    requires { length kept.old.items + length bytes.now ≤ 208 }
+    ensures ok { kept.new.items ≡ kept.old.items ++ bytes.now }
+    ensures len { length kept.new.items ≡ length kept.old.items + length bytes.now }
 {
-    store.staged_reply(store.staged() - 1)
+    kept.try_extend_from_slice(bytes).unwrap();
 }
 
-/// Stages the change that a body asks for, and keeps what is sent for it for later: the body's tag is answered. `None` if it
-/// asks for no change, or for one that may not be staged; then nothing has changed.
-fn stage_body<P: Protocol>(
-    protocol: &P,
+/// Adds the reply to the change that was staged last to those that wait, and says what it tells.
+fn keep_reply(
+    store: &Store,
+    tag: u32,
+    pairs: &mut PairBuf,
+    out: &mut OutBuf,
+    kept: &mut ArrayVec<u8, REPLIES_MAX>,
+) -> Reply
+    requires fits { store.now.spent ≡ false }
+    requires found { 0 < length store.now.log.batch }
+    requires room { length kept.old.items + 13 ≤ 208 }
+    ensures found { slice_get (replies_staged store.now) (length store.now.log.batch - 1)
+        ≡ Some result }
+    ensures ok { kept.new.items
+        ≡ kept.old.items ++ response_bytes (record { tag = tag; answer = plain result }) }
+    ensures len { length kept.new.items ≤ length kept.old.items + 13 }
+{
+    pairs.clear();
+    out.clear();
+    let told = store.staged_reply(store.staged() - 1);
+    write_reply(tag, &told, pairs, out);
+    keep_bytes(kept, out.bytes());
+    told
+}
+
+/// Stages the change that a body asks for, and keeps its reply for later: the body's tag is answered. `None` if it asks
+/// for no change, or for one that may not be staged; then nothing has changed.
+fn stage_body(
     store: &mut Store,
     body: &[u8],
     pairs: &mut PairBuf,
     out: &mut OutBuf,
-    kept: &mut StagedReplies,
+    kept: &mut ArrayVec<u8, REPLIES_MAX>,
 ) -> Option<u32>
     requires fits { store.old.spent ≡ false }
-    requires room { length kept.old ≤ 1295 * length store.old.log.batch }
-    ensures ok { IfSome result (λ tag. (said : Said) × (said.tag ≡ tag)
-        × StagesBody P.speech store.old body.now said store.new
-        × (kept.new ≡ kept.old ++ said.sent)) }
+    requires room { length kept.old.items ≤ 13 * length store.old.log.batch }
+    ensures ok { IfSome result (λ tag. (response : Response) × (response.tag ≡ tag)
+        × StagesBody store.old body.now response store.new
+        × (kept.new.items ≡ kept.old.items ++ response_bytes response)) }
     ensures none { IfNone result ((store.new ≡ store.old)
-        × (kept.new ≡ kept.old)) }
-    ensures room { length kept.new ≤ 1295 * length store.new.log.batch }
+        × (kept.new.items ≡ kept.old.items)) }
+    ensures room { length kept.new.items ≤ 13 * length store.new.log.batch }
     ensures state { store.new.spent ≡ false }
 {
-    let changes = store.changes();
-    let Some((tag, command)) = protocol.ask(changes, body, pairs, out) else {
+    let Ok((tag, command)) = parse_command(body) else {
         return None;
     };
     if store.stage(&command) {
-        let reply = last_reply(store);
-        pairs.clear();
-        out.clear();
-        protocol.tell(changes, tag, &command, &reply, pairs, out);
-        kept.keep(out.bytes());
+        keep_reply(store, tag, pairs, out, kept);
         return Some(tag);
     }
     None
@@ -75,13 +95,17 @@ fn stage_body<P: Protocol>(
 
 /// Stages the changes of the frames that are held, one after the other. Answers what ended that: a body that is not
 /// staged, the end of what is held, or a frame that is too long.
-fn stage_frames<P: Protocol>(protocol: &P, store: &mut Store, buffers: &mut Buffers) -> Next
+fn stage_frames(
+    store: &mut Store,
+    buffers: &mut Buffers,
+    kept: &mut ArrayVec<u8, REPLIES_MAX>,
+) -> Next
     requires fits { store.old.spent ≡ false }
-    requires room { length buffers.old.staged ≤ 1295 * length store.old.log.batch }
-    ensures ok { GathersBatch P.speech store.old store.new buffers.old.frames buffers.new.frames
-        result buffers.old.staged buffers.new.staged }
+    requires room { length kept.old.items ≤ 13 * length store.old.log.batch }
+    ensures ok { GathersBatch store.old store.new buffers.old.frames buffers.new.frames result
+        kept.old.items kept.new.items }
     ensures fits { AreBytes buffers.new.frames.held }
-    ensures room { length buffers.new.staged ≤ 1295 * length store.new.log.batch }
+    ensures room { length kept.new.items ≤ 13 * length store.new.log.batch }
     ensures same { buffers.new.pending ≡ buffers.old.pending }
     ensures state { store.new.spent ≡ false }
 {
@@ -89,12 +113,11 @@ fn stage_frames<P: Protocol>(protocol: &P, store: &mut Store, buffers: &mut Buff
         match buffers.frames.next() {
             Next::Frame => {
                 let staged = stage_body(
-                    protocol,
                     store,
                     buffers.frames.body(),
                     &mut buffers.pairs,
                     &mut buffers.out,
-                    &mut buffers.staged,
+                    kept,
                 );
                 if staged.is_none() {
                     return Next::Frame;
@@ -107,20 +130,17 @@ fn stage_frames<P: Protocol>(protocol: &P, store: &mut Store, buffers: &mut Buff
 
 /// Ends a run at a batch that the device failed: answers so under the tag of its first change, behind the replies that are
 /// pending. Says how the run ends.
-fn refuse_batch<P: Protocol, K: Sink>(
-    protocol: &P,
-    sink: &mut K,
-    changes: u32,
-    tag: u32,
-    buffers: &mut Buffers,
-) -> Ended
+fn refuse_batch<K: Sink>(sink: &mut K, tag: u32, buffers: &mut Buffers) -> Ended
     requires len { buffers.old.pending.count + 1 ≤ 16 }
     requires room { length buffers.old.pending.bytes ≤ 65536 }
-    ensures { (r : Request) → SendsAtEnd ended.Device result (K.held sink.old) (K.held sink.new)
+    ensures { SendsAtEnd ended.Device result (K.held sink.old) (K.held sink.new)
         (K.faults sink.old) (K.faults sink.new) (buffers.old.pending.bytes
-        ++ P.speech.tells changes tag r (refusal why.DeviceFault)) }
+        ++ response_bytes (record { tag = tag; answer = refusal why.DeviceFault })) }
 {
-    protocol.tell_fault(changes, tag, &mut buffers.pairs, &mut buffers.out);
+    buffers.out.clear();
+    buffers.pairs.clear();
+    let reply = Reply::Refused(Refusal::DeviceFault);
+    write_reply(tag, &reply, &buffers.pairs, &mut buffers.out);
     buffers.pending.keep(buffers.out.bytes(), 1);
     end_run(sink, &mut buffers.pending, Ended::Device)
 }
@@ -129,8 +149,7 @@ fn refuse_batch<P: Protocol, K: Sink>(
 /// most. Two writes and two syncs, whatever their number. Their replies are pending once they are durable. Answers what
 /// comes after them, or how the run ends. If the device fails, DeviceFault is sent to the first change alone. `None`: the
 /// body in the buffer is not staged, and nothing has changed.
-fn serve_group<P: Protocol, K: Sink, D: Disk>(
-    protocol: &P,
+fn serve_group<K: Sink, D: Disk>(
     store: &mut Store,
     buffers: &mut Buffers,
     sink: &mut K,
@@ -141,12 +160,11 @@ fn serve_group<P: Protocol, K: Sink, D: Disk>(
     requires len { IsBody buffers.old.frames.body }
     requires room { AreBytes buffers.old.frames.held }
     ensures ok { IfSome result (λ turn. (start : Held) (count budget : ℕ) (x y : Streams) (d : D)
-        → count ≤ budget → ServesPending P.speech start store.old count
+        → count ≤ budget → ServesPending start store.old count
         (waiting next.Frame buffers.old.frames) buffers.old.pending
         (beside x (D.view d)) (world y.left y.source_faults (K.held sink.old) (K.faults sink.old)
         (D.view disk.old) (D.faults disk.old))
-        → TurnsTo P.speech turn start store.new count budget
-        buffers.new.frames buffers.new.pending
+        → TurnsTo turn start store.new count budget buffers.new.frames buffers.new.pending
         (beside x (D.view d)) (world y.left y.source_faults (K.held sink.new) (K.faults sink.new)
         (D.view disk.new) (D.faults disk.new))) }
     ensures kept { IfSome result (λ turn.
@@ -161,33 +179,30 @@ fn serve_group<P: Protocol, K: Sink, D: Disk>(
         (world y.left y.source_faults (K.held sink.new) (K.faults sink.new)
         (D.view disk.new) (D.faults disk.new))) }
 {
-    buffers.staged.clear();
-    let before = store.changes();
+    let mut kept = ArrayVec::new();
     let first = stage_body(
-        protocol,
         store,
         buffers.frames.body(),
         &mut buffers.pairs,
         &mut buffers.out,
-        &mut buffers.staged,
+        &mut kept,
     )?;
-    let met = stage_frames(protocol, store, buffers);
+    let met = stage_frames(store, buffers, &mut kept);
     let many = store.staged();
     let Ok(()) = make_room(sink, &mut buffers.pending, many) else {
         return Some(Err(Ended::Sink));
     };
     staging_follows_the_table::<D>();
     if store.commit(disk).is_err() {
-        return Some(Err(refuse_batch(protocol, sink, before, first, buffers)));
+        return Some(Err(refuse_batch(sink, first, buffers)));
     }
-    buffers.pending.keep(buffers.staged.bytes(), many);
+    buffers.pending.keep(kept.as_slice(), many);
     Some(Ok(met))
 }
 
 /// Serves the frame in the buffer: together with the changes of frames held after it, or alone. Its reply is pending then,
 /// as those are to the frames before it, sixteen at most. Answers what comes next, or how the run ends.
-pub(crate) fn serve_turn<P: Protocol, K: Sink, D: Disk>(
-    protocol: &P,
+pub(crate) fn serve_turn<K: Sink, D: Disk>(
     store: &mut Store,
     buffers: &mut Buffers,
     sink: &mut K,
@@ -198,12 +213,11 @@ pub(crate) fn serve_turn<P: Protocol, K: Sink, D: Disk>(
     requires len { IsBody buffers.old.frames.body }
     requires room { AreBytes buffers.old.frames.held }
     ensures ok { (start : Held) (count budget : ℕ) (x y : Streams) (d : D)
-        → count ≤ budget → ServesPending P.speech start store.old count
+        → count ≤ budget → ServesPending start store.old count
         (waiting next.Frame buffers.old.frames) buffers.old.pending
         (beside x (D.view d)) (world y.left y.source_faults (K.held sink.old) (K.faults sink.old)
         (D.view disk.old) (D.faults disk.old))
-        → TurnsTo P.speech result start store.new count budget
-        buffers.new.frames buffers.new.pending
+        → TurnsTo result start store.new count budget buffers.new.frames buffers.new.pending
         (beside x (D.view d)) (world y.left y.source_faults (K.held sink.new) (K.faults sink.new)
         (D.view disk.new) (D.faults disk.new)) }
     ensures kept { TurnGoesOn result store.new buffers.old.frames buffers.new.frames }
@@ -214,8 +228,8 @@ pub(crate) fn serve_turn<P: Protocol, K: Sink, D: Disk>(
         (world y.left y.source_faults (K.held sink.new) (K.faults sink.new)
         (D.view disk.new) (D.faults disk.new)) }
 {
-    match serve_group(protocol, store, buffers, sink, disk) {
+    match serve_group(store, buffers, sink, disk) {
         Some(turn) => turn,
-        None => serve_alone(protocol, store, buffers, sink, disk),
+        None => serve_alone(store, buffers, sink, disk),
     }
 }

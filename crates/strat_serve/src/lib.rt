@@ -9,12 +9,8 @@ mod generating;
 mod grouping;
 pub mod laws;
 mod pending;
-mod protocol;
-mod replying;
 mod serving;
 pub mod workloads;
 
 pub use generating::{GenSource, NullSink};
-pub use protocol::Protocol;
-pub use replying::Replies;
-pub use serving::{serve, serve_by};
+pub use serving::serve;

@@ -1,4 +1,3 @@
-pub mod Filtering
 pub mod Getting
 pub mod Ranging
 pub mod Staging
