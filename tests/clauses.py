@@ -36,6 +36,8 @@ CLAUSES = {
     "state": ("what an object is afterwards", r"\.new\b|\bstage\b"),
     "disk": ("what the device holds afterwards", r"\bdisk\.new\b"),
     "cursors": ("what became of the cursors", r"[Cc]ursors"),
+    "filter": ("what became of the filter of an array", r"[Ff]ilter"),
+    "filters": ("of which keys the filters of arrays are", r"[Ff]ilter"),
 }
 CLAUSES_MOST = 12  # of one function
 

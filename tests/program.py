@@ -7,6 +7,7 @@ import hashlib
 import itertools
 import os
 import pathlib
+import re
 import subprocess
 import sys
 import tempfile
@@ -94,6 +95,12 @@ PIPES = {"stdin": subprocess.PIPE, "stdout": subprocess.PIPE, "stderr": subproce
 
 def start(path, program=PROGRAM):
     return subprocess.Popen([program, "serve", path], **PIPES)
+
+
+def memory_of(child):
+    """Most bytes of memory that a run has had so far."""
+    status = pathlib.Path(f"/proc/{child.pid}/status").read_text()
+    return int(re.search(r"^VmHWM:\s+(\d+) kB$", status, re.M)[1]) * 1024
 
 
 def close(child):

@@ -468,10 +468,31 @@ class NotFresh(CastleError):
 
 
 class NotSound(CastleError):
-    """A script's line `check` found that its store is not sound."""
+    """A script's line `check` found that its store is not sound, or a backup that its copy is not."""
 
     what = "the store's file is not sound"
     remedy = "`castle-shell FILE check` says what fails, and what to do."
+
+
+class Unreadable(CastleError):
+    """Nothing can be salvaged: the program opens no store that has such a superblock, journal or manifest."""
+
+    what = "nothing can be read"
+    remedy = "Restore a copy of the file. Keep the file as it is, and look for the cause."
+
+
+class Doubtful(CastleError):
+    """A salvage of a file that breaks a rule of a sound store. Nothing was made."""
+
+    what = "the file breaks a rule of a sound store"
+    remedy = "Any pair may be wrong, so restore a copy that is sound. If there is none, --doubtful salvages what the file shows."
+
+
+class SomethingLost(CastleError):
+    """A script's line `salvage` made a new store, and something is lost or in doubt."""
+
+    what = "something is lost or in doubt; the new store has the rest"
+    remedy = "The lines before this one say what."
 
 
 class NamesWarning(UserWarning):

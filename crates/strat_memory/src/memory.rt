@@ -66,7 +66,7 @@ impl Model for Memory {
     ghost invariant = { IsInMemory };
 }
 
-/// Makes a version of each of these, a child of it.
+/// Makes a version of each of these, a child of it, and numbers all versions that there are then.
 fn grow(tree: &mut Tree, parents: &[u32])
     requires fits { IsTrue (are_older 1 parents.now) }
     requires room { 1 + length parents.now ≤ tree.old.versions_max }
@@ -79,10 +79,11 @@ fn grow(tree: &mut Tree, parents: &[u32])
     for p in parents {
         tree.add_child(*p);
     }
+    tree.number();
 }
 
 impl Memory {
-    /// Memory of a new store. It takes 1.3 KB for each of `mem` updates and 75 bytes for each version
+    /// Memory of a new store. It takes 1.3 KB for each of `mem` updates and 83 bytes for each version
     /// that there may be; the only error is want of memory. Of the other calls `prepare`, `open_cursor` and
     /// `reserve_retired` alone take any.
     pub fn new(
@@ -338,13 +339,14 @@ impl Memory {
     }
 
     /// Puts the next level 0, which stands ready, in the place of level 0, whose memory is given back unless a
-    /// cursor shares it. It takes no memory and cannot fail.
+    /// cursor shares it, and numbers the versions. It takes no memory and cannot fail. O(versions).
     pub fn restart(&mut self)
         requires found { IsTrue (is_some self.old.ready) }
         ensures ok { (mem : ℕ) → self.old.ready ≡ Some mem → self.new ≡ emptied mem self.old }
     {
         if let Some(next) = self.next.take() {
             mem::replace(&mut self.zero, next).release(&mut self.pool);
+            self.tree.number();
         }
     }
 

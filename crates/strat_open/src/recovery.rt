@@ -1,6 +1,6 @@
 //! Recovering a store over levels: what its manifest and its journal say is taken into memory.
 
-ghost use Rattle.std.specs.Prelude.{◌≡◌, ◌≢◌, ◌≤◌, ◌<◌, ◌+◌, ◌-◌, ◌*◌, ℕ, [], length, map, fold, Ok, Err, Some, None, IfOk, IfErr, OnOk, IsErrOf, IsTrue, false, ◌↔◌, is_some};
+ghost use Rattle.std.specs.Prelude.{◌≡◌, ◌≢◌, ◌≤◌, ◌<◌, ◌+◌, ◌-◌, ◌*◌, ℕ, [], length, map, fold, replicate, Ok, Err, Some, None, IfOk, IfErr, OnOk, IsErrOf, IsTrue, false, ◌↔◌, is_some};
 ghost use Rattle.std.specs.List.{list_all};
 ghost use Rattle.strat_array.specs.Kept.{Blocks};
 ghost use Rattle.strat_base.specs.Change.{is_lawful};
@@ -24,6 +24,7 @@ ghost use Rattle.def_publish.specs.Several.{EachShows, ShowsOneOf};
 ghost use Rattle.def_publish.specs.Standing.{ReadsAs, ShowsTable, ContentsStand};
 ghost use Rattle.def_state.specs.Sound.{are_accepted};
 ghost use Rattle.strat_open.specs.Following.{IsOpenedAs, IsUnchanged, LeavesOpening};
+ghost use Rattle.strat_memory.specs.Filters.{no_filters};
 ghost use Rattle.strat_memory.specs.Held.{IsConsistent, IsLogBehind};
 ghost use Rattle.strat_memory.specs.Memory.{refusal_of_change, memory_after, HasRoomFor, IsMemoryOf};
 ghost use Rattle.strat_memory.specs.Admitting.{chained_of, IsAdmitted};
@@ -38,6 +39,7 @@ use strat_disk::Disk;
 use strat_gate::{SuperBlock, newest};
 use strat_journal::{Journal, Logged, close_region};
 use strat_memory::admitting::{Published, admit};
+use strat_memory::filters::Filters;
 use strat_memory::memory::Memory;
 use strat_memory::open_store::OpenStore;
 
@@ -228,6 +230,7 @@ fn recover_at<D: Disk>(
     ensures kept { IfOk result (λ r. (cached : Blocks) → IsConsistent (held_of r cached)) }
     ensures ok { IfOk result (λ r. r.sb ≡ sb) }
     ensures cursors { IfOk result (λ r. r.memory.cursors ≡ no_cursors) }
+    ensures filters { IfOk result (λ r. r.filters ≡ replicate 22 no_filters) }
     ensures damaged { (block : ℕ) → IsErrOf result (Damaged block) → (f : Image)
         → Exposes (D.view disk.old) f → recover_head f (super_of sb) ≡ Err block }
     ensures same { OnlyReads (D.view disk.old) (D.view disk.new) }
@@ -246,6 +249,7 @@ fn recover_at<D: Disk>(
         published,
         journal,
         memory,
+        filters: Filters::new(alloc),
     })
 }
 
@@ -258,6 +262,7 @@ pub(crate) fn recover_store<D: Disk>(alloc: Global, disk: &mut D) -> Result<Open
         → IsRecoveredFrom f r) }
     ensures kept { IfOk result (λ r. (cached : Blocks) → IsConsistent (held_of r cached)) }
     ensures cursors { IfOk result (λ r. r.memory.cursors ≡ no_cursors) }
+    ensures filters { IfOk result (λ r. r.filters ≡ replicate 22 no_filters) }
     ensures none { IsErrOf result fault.NotAStore → (f : Image)
         → Exposes (D.view disk.old) f → recover f ≡ Ok None }
     ensures damaged { (block : ℕ) → IsErrOf result (fault.Damaged block) → (f : Image)

@@ -38,9 +38,12 @@ use Rattle.def_publish.specs.Standing.{ContentsStand, LeavesContent}
 use Rattle.def_state.specs.Sound.{IsSound}
 use Rattle.def_state.specs.State.{State, IsPaid}
 use Rattle.strat_cursor.specs.Looking.{arrays_there}
+use Rattle.strat_memory.proofs.FilterLemmas.{filtered_after}
+use Rattle.strat_memory.specs.Filters.{LevelFilters, AreFiltersOn}
 use Rattle.strat_memory.specs.Memory.{Memory}
 use Rattle.strat_publish.specs.Promoting.{HoldInMemory, IsPromotedTo}
 use Rattle.strat_publish.specs.Publishing.{MayBeWritten, MayCompute, IsComputedBy, IsWrittenBeside, IsWrittenTo, manifest_after, contents_after, descs_to, descs_behind}
+use Rattle.strat_publish.proofs.KeepingLemmas.{fresh_filtered, fresh_numbered}
 use Rattle.strat_publish.proofs.NextContentsLemmas.{after_next, computed, next_here, numbers_rise}
 use Rattle.strat_publish.proofs.WritingLemmas.{space_written}
 
@@ -165,7 +168,9 @@ module _ (v : DiskView) (s : SpaceView) (m : Memory) (levels : List (Option Leve
     -- and where it was, they are computed
     module _ (u : DiskView) (t r : SpaceView) (first size : ℕ) (chain : List Extent) (taken : UsesMore s (extents_of (arrays_made made)) t) (writing : TearsBlocks (is_free t) w u) (marked : IsMarked t chain r)
         (after : LeavesContent u) (manifest : Manifest) (manifest_is : manifest ≡ manifest_after old m target made)
-        (stored : IsSome w.content → (g : Image) → Exposes u g → (new : Contents) → IsWrittenTo first size chain manifest new → HasManifest g new) where
+        (stored : IsSome w.content → (g : Image) → Exposes u g → (new : Contents) → IsWrittenTo first size chain manifest new → HasManifest g new)
+        (low : 1 ≤ target) (filters : LevelFilters)
+        (keeps : (f g : Image) (st : State) → Exposes v f → Exposes w g → IsSound st → st.mem ≡ mem → HoldInMemory f st m levels → AreUsed s (blocks_listed (arrays_there levels)) → AreFiltersOn g (arrays_made made) filters) where
       abbrev later : Contents
       later = new first size (blocks_of chain)
 
@@ -202,7 +207,7 @@ module _ (v : DiskView) (s : SpaceView) (m : Memory) (levels : List (Option Leve
           some_told None g e = absurd (cc)
           some_told (Some h) g e = refl
 
-      pub computed_by : IsComputedBy u r x m log target made first size chain others
+      pub computed_by : IsComputedBy u r x m log target made first size chain others filters
       computed_by = record {
         levels = made_here.says.fresh ++ levels_behind target x.levels;
         computed = computed v w u s t r x later target made others (may.chain ++ (extents_of (arrays_in (descs_to target x.chained.manifest.levels)) ++ others)) beside rising log may.log_is;
@@ -217,4 +222,9 @@ module _ (v : DiskView) (s : SpaceView) (m : Memory) (levels : List (Option Leve
             subst IsPaid
             ((λ i. promoted (contents_state x) (same i ++ levels_behind target x.levels) (x.chained.manifest.written + sum i) later.chained.manifest.next_array) ∙ sym state)
             (p.paid later.chained.manifest.next_array);
+        filtered = λ before of.
+            let on : AreFiltersOn at.content (arrays_made made) filters = keeps f at.content (contents_state x) may.stands.exposed at.exposed may.stands.sound mem_is holds used in
+            filtered_after before target filters low made_here.says.fresh x.levels of
+            (fresh_numbered at.content made made_here.says.fresh made_here.says.read target made_here.numbered)
+            (fresh_filtered at.content made made_here.says.fresh made_here.says.read filters on);
       }

@@ -5,6 +5,7 @@ pub mod PromotingLemmas
 pub mod WritingLemmas
 pub mod ComputingLemmas
 pub mod NextContentsLemmas
+pub mod KeepingLemmas
 pub mod ComputedLemmas
 pub mod WholeLemmas
 pub mod RoomLemmas

@@ -49,6 +49,7 @@ use Rattle.strat_publish.proofs.KeptLemmas.{array_named, held_behind, kept_next,
 use Rattle.strat_publish.proofs.RetiringLemmas.{retired_room}
 use Rattle.strat_publish.proofs.SettlingLemmas.{listed_arrays, named_there}
 use Rattle.strat_publish.specs.Outcomes.{IsDamagedIn, IsPublishedAs}
+use Rattle.strat_memory.specs.Filters.{LevelFilters, filters_after}
 use Rattle.strat_memory.specs.Held.{Held, AreKept, ArePlaced, IsConsistent, StandsWith, arrays_held, contents_held, head_held}
 use Rattle.strat_cursor.specs.Cursors.{retired_all}
 use Rattle.strat_cursor.specs.Held.{HeldCursors}
@@ -92,7 +93,7 @@ consistent_ready s o n m is whole =
     }
 
 pub stands_ready : (v : DiskView) (s : Held) (x : Contents) (m : Memory) → StandsWith v s x → StandsWith v (record s { memory = m }) x
-stands_ready v s x m w = record { stands = w.stands; held = w.held; cached = w.cached }
+stands_ready v s x m w = record { stands = w.stands; held = w.held; cached = w.cached; filtered = w.filtered }
 
 pub damaged_ready : (content : Option Image) (m k : Memory) (o : Option ℕ) (n : ℕ) (levels : List (Option LevelDesc)) (b : ℕ) → k ≡ prepared m o n → IsDamagedIn content k levels b → IsDamagedIn content m levels b
 damaged_ready content m k o n levels b is bad =
@@ -122,14 +123,16 @@ pub agree_once : (v : DiskView) (f g : Image) (blocks : List ℕ) → Exposes v 
 agree_once v f g blocks was now b of = subst (λ (h : Image). KeepsBlock b f h) (exposed_once v f g was now) (keeps_refl b f)
 
 -- what a promotion leaves, with memory prepared
-published_after : (target : ℕ) (s sb here : Super) (m next there : Manifest) (memory ready now : Memory) (o : Option ℕ) (n : ℕ) → ready ≡ prepared memory o n → here ≡ sb → there ≡ next
-    → now ≡ renewed s.mem (arrays_taken target m) ready → ArePublishedTo target s m ready sb next → ArePublishedAfter s m memory here there now.cursors
-published_after target s sb here m next there memory ready now o n same sb_is next_is now_is is =
+published_after : (target : ℕ) (s sb here : Super) (m next there : Manifest) (memory ready now : Memory) (filters left : List LevelFilters) (made : LevelFilters) (o : Option ℕ) (n : ℕ) → 1 ≤ target → ready ≡ prepared memory o n → here ≡ sb → there ≡ next
+    → now ≡ renewed s.mem (arrays_taken target m) ready → left ≡ filters_after filters target made → ArePublishedTo target s m ready sb next → ArePublishedAfter s m memory filters here there now.cursors left
+published_after target s sb here m next there memory ready now filters left made o n low same sb_is next_is now_is left_is is =
     let gone : List ArrayDesc = arrays_taken target m in
     let cursors : now.cursors ≡ record (retired_all gone memory.cursors) { room = n } =
     ap (λ (k : Memory). k.cursors) now_is ∙ ap (λ (k : Memory). retired_all gone k.cursors) same ∙ retired_room gone memory.cursors n in
     record {
       target = target;
+      made = made;
+      low = low;
       are = record {
         made = is.made;
         first = is.first;
@@ -139,6 +142,7 @@ published_after target s sb here m next there memory ready now o n same sb_is ne
         sb_is = sb_is ∙ is.sb_is;
       };
       cursors_are = cursors ∙ (λ i. record (retired_all gone memory.cursors) { room = sym (ap (λ (c : HeldCursors). c.room) cursors) i });
+      filters_are = left_is;
     }
 
 -- while free blocks are written
@@ -182,6 +186,7 @@ stands_beside v w s x stands beside leaves =
             λ b here.
                 beside.tears.content stands.stands.content now.content stands.stands.exposed now.exposed b (beside.beside.unnamed b (array_named s a b of here)),
           )) stands.cached;
+      filtered = stands.filtered;
     }
 
 -- no block of an array that a store holds is free
@@ -231,7 +236,7 @@ made_among (Some l) level a (inl here) there = subst (λ (d : LevelDesc). Among 
 made_among (Some l) level a (inr none) there = absurd none
 
 -- the arrays of the next contents are new, or the old ones have them
-module _ (w : DiskView) (s : Held) (x : Contents) (held : x ≡ contents_held s x.levels) (sb : Super) (chained : Chained) (ready : IsReadied w s x sb chained) where
+module _ (w : DiskView) (s : Held) (x : Contents) (held : x ≡ contents_held s x.levels) (sb : Super) (chained : Chained) (filters : List LevelFilters) (ready : IsReadied w s x sb chained filters) where
   pub next_arrays : (a : ArrayDesc) → Among a (descriptors chained.manifest) → (s.chained.manifest.next_array ≤ a.id) ⊎ Among a (descriptors s.chained.manifest)
   next_arrays a among =
       let c = ready.computed in
@@ -258,9 +263,9 @@ module _ (w : DiskView) (s : Held) (x : Contents) (held : x ≡ contents_held s 
       omega (arith, more, same)
 
 -- once the next contents stand, the store stands with them
-pub published_as : (v w u : DiskView) (s : Held) (x : Contents) (target : ℕ) (sb : Super) (chained : Chained) (levels : List (Option LevelDesc)) → IsConsistent s → StandsWith v s x → WritesBeside v w s
-    → (ready : IsReadied w s x sb chained) → TearsBlocks (is_in_front s.sb.mem) w u → ContentsStand u (contents_next s sb chained ready.levels) → IsPublishedAs u x (held_next s target sb chained levels)
-published_as v w u s x target sb chained levels whole stands beside ready front now =
+pub published_as : (v w u : DiskView) (s : Held) (x : Contents) (target : ℕ) (sb : Super) (chained : Chained) (levels : List (Option LevelDesc)) (made : LevelFilters) → IsConsistent s → StandsWith v s x → WritesBeside v w s
+    → (ready : IsReadied w s x sb chained (filters_after s.filters target made)) → TearsBlocks (is_in_front s.sb.mem) w u → ContentsStand u (contents_next s sb chained ready.levels) → IsPublishedAs u x (held_next s target sb chained levels made)
+published_as v w u s x target sb chained levels made whole stands beside ready front now =
     let torn = both_torn v w u s s.sb.mem beside front in
     let f : Image = stands.stands.content in
     record {
@@ -269,8 +274,8 @@ published_as v w u s x target sb chained levels whole stands beside ready front 
         stands = now;
         held = refl;
         cached = cached_on f now.content s.chained.manifest.next_array chained.manifest.next_array (descriptors s.chained.manifest) (descriptors chained.manifest) s.cached
-            (next_later w s x stands.held sb chained ready)
-            (λ a of. elim (next_arrays w s x stands.held sb chained ready a (contained_among (descriptors chained.manifest) a of)) [
+            (next_later w s x stands.held sb chained (filters_after s.filters target made) ready)
+            (λ a of. elim (next_arrays w s x stands.held sb chained (filters_after s.filters target made) ready a (contained_among (descriptors chained.manifest) a of)) [
               | inl new ↦ inl new
               | inr was ↦
                   let there : Contains (descriptors s.chained.manifest) a = among_contained (descriptors s.chained.manifest) a was in
@@ -284,6 +289,7 @@ published_as v w u s x target sb chained levels whole stands beside ready front 
                   )
             ])
             stands.cached;
+        filtered = ready.filtered;
       };
       table = same_table (contents_state x) (contents_state (contents_next s sb chained ready.levels)) ready.computed.says;
     }
@@ -313,10 +319,10 @@ versions_back h =
     ap (λ (ps : Parents). None ∷ map (λ p. Some p) (parent_numbers ps)) grown.1 ∙ ap (λ (ns : List ℕ). None ∷ map (λ p. Some p) ns) (numbers_of grown.0) ∙ sym grown.1
 
 -- what a store holds after a publication is consistent
-pub consistent_next : (s : Held) (target : ℕ) (sb : Super) (chained : Chained) (levels : List (Option LevelDesc)) → IsConsistent s → MayFollow s sb chained
+pub consistent_next : (s : Held) (target : ℕ) (sb : Super) (chained : Chained) (levels : List (Option LevelDesc)) (made : LevelFilters) → IsConsistent s → MayFollow s sb chained
     → ArePublishedTo target s.sb s.chained.manifest s.memory sb chained.manifest → is_lawful_manifest newest_format chained.manifest ≡ true → belongs sb chained ≡ true
-    → ArePlaced chained.manifest.levels levels → StandApart target s chained → IsConsistent (held_next s target sb chained levels)
-consistent_next s target sb chained levels whole follows are spelled belonging placed apart =
+    → ArePlaced chained.manifest.levels levels → StandApart target s chained → IsConsistent (held_next s target sb chained levels made)
+consistent_next s target sb chained levels made whole follows are spelled belonging placed apart =
     let h : Head = head_held s in
     let new : Head = record { sb = sb; manifest = chained.manifest; journal = [] } in
     let versions : head_versions new ≡ head_versions h =
@@ -402,14 +408,14 @@ emptied_next mem gone m k now o n is ready =
     is ∙ ap (λ (j : Memory). record (emptied mem j) { cursors = retired_all gone k.cursors }) ready ∙ (λ i. record (emptied mem m) { cursors = sym (ap (λ (j : Memory). j.cursors) is) i })
 
 -- and what is found of a store after a publication
-pub found_next : (s t : Held) (m : Memory) (o : Option ℕ) (n target : ℕ) (sb : Super) (chained : Chained) (levels : List (Option LevelDesc)) → m ≡ prepared s.memory o n
-    → t ≡ held_next (record s { memory = m }) target sb chained levels → ArePublishedTo target s.sb s.chained.manifest m sb chained.manifest
-    → (t.slot ≡ 1 - s.slot) × ArePublishedAfter s.sb s.chained.manifest s.memory t.sb t.chained.manifest t.memory.cursors × (t.log.list ≡ [])
+pub found_next : (s t : Held) (m : Memory) (o : Option ℕ) (n target : ℕ) (sb : Super) (chained : Chained) (levels : List (Option LevelDesc)) (made : LevelFilters) → m ≡ prepared s.memory o n
+    → 1 ≤ target → t ≡ held_next (record s { memory = m }) target sb chained levels made → ArePublishedTo target s.sb s.chained.manifest m sb chained.manifest
+    → (t.slot ≡ 1 - s.slot) × ArePublishedAfter s.sb s.chained.manifest s.memory s.filters t.sb t.chained.manifest t.memory.cursors t.filters × (t.log.list ≡ [])
     × (t.memory ≡ record (emptied s.sb.mem s.memory) { cursors = t.memory.cursors })
-found_next s t m o n target sb chained levels same is are =
+found_next s t m o n target sb chained levels made same low is are =
     let memory : t.memory ≡ renewed s.sb.mem (arrays_taken target s.chained.manifest) m = ap (λ (h : Held). h.memory) is in (
       ap (λ (h : Held). h.slot) is,
-      published_after target s.sb sb t.sb s.chained.manifest chained.manifest t.chained.manifest s.memory m t.memory o n same (ap (λ (h : Held). h.sb) is) (ap (λ (h : Held). h.chained.manifest) is) memory are,
+      published_after target s.sb sb t.sb s.chained.manifest chained.manifest t.chained.manifest s.memory m t.memory s.filters t.filters made o n low same (ap (λ (h : Held). h.sb) is) (ap (λ (h : Held). h.chained.manifest) is) memory (ap (λ (h : Held). h.filters) is) are,
       ap (λ (h : Held). h.log.list) is,
       emptied_next s.sb.mem (arrays_taken target s.chained.manifest) s.memory m t.memory o n memory same,
     )

@@ -38,6 +38,7 @@ use Rattle.def_publish.specs.Occupied.{IsSpaceOf, UsesMore, arrays_in, extents_o
 use Rattle.def_state.specs.Level.{Level}
 use Rattle.def_state.specs.State.{IsPaid}
 use Rattle.strat_publish.specs.Outcomes.{IsDamagedIn}
+use Rattle.strat_memory.specs.Filters.{LevelFilters, filters_after}
 use Rattle.strat_memory.specs.Held.{Held, ArePlaced, IsConsistent, StandsWith, contents_held}
 use Rattle.strat_cursor.specs.Looking.{arrays_there}
 use Rattle.strat_publish.specs.Publishing.{IsComputed, IsComputedBy, MayCompute, contents_after, manifest_after}
@@ -121,13 +122,13 @@ blames_held v s space others b own placed told = record {
 }
 
 -- the next contents are computed where a store stands, and are those of the next superblock and manifest
-pub readied : (v w : DiskView) (s : Held) (x : Contents) (space after : SpaceView) (old_chain others : List Extent) (target : ℕ) (made : Option LevelDesc) (first size : ℕ) (chain : List Extent) (m : Manifest)
+pub readied : (v w : DiskView) (s : Held) (x : Contents) (space after : SpaceView) (old_chain others : List Extent) (target : ℕ) (made : Option LevelDesc) (first size : ℕ) (chain : List Extent) (m : Manifest) (filters : LevelFilters)
     → IsConsistent s → StandsWith v s x → length s.log.list ≡ s.sb.mem → blocks_of old_chain ≡ s.chained.blocks → ((levels : List Level) → IsSpaceOf space (contents_held s levels) others)
     → ((y : Contents) (log : Log) (besides : List Extent) → MayCompute v space s.memory s.levels log y besides → y.chained.manifest ≡ s.chained.manifest → y.sb.mem ≡ s.sb.mem
-    → IsComputedBy w after y s.memory log target made first size chain besides)
+    → IsComputedBy w after y s.memory log target made first size chain besides filters)
     → m ≡ manifest_after s.chained.manifest s.memory target made
-    → IsReadied w s x (super_after s.sb first size) (record { manifest = m; blocks = blocks_of chain }) × AreNewArrays s.chained.manifest.next_array (arrays_made made)
-readied v w s x space after old_chain others target made first size chain m whole stands full chain_is own by m_is =
+    → IsReadied w s x (super_after s.sb first size) (record { manifest = m; blocks = blocks_of chain }) (filters_after s.filters target filters) × AreNewArrays s.chained.manifest.next_array (arrays_made made)
+readied v w s x space after old_chain others target made first size chain m filters whole stands full chain_is own by m_is =
     let here : IsSpaceOf space x others = subst (λ (y : Contents). IsSpaceOf space y others) (sym stands.held) (own x.levels) in
     let c = by x s.log others (whole_computes v s x old_chain others space whole stands full chain_is here) (ap (λ (y : Contents). y.chained.manifest) stands.held) (ap (λ (y : Contents). y.sb.mem) stands.held) in
     let new : Contents = contents_after x s.memory target made c.levels first size (blocks_of chain) in
@@ -144,6 +145,7 @@ readied v w s x space after old_chain others target made first size chain m whol
             let passed = read_passes f (contents_state x) (reads_state f x (stands.stands.reads f stands.stands.left)) in
             subst (λ (n : Contents). IsPaid (contents_state n)) same
             (c.paid paid passed.few_updates (omega (arith, long, ap (λ (y : Contents). y.sb.mem) stands.held, ap (λ (y : Contents). length y.journal) stands.held)));
+        filtered = c.filtered s.filters stands.filtered;
       },
       subst (λ (y : Contents). AreNewArrays y.chained.manifest.next_array (arrays_made made)) stands.held c.fresh,
     )
@@ -183,9 +185,9 @@ keeps_own s space whole own = record {
 }
 
 -- the next superblock and manifest pass all tests
-pub may_admit : (w : DiskView) (s : Held) (x : Contents) (made : Option LevelDesc) (sb : Super) (chained : Chained) → IsConsistent s → IsReadied w s x sb chained
+pub may_admit : (w : DiskView) (s : Held) (x : Contents) (made : Option LevelDesc) (sb : Super) (chained : Chained) (filters : List LevelFilters) → IsConsistent s → IsReadied w s x sb chained filters
     → AreNewArrays s.chained.manifest.next_array (arrays_made made) → MayBeAdmitted s.sb s.chained.manifest made sb chained
-may_admit w s x made sb chained whole ready fresh =
+may_admit w s x made sb chained filters whole ready fresh =
     let c = ready.computed in
     let new : Contents = contents_next s sb chained ready.levels in
     let first : ℕ = s.chained.manifest.next_array in
@@ -203,10 +205,14 @@ may_admit w s x made sb chained whole ready fresh =
       belonging = next_belongs c.was c.stands.content x new c.made c.taken c.kept c.next (own_blocks c.space new c.others c.used);
     }
 
--- the same of a superblock and a manifest that are these
-pub readied_as : (w : DiskView) (s : Held) (x : Contents) (sb is : Super) (chained here : Chained) → is ≡ sb → here ≡ chained → IsReadied w s x sb chained → IsReadied w s x is here
-readied_as w s x sb is chained here sb_is chained_is ready =
-    subst (λ (k : Super). IsReadied w s x k here) (sym sb_is) (subst (λ (ch : Chained). IsReadied w s x sb ch) (sym chained_is) ready)
+-- the same of a superblock, a manifest and filters that are these
+pub readied_as : (w : DiskView) (s : Held) (x : Contents) (sb is : Super) (chained here : Chained) (n target : ℕ) (made filters : LevelFilters) → is ≡ sb → here ≡ chained → target ≡ n → filters ≡ made
+    → IsReadied w s x sb chained (filters_after s.filters n made) → IsReadied w s x is here (filters_after s.filters target filters)
+readied_as w s x sb is chained here n target made filters sb_is chained_is target_is filters_is ready =
+    let fs : filters_after s.filters target filters ≡ filters_after s.filters n made = λ i. filters_after s.filters (target_is i) (filters_is i) in
+    subst (IsReadied w s x is here) (sym fs)
+    (subst (λ (k : Super). IsReadied w s x k here (filters_after s.filters n made)) (sym sb_is)
+    (subst (λ (ch : Chained). IsReadied w s x sb ch (filters_after s.filters n made)) (sym chained_is) ready))
 
 -- arrays that were made pass a test of their numbers
 pub numbered_from : (n : ℕ) (made : Option LevelDesc) → list_all (λ (a : ArrayDesc). leb n a.id) (arrays_made made) ≡ true → (a : ArrayDesc) → Contains (arrays_made made) a → n ≤ a.id

@@ -1,5 +1,5 @@
 -- A promotion of what a store has in memory.
-use Rattle.std.specs.Prelude.{◌≡◌, ◌≤◌, ℕ, ◌++◌, ◌∷◌, ◌^◌, nat_lt, List, length, map, Option, Some, IsTrue}
+use Rattle.std.specs.Prelude.{◌≡◌, ◌≤◌, ℕ, ◌++◌, ◌∷◌, ◌^◌, nat_lt, Bool, List, length, map, Option, Some, IsTrue}
 use Rattle.std.specs.List.{list_all, range_with_len, sum}
 use Rattle.strat_base.specs.declared.descriptors.LevelDesc.{LevelDesc}
 use Rattle.def_crash.specs.Image.{Image}
@@ -14,7 +14,10 @@ use Rattle.def_publish.specs.Next.{AreNewArrays, arrays_made}
 use Rattle.def_state.specs.Setting.{set_all}
 use Rattle.def_state.specs.State.{State, IsPaid, versions_of, journal_updates}
 use Rattle.strat_cursor.specs.Looking.{levels_there, arrays_there}
+use Rattle.strat_memory.specs.Filters.{AreFiltersOn}
 use Rattle.strat_memory.specs.Memory.{Memory}
+use Rattle.strat_promote.specs.Promotions.{FiltersStand, arrays_promoted}
+use Rattle.strat_promote.specs.declared.promotion.Promotion.{Promotion}
 
 -- how many leads level 0 has, and then levels 1 to 22
 abbrev pub leads_in_memory : Memory → List (Option LevelDesc) → List ℕ
@@ -51,3 +54,14 @@ pub record IsPromotedTo (g : Image) (s : State) (next_array target : ℕ) (made 
       promoted s (fresh ++ levels_behind target s.levels) written next)
   pub fresh : AreNewArrays next_array (arrays_made made)
   pub numbered : (level : LevelDesc) → made ≡ Some level → level.number ≡ target
+
+-- some filters were taken of the arrays that a promotion made, which are numbered from one on: each is of exactly the keys of
+-- its array in an image where those of the promotion stood, and the promotion is else as it was
+pub record HasTaken (old now : Promotion) (first : ℕ) (kept : List (Option (List Bool)))
+    : Type 0 where
+  pub stand : (g : Image) → FiltersStand g old → FiltersStand g now
+  pub level : now.level ≡ old.level
+  pub task : now.task ≡ old.task
+  pub ended : now.is_done ≡ old.is_done
+  pub filters : (g : Image) → FiltersStand g old
+      → AreFiltersOn g (arrays_promoted old) (record { first = first; kept = kept })

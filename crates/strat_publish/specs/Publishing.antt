@@ -15,6 +15,7 @@ use Rattle.def_bytes.specs.SuperBlock.{Super, newest_in}
 use Rattle.strat_journal.specs.Log.{Log}
 use Rattle.def_recovery.specs.Head.{parent_numbers}
 use Rattle.strat_memory.specs.Memory.{Memory, IsMemoryOf}
+use Rattle.strat_memory.specs.Filters.{LevelFilters, AreFiltersOf, filters_after}
 use Rattle.strat_memory.specs.Held.{ArePlaced}
 use Rattle.def_state.specs.State.{IsPaid}
 use Rattle.def_promote.specs.Promoted.{SaysTheSame, levels_behind}
@@ -157,10 +158,11 @@ pub record MayCompute (v : DiskView) (s : SpaceView) (m : Memory) (levels : List
   pub chain_is : blocks_of chain ≡ x.chained.blocks
 
 -- the next contents are computed, with some levels, and the blocks of the old ones and some others are used beside theirs;
--- the arrays that were made are numbered from the old next number on, and their state is paid for where the old one was
+-- the arrays that were made are numbered from the old next number on, their state is paid for where the old one was, and
+-- with filters of theirs the filters of the old contents become those of the next ones
 pub record IsComputedBy (v : DiskView) (s : SpaceView) (old : Contents) (m : Memory) (log : Log)
     (target : ℕ) (made : Option LevelDesc) (first size : ℕ) (chain others : List Extent)
-    : Type 0 where
+    (filters : LevelFilters) : Type 0 where
   pub levels : List Level
   pub computed : IsComputed v (1 - old.slot)
       (contents_after old m target made levels first size (blocks_of chain)).sb log old
@@ -173,3 +175,5 @@ pub record IsComputedBy (v : DiskView) (s : SpaceView) (old : Contents) (m : Mem
       → old.chained.manifest.updates ≤ old.chained.manifest.changes
       → old.sb.mem ≤ length old.journal → IsPaid (contents_state
       (contents_after old m target made levels first size (blocks_of chain)))
+  pub filtered : (before : List LevelFilters) → AreFiltersOf old.levels before
+      → AreFiltersOf levels (filters_after before target filters)

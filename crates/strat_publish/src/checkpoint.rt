@@ -26,6 +26,7 @@ ghost use Rattle.def_publish.specs.Standing.{ShowsTable, ContentsStand};
 ghost use Rattle.def_state.specs.Level.{Level};
 ghost use Rattle.def_state.specs.State.{IsPaid};
 ghost use Rattle.strat_publish.specs.Outcomes.{IsDamagedIn, IsPublishedAs, IsOkOrShort, RanShort};
+ghost use Rattle.strat_memory.specs.Filters.{filters_after};
 ghost use Rattle.strat_memory.specs.Held.{IsConsistent, IsOnDisk, StandsWith, arrays_held, contents_held};
 ghost use Rattle.strat_cursor.specs.Cursors.{retired_all};
 ghost use Rattle.strat_cursor.specs.Looking.{arrays_there};
@@ -50,6 +51,7 @@ use strat_gate::SuperBlock;
 use strat_manifest::LevelList;
 use strat_memory::admitting::{Published, admit};
 use strat_memory::belonging::{mark_arrays, space_if_blocks_distinct};
+use strat_memory::filters::LevelFilters;
 use strat_memory::memory::Memory;
 use strat_memory::open_store::OpenStore;
 use strat_promote::obstacle::{Obstacle, Unfit};
@@ -122,6 +124,7 @@ fn compute_beside<D: Disk>(
         → IsReadied (D.view disk.new) (held_of held.now cached) x
         (super_after (super_of held.now.sb) r.first r.length)
         (record { manifest = manifest_of r.manifest; blocks = blocks_of r.chain })
+        (filters_after held.now.filters r.made.target r.made.filters)
         × AreNewArrays held.now.published.manifest.next_array (arrays_made r.made.level)) }
     ensures room { IfOk result (λ r. (cached : Blocks)
         → StandApart r.made.target (held_of held.now cached)
@@ -133,7 +136,8 @@ fn compute_beside<D: Disk>(
         (record { manifest = manifest_of r.manifest; blocks = blocks_of r.chain })) }
     ensures fits { IfOk result (λ r. (places.first_free held.now.sb.mem ≤ r.first)
         × (r.first < 4294967295) × (29 ≤ r.length)
-        × IsTrue (is_lawful_manifest newest_format (manifest_of r.manifest))) }
+        × IsTrue (is_lawful_manifest newest_format (manifest_of r.manifest))
+        × (1 ≤ r.made.target) × (r.made.target ≤ 22)) }
     ensures err { IsErrOf result obstacle.Unfit → (x : Contents) (cached : Blocks)
         → StandsWith (D.view disk.old) (held_of held.now cached) x → ⊥ }
     ensures images { (cached : Blocks)
@@ -158,13 +162,14 @@ fn compute_beside<D: Disk>(
     )
 }
 
-/// What takes the place of a store's superblock and of what its last checkpoint left, and the number of the level that
-/// was filled.
+/// What takes the place of a store's superblock and of what its last checkpoint left, the number of the level that was
+/// filled, and the filters of its arrays.
 #[derive(Drop)]
 struct NextContents {
     sb: SuperBlock,
     published: Published,
     target: usize,
+    filters: LevelFilters,
 }
 
 /// Whether each of these arrays has a number from one on.
@@ -201,6 +206,7 @@ fn admit_next(alloc: Global, held: &OpenStore, computed: Computed) -> Result<Nex
         × IsLawful (super_of next.sb) × (next.target ≡ computed.made.target)) }
     ensures found { IfOk result (λ next. chained_of next.published
         ≡ record { manifest = manifest_of computed.manifest; blocks = blocks_of computed.chain }) }
+    ensures filters { IfOk result (λ next. next.filters ≡ computed.made.filters) }
     ensures kept { IfOk result (λ next. IsAdmitted (super_of next.sb) next.published) }
     ensures same { IfOk result (λ next. IsTrue (list_all
         (λ a. nat_le held.now.published.manifest.next_array a.id)
@@ -221,6 +227,7 @@ fn admit_next(alloc: Global, held: &OpenStore, computed: Computed) -> Result<Nex
             sb,
             published,
             target: computed.made.target,
+            filters: computed.made.filters,
         }),
         None => Err(Obstacle::Unfit),
     }
@@ -239,7 +246,8 @@ fn prepare_next<D: Disk>(
     ensures ok { IfOk result (λ next. (x : Contents) (cached : Blocks)
         → StandsWith (D.view disk.old) (held_of held.now cached) x
         → IsReadied (D.view disk.new) (held_of held.now cached) x (super_of next.sb)
-        (chained_of next.published)) }
+        (chained_of next.published)
+        (filters_after held.now.filters next.target next.filters)) }
     ensures fits { IfOk result (λ next. (cached : Blocks)
         → MayFollow (held_of held.now cached) (super_of next.sb) (chained_of next.published)) }
     ensures found { IfOk result (λ next. ArePublishedTo next.target (super_of held.now.sb)
@@ -249,7 +257,8 @@ fn prepare_next<D: Disk>(
         next.sb.manifest next.sb.length (chained_of next.published)) }
     ensures kept { IfOk result (λ next. IsAdmitted (super_of next.sb) next.published
         × ((cached : Blocks)
-        → StandApart next.target (held_of held.now cached) (chained_of next.published))) }
+        → StandApart next.target (held_of held.now cached) (chained_of next.published))
+        × (1 ≤ next.target) × (next.target ≤ 22)) }
     ensures err { IsErrOf result obstacle.Unfit → (x : Contents) (cached : Blocks)
         → StandsWith (D.view disk.old) (held_of held.now cached) x → ⊥ }
     ensures images { (cached : Blocks)
@@ -328,9 +337,14 @@ fn retire_levels(memory: &mut Memory, mut levels: LevelList, target: usize)
 
 /// Lays the superblock of what a store made ready, which then takes the place of what it holds. At most five syncs, and
 /// no memory.
-fn install<D: Disk>(held: &mut OpenStore, next: NextContents, disk: &mut D) -> Result<(), Failed>
+fn install<D: Disk>(
+    alloc: Global,
+    held: &mut OpenStore,
+    next: NextContents,
+    disk: &mut D,
+) -> Result<(), Failed>
     requires fits { (held.old.slot ≤ 1) × (held.old.journal.active ≤ 1)
-        × IsLawful (super_of next.sb) }
+        × IsLawful (super_of next.sb) × (1 ≤ next.target) × (next.target ≤ 22) }
     requires room { (held.old.memory.ready ≡ Some held.old.sb.mem)
         × (length held.old.memory.cursors.retired
         + length (arrays_in (manifest_of held.old.published.manifest).levels)
@@ -338,7 +352,7 @@ fn install<D: Disk>(held: &mut OpenStore, next: NextContents, disk: &mut D) -> R
     requires same { next.sb.mem ≡ held.old.sb.mem }
     ensures ok { OnOk result ((cached : Blocks) → held_of held.new cached
         ≡ held_next (held_of held.old cached) next.target (super_of next.sb)
-        (chained_of next.published) next.published.levels) }
+        (chained_of next.published) next.published.levels next.filters) }
     ensures kept { OnOk result ((x y : Contents) → IsComputed (D.view disk.old) (1 - held.old.slot)
         (super_of next.sb) held.old.journal x y → ContentsStand (D.view disk.new) y) }
     ensures trail { (x y : Contents) → IsComputed (D.view disk.old) (1 - held.old.slot)
@@ -362,6 +376,7 @@ fn install<D: Disk>(held: &mut OpenStore, next: NextContents, disk: &mut D) -> R
     let left = mem::replace(&mut held.published, next.published);
     held.memory.restart();
     retire_levels(&mut held.memory, left.manifest.levels, next.target);
+    held.filters.replace(alloc, next.target, next.filters);
     Ok(())
 }
 
@@ -384,8 +399,8 @@ pub fn publish<D: Disk>(alloc: Global, held: &mut OpenStore, disk: &mut D) -> Re
         (manifest_of held.new.published.manifest)) }
     ensures found { OnOk result ((held.new.slot ≡ 1 - held.old.slot)
         × ArePublishedAfter (super_of held.old.sb) (manifest_of held.old.published.manifest)
-        held.old.memory (super_of held.new.sb) (manifest_of held.new.published.manifest)
-        held.new.memory.cursors
+        held.old.memory held.old.filters (super_of held.new.sb)
+        (manifest_of held.new.published.manifest) held.new.memory.cursors held.new.filters
         × (held.new.journal.list ≡ [])
         × (held.new.memory ≡ record (emptied held.old.sb.mem held.old.memory)
         { cursors = held.new.memory.cursors })) }
@@ -429,6 +444,6 @@ pub fn publish<D: Disk>(alloc: Global, held: &mut OpenStore, disk: &mut D) -> Re
         held.published.manifest.levels.as_slice(),
     )?;
     let next = prepare_next(alloc, held, disk)?;
-    install(held, next, disk)?;
+    install(alloc, held, next, disk)?;
     Ok(())
 }

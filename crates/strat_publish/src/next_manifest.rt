@@ -236,7 +236,7 @@ pub(crate) fn compute_next<D: Disk>(
         → MayCompute (D.view disk.old) space.old memory.now levels.now log x others
         → x.chained.manifest ≡ manifest_of old.now → x.sb.mem ≡ mem
         → IsComputedBy (D.view disk.new) space.new x memory.now log
-        r.made.target r.made.level r.first r.length r.chain others) }
+        r.made.target r.made.level r.first r.length r.chain others r.made.filters) }
     ensures found { IfOk result (λ r. manifest_of r.manifest
         ≡ manifest_after (manifest_of old.now) memory.now r.made.target r.made.level) }
     ensures disk { IfOk result (λ r. WritesManifest (D.view disk.old) (D.view disk.new)

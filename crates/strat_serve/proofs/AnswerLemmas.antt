@@ -1,5 +1,5 @@
 -- One body, answered.
-use Rattle.std.proofs.Common.{◌≡◌, ◌≤◌, ℕ, zero, suc, Bool, true, false, List, [], ◌∷◌, length, Option, Some, None, refl, sym, ap, subst, ◌∙◌, ◌⊎◌, inl, inr, arith}
+use Rattle.std.proofs.Common.{◌≡◌, ◌≤◌, ◌+◌, ℕ, zero, suc, Bool, true, false, List, [], ◌∷◌, length, Option, Some, None, refl, sym, ap, subst, ◌∙◌, ◌⊎◌, inl, inr, arith}
 use Rattle.std.specs.Prelude.{if◌then◌else◌, is_some}
 use Rattle.strat_base.specs.declared.failures.Fault.{Fault}
 use Rattle.strat_base.specs.declared.failures.Fault.TheVariants as fault
@@ -12,17 +12,14 @@ use Rattle.strat_frame.specs.declared.commands.BodyFault.{BodyFault}
 use Rattle.strat_frame.specs.declared.commands.BodyFault.TheVariants as body
 use Rattle.strat_frame.specs.Faults.{refusal_for}
 use Rattle.strat_model.specs.Faults.{fault_told}
-use Rattle.strat_model.specs.Answer.{Answer, as_told, refusal, accepts}
+use Rattle.strat_model.specs.Answer.{Answer, as_told, accepts}
 use Rattle.strat_model.specs.declared.replies.Refusal.TheVariants as why
 use Rattle.strat_model.specs.declared.replies.Reply.{Reply}
 use Rattle.strat_model.specs.declared.replies.Reply.TheVariants as reply
 use Rattle.strat_model.specs.Pairs.{Pairs}
 use Rattle.strat_model.specs.Request.{Request}
-use Rattle.strat_model.specs.Spelling.{Spells, IsRefusedAs, reply_body}
 use Rattle.strat_model.specs.Step.{step}
-use Rattle.strat_model.specs.Stream.{frame}
 use Rattle.strat_model.specs.Table.{Cursor, Table, bare}
-use Rattle.strat_model.specs.Run.{Response}
 use Rattle.strat_model.proofs.FillLemmas.{emptied_after, emptied_few, emptied_is_after}
 use Rattle.def_meaning.specs.StateTable.{table_of}
 use Rattle.def_publish.specs.Contents.{Contents, contents_state}
@@ -30,9 +27,11 @@ use Rattle.def_publish.specs.Standing.{ShowsTable}
 use Rattle.def_publish.proofs.FreeLemmas.{shows_contents}
 use Rattle.strat_store.specs.Applying.{is_fault, ran_short, FollowsStep, FailsAsTold}
 use Rattle.strat_store.specs.Cursoring.{IsAnsweredAt, IsShortAt, IsBrokenAt, IsAppliedAt}
-use Rattle.strat_memory.specs.Held.{Held, IsConsistent, StandsAt, StandsWith, position_at}
+use Rattle.strat_memory.specs.Held.{Held, IsConsistent, StandsAt, StandsWith, position_at, table_at}
 use Rattle.strat_serve.proofs.BareLemmas.{step_bare}
-use Rattle.strat_serve.specs.Session.{IsAnswered, IsToldBy, ContinuesWith, StopsWith, FailsAsMet}
+use Rattle.strat_serve.specs.Session.{FailsAsMet}
+use Rattle.strat_serve.specs.Speech.{Said, Speech, IsAskedFor, IsDeclined}
+use Rattle.strat_serve.specs.Spoken.{IsAnswered, IsToldBy, ContinuesWith, StopsWith}
 
 -- what a reply tells of faults
 pub record Tells (r : Reply) : Type 0 where
@@ -140,14 +139,23 @@ either_reaches true v start x u y n same t at_end =
     trail_of_two ShowsTable v start x y [] (trail_later v start (x ∷ x ∷ []) n t)
     (λ c since. let p = trail_since v start (x ∷ x ∷ []) n t c since in inl (twice x p.0 (ShowsTable c) p.1)) at_end
 
--- a command, answered
-module _ (before now : DiskView) (old new : Held) (bytes : List ℕ) (tag : ℕ) (request : Request) (r : Reply) (pairs : Pairs) (spelled : Spells bytes tag request) where
-  abbrev told : Response
-  told = record { tag = tag; answer = as_told r pairs }
+-- a store counts the changes of its table
+pub counts_changes : (v : DiskView) (s : Held) (x : Contents) (rows : List Cursor) → IsConsistent s → StandsAt v s x rows → s.memory.changes ≡ (table_at s x rows).changes
+counts_changes v s x rows lawful stands =
+    lawful.memory.changes ∙ ap (λ (y : Contents). y.chained.manifest.changes + length y.journal) (sym stands.stands.held)
 
-  goes_on : (x : Contents) (rows : List Cursor) → IsAnsweredAt now old x rows request (as_told r pairs) new → FollowsStep before now x request (as_told r pairs)
-      → ContinuesWith before now old x rows bytes told new
-  goes_on x rows is trail =
+-- a command, answered
+module _ (speech : Speech) (before now : DiskView) (old new : Held) (bytes : List ℕ) (tag : ℕ) (out : List ℕ) (request : Request) (r : Reply) (pairs : Pairs)
+    (asked : IsAskedFor speech old.memory.changes bytes request (record { tag = tag; answer = as_told r pairs; sent = out })) (lawful : IsConsistent old) where
+  abbrev told : Said
+  told = record { tag = tag; answer = as_told r pairs; sent = out }
+
+  here : (x : Contents) (rows : List Cursor) → StandsAt before old x rows → IsAskedFor speech (table_at old x rows).changes bytes request told
+  here x rows at = subst (λ (n : ℕ). IsAskedFor speech n bytes request told) (counts_changes before old x rows lawful at) asked
+
+  goes_on : (x : Contents) (rows : List Cursor) → StandsAt before old x rows → IsAnsweredAt now old x rows request (as_told r pairs) new → FollowsStep before now x request (as_told r pairs)
+      → ContinuesWith speech before now old x rows bytes told new
+  goes_on x rows at is trail =
       let next : bare (step (table_of (contents_state x)) request).table ≡ table_of (contents_state is.after) =
       sym (step_bare (table_of (contents_state x)) rows old.memory.cursors.next request) ∙ ap bare (sym is.place.table) in
       let n : ℕ = if accepts r then 1 else 0 in
@@ -156,33 +164,33 @@ module _ (before now : DiskView) (old new : Held) (bytes : List ℕ) (tag : ℕ)
         after = is.after;
         left = is.left;
         stands = is.stands;
-        answers = inr (inl (record { request = request; spelled = spelled; answer = is.told; place = is.place }));
+        answers = inr (inl (record { request = request; asked = here x rows at; answer = is.told; place = is.place }));
         trail = either_reaches (ran_short r) now before.moment (table_of (contents_state x)) (bare (step (table_of (contents_state x)) request).table) (table_of (contents_state is.after)) n
             next trail (stands_table now new is.after is.stands.stands);
       }
 
-  falls_short : (x : Contents) (rows : List Cursor) → IsShortAt now old x rows request (as_told r pairs) new → FollowsStep before now x request (as_told r pairs)
-      → ContinuesWith before now old x rows bytes told new
-  falls_short x rows is trail = record {
+  falls_short : (x : Contents) (rows : List Cursor) → StandsAt before old x rows → IsShortAt now old x rows request (as_told r pairs) new → FollowsStep before now x request (as_told r pairs)
+      → ContinuesWith speech before now old x rows bytes told new
+  falls_short x rows at is trail = record {
     going = is.going;
     after = x;
     left = rows;
     stands = is.stands;
-    answers = inr (inr (record { request = request; spelled = spelled; takes = is.takes; accepted = is.acceptable; full = is.full; answer = is.told; same = is.place }));
+    answers = inr (inr (record { request = request; asked = here x rows at; takes = is.takes; accepted = is.acceptable; full = is.full; answer = is.told; same = is.place }));
     trail = reaches now before.moment (table_of (contents_state x)) (table_of (contents_state x)) 0
         (subst (λ (a : Answer). FollowsStep before now x request a) is.told trail) (stands_table now new x is.stands.stands);
   }
 
-  breaks : (x : Contents) (rows : List Cursor) → IsConsistent old → IsBrokenAt old x rows request (as_told r pairs) new → FollowsStep before now x request (as_told r pairs)
-      → StopsWith before now old x rows bytes told
-  breaks x rows whole is trail =
-      let some : 2 ≤ old.log.mem = omega (arith, whole.lawful.mem_least, whole.log.mem) in
-      let few : length old.log.list ≤ old.log.mem = omega (arith, whole.log.few, whole.log.mem) in
+  breaks : (x : Contents) (rows : List Cursor) → StandsAt before old x rows → IsBrokenAt old x rows request (as_told r pairs) new → FollowsStep before now x request (as_told r pairs)
+      → StopsWith speech before now old x rows bytes told
+  breaks x rows at is trail =
+      let some : 2 ≤ old.log.mem = omega (arith, lawful.lawful.mem_least, lawful.log.mem) in
+      let few : length old.log.list ≤ old.log.mem = omega (arith, lawful.log.few, lawful.log.mem) in
       record {
         done = emptied_after old.log.mem (position_at old x rows) request;
         fault = record {
           request = request;
-          spelled = spelled;
+          asked = here x rows at;
           reaches = is.reached;
           accepted = is.acceptable;
           answer = inl is.told;
@@ -195,44 +203,41 @@ module _ (before now : DiskView) (old new : Held) (bytes : List ℕ) (tag : ℕ)
             (subst (λ (a : Answer). FollowsStep before now x request a) is.told trail);
       }
 
-  applied : (x : Contents) (rows : List Cursor) → IsConsistent old → IsAppliedAt now old x rows request (as_told r pairs) new → FollowsStep before now x request (as_told r pairs)
-      → ContinuesWith before now old x rows bytes told new ⊎ StopsWith before now old x rows bytes told
-  applied x rows whole (inl is) trail = inl (goes_on x rows is trail)
-  applied x rows whole (inr (inl is)) trail = inl (falls_short x rows is trail)
-  applied x rows whole (inr (inr is)) trail = inr (breaks x rows whole is trail)
+  applied : (x : Contents) (rows : List Cursor) → StandsAt before old x rows → IsAppliedAt now old x rows request (as_told r pairs) new → FollowsStep before now x request (as_told r pairs)
+      → ContinuesWith speech before now old x rows bytes told new ⊎ StopsWith speech before now old x rows bytes told
+  applied x rows at (inl is) trail = inl (goes_on x rows at is trail)
+  applied x rows at (inr (inl is)) trail = inl (falls_short x rows at is trail)
+  applied x rows at (inr (inr is)) trail = inr (breaks x rows at is trail)
 
   -- a command that the store answered
-  pub answered : (met : Option Fault) (out : List ℕ) → met ≡ fault_told r → out ≡ frame (reply_body tag (as_told r pairs)) → IsToldBy before now old bytes told new
-      → IsConsistent old → ((x : Contents) (rows : List Cursor) → StandsAt before old x rows → IsAppliedAt now old x rows request (as_told r pairs) new)
+  pub answered : (met : Option Fault) → met ≡ fault_told r → IsToldBy speech before now old bytes told new
+      → ((x : Contents) (rows : List Cursor) → StandsAt before old x rows → IsAppliedAt now old x rows request (as_told r pairs) new)
       → ((x : Contents) → StandsWith before old x → FollowsStep before now x request (as_told r pairs))
-      → IsAnswered before now old bytes met new out
-  answered met out is sent_bytes by whole ok trail = record {
+      → IsAnswered speech before now old bytes met new out
+  answered met is by ok trail = record {
     response = told;
-    spelled = sent_bytes;
+    spelled = refl;
     responds = inr by;
     tells = is;
-    run = λ x rows stands. applied x rows whole (ok x rows stands) (trail x stands.stands);
+    run = λ x rows stands. applied x rows stands (ok x rows stands) (trail x stands.stands);
   }
 
--- a body that is no command
-pub told_faulty : (v : DiskView) (s : Held) (bytes : List ℕ) (tag : ℕ) (f : BodyFault) (pairs : Pairs) (out : List ℕ) → s.spent ≡ false
-    → IsRefusedAs bytes tag (refusal_for f) → pairs ≡ [] → out ≡ frame (reply_body tag (as_told (reply.Refused (refusal_for f)) pairs)) → IsAnswered v v s bytes None s out
-told_faulty v s bytes tag f pairs out going is none sent_bytes =
-    let response : Response = record { tag = tag; answer = as_told (reply.Refused (refusal_for f)) pairs } in
-    let said : response.answer ≡ refusal (refusal_for f) = ap (λ (p : Pairs). as_told (reply.Refused (refusal_for f)) p) none in
-    record {
-      response = response;
-      spelled = sent_bytes;
-      responds = inl (record { refused = record { cause = refusal_for f; refused = is; answer = said }; store = refl; disk = reads_refl v });
-      tells = sym (none_told f);
-      run = λ x rows stands.
-          let at_end = stands_table v s x stands.stands in
-          inl (record {
-            going = going;
-            after = x;
-            left = rows;
-            stands = stands;
-            answers = inl (record { cause = refusal_for f; refused = is; answer = said; same = refl });
-            trail = trail_of_two ShowsTable v v.moment (table_of (contents_state x)) (table_of (contents_state x)) [] (omega arith) (λ c since. inl (at_end c (since_now v c since))) at_end;
-          });
-    }
+-- a body that asked for nothing
+pub told_nothing : (speech : Speech) (v : DiskView) (s : Held) (bytes : List ℕ) (said : Said) (out : List ℕ) → s.spent ≡ false → IsConsistent s
+    → IsDeclined speech s.memory.changes bytes said → said.sent ≡ out → IsAnswered speech v v s bytes None s out
+told_nothing speech v s bytes said out going lawful declined text = record {
+  response = said;
+  spelled = sym text;
+  responds = inl (record { declined = declined; store = refl; disk = reads_refl v });
+  tells = sym declined.calm;
+  run = λ x rows stands.
+      let at_end = stands_table v s x stands.stands in
+      inl (record {
+        going = going;
+        after = x;
+        left = rows;
+        stands = stands;
+        answers = inl (record { declined = subst (λ (n : ℕ). IsDeclined speech n bytes said) (counts_changes v s x rows lawful stands) declined; same = refl });
+        trail = trail_of_two ShowsTable v v.moment (table_of (contents_state x)) (table_of (contents_state x)) [] (omega arith) (λ c since. inl (at_end c (since_now v c since))) at_end;
+      });
+}

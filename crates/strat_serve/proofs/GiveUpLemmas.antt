@@ -19,7 +19,9 @@ use Rattle.strat_open.specs.declared.attach_fault.AttachFault.TheVariants as fau
 use Rattle.strat_open.specs.Causes.{ended_for}
 use Rattle.strat_open.specs.Following.{IsUnchanged, LeavesOpening}
 use Rattle.strat_serve.specs.Pending.{SendsAtEnd}
-use Rattle.strat_serve.specs.Session.{IsGivenUp, GaveUp, RefusesFor, EndHasCause, EndsFor, Served, IsEarlyEnd}
+use Rattle.strat_serve.specs.Session.{IsGivenUp, GaveUp, RefusesFor, EndHasCause, EndsFor, IsEarlyEnd}
+use Rattle.strat_serve.specs.Speech.{Speech}
+use Rattle.strat_serve.specs.Spoken.{ServedBy, session_of}
 use Rattle.strat_serve.specs.World.{World}
 
 -- an opening that gave up ends a run so
@@ -88,27 +90,27 @@ gave_up_for how f before now is none damaged = record {
 }
 
 -- what the disk's bytes say where a run that opened the store found a damaged block
-pub served_refuses : (budget : ℕ) (how : Ended) (before now : World) → Served budget how before now → RefusesFor how before.disk now.disk
-served_refuses budget how before now served = record {
-  none = λ e. absurd (subst (λ (x : Ended). EndsFor x budget served.session now.left) e served.ends);
-  damaged = λ b e f exposed. inr (served.damaged b (subst (λ (x : Ended). EndsFor x budget served.session now.left) e served.ends));
+pub served_refuses : (speech : Speech) (budget : ℕ) (how : Ended) (before now : World) → ServedBy speech budget how before now → RefusesFor how before.disk now.disk
+served_refuses speech budget how before now served = record {
+  none = λ e. absurd (subst (λ (x : Ended). EndsFor x budget (session_of served.sitting) now.left) e served.ends);
+  damaged = λ b e f exposed. inr (served.damaged b (subst (λ (x : Ended). EndsFor x budget (session_of served.sitting) now.left) e served.ends));
 }
 
 -- such a run did not end early
-pub served_late : (budget : ℕ) (how : Ended) (before now : World) → Served budget how before now → IsEarlyEnd how before.disk → ⊥
-served_late budget ended.NotAStore before now served early = served.ends
-served_late budget ended.NoMemory before now served early = served.ends
-served_late budget (ended.Damaged block) before now served early =
+pub served_late : (speech : Speech) (budget : ℕ) (how : Ended) (before now : World) → ServedBy speech budget how before now → IsEarlyEnd how before.disk → ⊥
+served_late speech budget ended.NotAStore before now served early = served.ends
+served_late speech budget ended.NoMemory before now served early = served.ends
+served_late speech budget (ended.Damaged block) before now served early =
     let x : ◌≡◌ {A = Read (Option Head)} (Ok (Some served.head)) (Err early.block) = sym (served.found early.content early.exposed) ∙ early.damaged in cc
-served_late budget ended.Done before now served early = early
-served_late budget ended.Usage before now served early = early
-served_late budget ended.FrameTooLong before now served early = early
-served_late budget ended.Truncated before now served early = early
-served_late budget ended.Device before now served early = early
-served_late budget ended.Source before now served early = early
-served_late budget ended.Sink before now served early = early
-served_late budget ended.Budget before now served early = early
-served_late budget ended.Unsound before now served early = early
+served_late speech budget ended.Done before now served early = early
+served_late speech budget ended.Usage before now served early = early
+served_late speech budget ended.FrameTooLong before now served early = early
+served_late speech budget ended.Truncated before now served early = early
+served_late speech budget ended.Device before now served early = early
+served_late speech budget ended.Source before now served early = early
+served_late speech budget ended.Sink before now served early = early
+served_late speech budget ended.Budget before now served early = early
+served_late speech budget ended.Unsound before now served early = early
 
 -- its end has its cause since before the opening
 pub caused_since : (how : Ended) (before mid now : World) → mid.source_faults ≡ before.source_faults → mid.sink_faults ≡ before.sink_faults → mid.disk_faults ≡ before.disk_faults → EndHasCause how mid now → EndHasCause how before now

@@ -11,6 +11,8 @@ pub mod ProgressLemmas
 pub mod PublishedLemmas
 pub mod PendingLemmas
 pub mod KeptLemmas
+pub mod RepliesLemmas
+pub mod SaidLemmas
 pub mod SendLemmas
 pub mod SessionLemmas
 pub mod SeveralLemmas

@@ -7,10 +7,11 @@ use Rattle.def_crash.specs.Faults.{Rose}
 use Rattle.strat_io.specs.Streams.{Appends}
 use Rattle.strat_io.proofs.StreamLemmas.{appends_then}
 use Rattle.strat_model.specs.declared.ended.Ended.{Ended}
-use Rattle.strat_model.specs.Run.{Response, response_bytes, sent_bytes}
 use Rattle.strat_model.specs.Stream.{frame}
 use Rattle.strat_serve.specs.Pending.{Pending, ArePending, SendsAtEnd, SendsOrKeeps, none_pending, with_sent}
-use Rattle.strat_serve.specs.Session.{SendsAllBut, SendsPrefix, Session, WaitsForNone, all_responses, output}
+use Rattle.strat_serve.specs.Session.{SendsPrefix, WaitsForNone}
+use Rattle.strat_serve.specs.Speech.{Said, Speech, said_bytes}
+use Rattle.strat_serve.specs.Spoken.{SendsAllButLast, Sitting, all_said, output_of}
 
 -- a sink with nothing more holds what it held
 pub with_none : (s : Option (List ℕ)) → with_sent s [] ≡ s
@@ -92,59 +93,60 @@ ahead_within taken bodies n m le ahead = record {
   parts = ahead.parts;
 }
 
--- the bytes of responses in two parts
-pub parts_sent : (n : ℕ) (answers : List Response) → sent_bytes answers ≡ sent_bytes (take n answers) ++ sent_bytes (drop n answers)
-parts_sent n answers = ap sent_bytes (sym (take-append-drop n answers)) ∙ flat_map-append response_bytes (take n answers) (drop n answers)
+module _ (speech : Speech) where
+  -- the bytes of responses in two parts
+  pub parts_sent : (n : ℕ) (answers : List Said) → said_bytes answers ≡ said_bytes (take n answers) ++ said_bytes (drop n answers)
+  parts_sent n answers = ap said_bytes (sym (take-append-drop n answers)) ∙ flat_map-append (λ (r : Said). r.sent) (take n answers) (drop n answers)
 
--- nothing is pending where all was sent
-pub are_none : (taken : List ℕ) (bodies : List (List ℕ)) (answers : List Response) (before now : Option (List ℕ)) → Appends before now (sent_bytes answers) → WaitsForNone taken bodies (length answers)
-    → ArePending none_pending taken bodies answers before now
-are_none taken bodies answers before now sent ahead = record {
-  sent = length answers;
-  few = omega arith;
-  most = omega arith;
-  room = omega arith;
-  appends = subst (λ (l : List Response). Appends before now (sent_bytes l)) (sym (take_all (length answers) answers (omega arith))) sent;
-  text = ap sent_bytes (sym (drop_all (length answers) answers (omega arith)));
-  ahead = ahead;
-}
-
-module _ (replies : Pending) (taken : List ℕ) (bodies : List (List ℕ)) (answers : List Response) (before mid : Option (List ℕ)) (p : ArePending replies taken bodies answers before mid) (as_many : length answers ≡ length bodies) where
-  -- replies more are pending
-  pub are_more : (others : List (List ℕ)) (more : List Response) (bytes : List ℕ) → bytes ≡ sent_bytes more → replies.count + length more ≤ 16
-      → ArePending (record { bytes = replies.bytes ++ bytes; count = replies.count + length more }) taken (bodies ++ others) (answers ++ more) before mid
-  are_more others more bytes text room = record {
-    sent = p.sent;
-    few = omega (arith, p.few, length-append answers more);
-    most = omega (arith, p.most, length-append answers more);
-    room = room;
-    appends = subst (λ (l : List Response). Appends before mid (sent_bytes l)) (sym (take-append-le p.sent answers more p.few)) p.appends;
-    text = ap (λ (x : List ℕ). x ++ bytes) p.text ∙ ap (λ (x : List ℕ). sent_bytes (drop p.sent answers) ++ x) text
-        ∙ sym (ap sent_bytes (drop-append-le p.sent answers more p.few) ∙ flat_map-append response_bytes (drop p.sent answers) more);
-    ahead = ahead_more taken bodies others p.sent (omega (arith, p.few, as_many)) p.ahead;
+  -- nothing is pending where all was sent
+  pub are_none : (taken : List ℕ) (bodies : List (List ℕ)) (answers : List Said) (before now : Option (List ℕ)) → Appends before now (said_bytes answers) → WaitsForNone taken bodies (length answers)
+      → ArePending none_pending taken bodies answers before now
+  are_none taken bodies answers before now sent ahead = record {
+    sent = length answers;
+    few = omega arith;
+    most = omega arith;
+    room = omega arith;
+    appends = subst (λ (l : List Said). Appends before now (said_bytes l)) (sym (take_all (length answers) answers (omega arith))) sent;
+    text = ap said_bytes (sym (drop_all (length answers) answers (omega arith)));
+    ahead = ahead;
   }
 
-  -- a sink that failed at them, and at bytes behind them, took all replies of a session but sixteen
-  pub sends_but : (now : Option (List ℕ)) (tail : List ℕ) → SendsPrefix mid now (replies.bytes ++ tail)
-      → (s : Session) (others : List (List ℕ)) (more : List Response) (last : List ℕ) → s.taken ≡ taken → s.bodies ≡ bodies ++ others → all_responses s ≡ answers ++ more
-      → output s ≡ (sent_bytes answers ++ tail) ++ last → replies.count + length more ≤ 16 → SendsAllBut 16 before now s
-  sends_but now tail cut s others more last taken_is bodies_are responses_are output_is room =
-      let front : List ℕ = sent_bytes (take p.sent answers) in
-      let whole : sent_bytes answers ++ tail ≡ (front ++ cut.sent) ++ cut.later =
-      ap (λ (x : List ℕ). x ++ tail) (parts_sent p.sent answers) ∙ append_assoc front (sent_bytes (drop p.sent answers)) tail
-      ∙ ap (λ (x : List ℕ). front ++ (x ++ tail)) (sym p.text) ∙ ap (λ (x : List ℕ). front ++ x) cut.parts ∙ sym (append_assoc front cut.sent cut.later) in
-      record {
-        cut = record {
-          sent = front ++ cut.sent;
-          later = cut.later ++ last;
-          parts = output_is ∙ ap (λ (x : List ℕ). x ++ last) whole ∙ append_assoc (front ++ cut.sent) cut.later last;
-          some = omega (arith, cut.some, length-append cut.later last);
-          appends = appends_then before mid now front cut.sent p.appends cut.appends;
-        };
-        whole = p.sent;
-        last = omega (arith, p.most, room, ap length responses_are, length-append answers more);
-        part = cut.sent;
-        replied = ap (λ (l : List Response). sent_bytes l ++ cut.sent) (sym (ap (take p.sent) responses_are ∙ take-append-le p.sent answers more p.few));
-        ahead = subst (λ (l : List (List ℕ)). WaitsForNone s.taken l p.sent) (sym bodies_are)
-            (subst (λ (x : List ℕ). WaitsForNone x (bodies ++ others) p.sent) (sym taken_is) (ahead_more taken bodies others p.sent (omega (arith, p.few, as_many)) p.ahead));
-      }
+  module _ (replies : Pending) (taken : List ℕ) (bodies : List (List ℕ)) (answers : List Said) (before mid : Option (List ℕ)) (p : ArePending replies taken bodies answers before mid) (as_many : length answers ≡ length bodies) where
+    -- replies more are pending
+    pub are_more : (others : List (List ℕ)) (more : List Said) (bytes : List ℕ) → bytes ≡ said_bytes more → replies.count + length more ≤ 16
+        → ArePending (record { bytes = replies.bytes ++ bytes; count = replies.count + length more }) taken (bodies ++ others) (answers ++ more) before mid
+    are_more others more bytes text room = record {
+      sent = p.sent;
+      few = omega (arith, p.few, length-append answers more);
+      most = omega (arith, p.most, length-append answers more);
+      room = room;
+      appends = subst (λ (l : List Said). Appends before mid (said_bytes l)) (sym (take-append-le p.sent answers more p.few)) p.appends;
+      text = ap (λ (x : List ℕ). x ++ bytes) p.text ∙ ap (λ (x : List ℕ). said_bytes (drop p.sent answers) ++ x) text
+          ∙ sym (ap said_bytes (drop-append-le p.sent answers more p.few) ∙ flat_map-append (λ (r : Said). r.sent) (drop p.sent answers) more);
+      ahead = ahead_more taken bodies others p.sent (omega (arith, p.few, as_many)) p.ahead;
+    }
+
+    -- a sink that failed at them, and at bytes behind them, took all replies of a session but sixteen
+    pub sends_but : (now : Option (List ℕ)) (tail : List ℕ) → SendsPrefix mid now (replies.bytes ++ tail)
+        → (s : Sitting) (others : List (List ℕ)) (more : List Said) (last : List ℕ) → s.taken ≡ taken → s.bodies ≡ bodies ++ others → all_said s ≡ answers ++ more
+        → output_of speech s ≡ (said_bytes answers ++ tail) ++ last → replies.count + length more ≤ 16 → SendsAllButLast speech before now s
+    sends_but now tail cut s others more last taken_is bodies_are responses_are output_is room =
+        let front : List ℕ = said_bytes (take p.sent answers) in
+        let whole : said_bytes answers ++ tail ≡ (front ++ cut.sent) ++ cut.later =
+        ap (λ (x : List ℕ). x ++ tail) (parts_sent p.sent answers) ∙ append_assoc front (said_bytes (drop p.sent answers)) tail
+        ∙ ap (λ (x : List ℕ). front ++ (x ++ tail)) (sym p.text) ∙ ap (λ (x : List ℕ). front ++ x) cut.parts ∙ sym (append_assoc front cut.sent cut.later) in
+        record {
+          cut = record {
+            sent = front ++ cut.sent;
+            later = cut.later ++ last;
+            parts = output_is ∙ ap (λ (x : List ℕ). x ++ last) whole ∙ append_assoc (front ++ cut.sent) cut.later last;
+            some = omega (arith, cut.some, length-append cut.later last);
+            appends = appends_then before mid now front cut.sent p.appends cut.appends;
+          };
+          whole = p.sent;
+          last = omega (arith, p.most, room, ap length responses_are, length-append answers more);
+          part = cut.sent;
+          replied = ap (λ (l : List Said). said_bytes l ++ cut.sent) (sym (ap (take p.sent) responses_are ∙ take-append-le p.sent answers more p.few));
+          ahead = subst (λ (l : List (List ℕ)). WaitsForNone s.taken l p.sent) (sym bodies_are)
+              (subst (λ (x : List ℕ). WaitsForNone x (bodies ++ others) p.sent) (sym taken_is) (ahead_more taken bodies others p.sent (omega (arith, p.few, as_many)) p.ahead));
+        }

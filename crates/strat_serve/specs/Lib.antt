@@ -1,5 +1,8 @@
 pub mod Generated
 pub mod Session
+pub mod Speech
+pub mod Spoken
+pub mod Replying
 pub mod World
 pub mod Tables
 pub mod Pending

@@ -2,10 +2,10 @@
 use Rattle.std.specs.Prelude.{◌≡◌, ◌≤◌, ◌⊎◌, ℕ, ◌+◌, List, [], ◌++◌, length, take, drop, Option, Some, None}
 use Rattle.def_crash.specs.Faults.{Rose}
 use Rattle.strat_io.specs.Streams.{Appends}
-use Rattle.strat_model.specs.Run.{Response, sent_bytes}
 use Rattle.strat_model.specs.declared.ended.Ended.{Ended}
 use Rattle.strat_model.specs.declared.ended.Ended.TheVariants as ended
 use Rattle.strat_serve.specs.Session.{SendsPrefix, WaitsForNone}
+use Rattle.strat_serve.specs.Speech.{Said, said_bytes}
 
 -- pending replies: their bytes, and how many they are
 pub record Pending : Type 0 where
@@ -23,13 +23,13 @@ with_sent (Some held) bytes = Some (held ++ bytes)
 -- of these answers the first went out, and the others are pending, sixteen at most; the last piece was read when each frame
 -- that stood whole in front of it had an answer that went out
 pub record ArePending (replies : Pending) (taken : List ℕ) (bodies : List (List ℕ))
-    (answers : List Response) (before now : Option (List ℕ)) : Type 0 where
+    (answers : List Said) (before now : Option (List ℕ)) : Type 0 where
   pub sent : ℕ
   pub few : sent ≤ length answers
   pub most : length answers ≤ sent + replies.count
   pub room : replies.count ≤ 16
-  pub appends : Appends before now (sent_bytes (take sent answers))
-  pub text : replies.bytes ≡ sent_bytes (drop sent answers)
+  pub appends : Appends before now (said_bytes (take sent answers))
+  pub text : replies.bytes ≡ said_bytes (drop sent answers)
   pub ahead : WaitsForNone taken bodies sent
 
 -- a sink was sent what was pending, and nothing is, or nothing was sent, and the same is pending

@@ -8,8 +8,7 @@ use Rattle.strat_base.specs.declared.failures.Fault.TheVariants as fault
 use Rattle.def_crash.specs.Blocks.{AgreeOn}
 use Rattle.def_crash.specs.Faults.{Rose}
 use Rattle.def_crash.specs.Image.{Image}
-use Rattle.def_crash.specs.Moments.{DiskView, Exposes, Images, OnlyReads, Passes}
-use Rattle.def_crash.specs.Trail.{Trail}
+use Rattle.def_crash.specs.Moments.{DiskView, Exposes, Images, Passes}
 use Rattle.def_bytes.specs.Chained.{Chained, manifest_at}
 use Rattle.def_bytes.specs.SuperBlock.{Super, newest_in}
 use Rattle.strat_io.specs.Streams.{Appends}
@@ -23,22 +22,18 @@ use Rattle.strat_model.specs.Answer.{refusal}
 use Rattle.strat_model.specs.Request.{Request}
 use Rattle.strat_model.specs.Spelling.{Spells, IsRefusedAs, reply_body}
 use Rattle.strat_model.specs.Stream.{frame, Splits, Whole, Rest, Long, ending_of, is_partial, is_too_long}
-use Rattle.strat_model.specs.Table.{Cursor, Table, bare}
+use Rattle.strat_model.specs.Table.{Table}
 use Rattle.strat_model.specs.Batch.{Continuation, tables_continued}
-use Rattle.strat_model.specs.Run.{is_change, reaches_disk, takes_memory, Position, Response, Exchange, response_bytes, Answers, AnswersFault, Transcript, IsTranscript, UsesOneRegion, bodies_of, sent_bytes}
+use Rattle.strat_model.specs.Run.{is_change, reaches_disk, takes_memory, Position, Response, Exchange, Transcript, IsTranscript, UsesOneRegion, bodies_of, sent_bytes}
 use Rattle.strat_promote.specs.Job.{blocks_listed}
 use Rattle.def_recovery.specs.Head.{Head, descriptors}
 use Rattle.def_recovery.specs.Opening.{recover}
-use Rattle.def_meaning.specs.StateTable.{table_of}
-use Rattle.def_publish.specs.Contents.{Contents, contents_state}
 use Rattle.def_publish.specs.Standing.{ShowsTable}
 use Rattle.strat_publish.specs.Outcomes.{IsDamagedIn}
-use Rattle.strat_store.specs.Applying.{IsUntouched, TellsTroubleOf, is_fault, may_write}
-use Rattle.strat_store.specs.Cursoring.{LeavesCursors}
+use Rattle.strat_store.specs.Applying.{is_fault, may_write}
 use Rattle.strat_open.specs.Following.{ChangesGateAlone, FollowsFrom, IsOpenedAs, IsUnchanged, LeavesOpening}
-use Rattle.strat_memory.specs.Held.{Held, IsConsistent, IsOnDisk, StandsAt, arrays_held, head_held, position_at}
-use Rattle.strat_store.specs.Ranging.{HasPairsFor, TellsFrom}
-use Rattle.strat_publish.specs.Settling.{LeavesPublished, carries_out}
+use Rattle.strat_memory.specs.Held.{Held, IsConsistent, IsOnDisk, arrays_held, head_held}
+use Rattle.strat_store.specs.Ranging.{HasPairsFor}
 use Rattle.strat_serve.specs.World.{World}
 
 -- these bytes were taken from the front of a source
@@ -105,66 +100,6 @@ AreAnsweredBy _ _ = ⊥
 pub record FailsAsMet (before now : ℕ) (met : Option Fault) : Type 0 where
   pub rose : met ≡ Some fault.Device → Rose before now
   pub same : met ≢ Some fault.Device → now ≡ before
-
--- a body was answered, and a store that stood with these contents and cursors goes on
-pub record ContinuesWith (before now : DiskView) (old : Held) (x : Contents) (rows : List Cursor)
-    (body : List ℕ) (response : Response) (new : Held) : Type 0 where
-  pub going : new.spent ≡ false
-  pub after : Contents
-  pub left : List Cursor
-  pub stands : StandsAt now new after left
-  pub answers : Answers old.log.mem (position_at old x rows) body response
-      (position_at new after left)
-  pub trail : Trail ShowsTable now before.moment
-      (table_of (contents_state x) ∷ table_of (contents_state after) ∷ []) 1
-
--- a body met a fault of the device, and the run ends with it
-pub record StopsWith (before now : DiskView) (old : Held) (x : Contents) (rows : List Cursor)
-    (body : List ℕ) (response : Response) : Type 0 where
-  pub done : Position
-  pub fault : AnswersFault old.log.mem (position_at old x rows) body response done
-  pub few : done.fill ≤ old.log.mem
-  pub answer : response.answer ≡ refusal why.DeviceFault
-  pub trail : Trail ShowsTable now before.moment
-      (table_of (contents_state x) ∷ bare done.table ∷ []) 0
-
--- a body is no command: it was refused, and left the store and the disk alone
-pub record IsTurnedAway (before now : DiskView) (old : Held) (body : List ℕ) (response : Response)
-    (new : Held) : Type 0 where
-  pub refused : IsRefusedFor body response
-  pub store : new ≡ old
-  pub disk : OnlyReads before now
-
--- a body is a command, and a store answered it so, on any disk
-pub record IsToldBy (before now : DiskView) (old : Held) (body : List ℕ) (response : Response)
-    (new : Held) : Type 0 where
-  pub request : Request
-  pub spelled : Spells body response.tag request
-  -- where it asks for no change and met no fault it says what memory and the arrays say
-  pub found : (f : Image) → Exposes before f → is_fault response.answer.reply ≡ false
-      → TellsFrom f old request response.answer
-  -- and no more pairs than were asked for
-  pub few : HasPairsFor request response.answer
-  -- it left the disk as it was, or wrote: what it asked for, and what it was told, says which
-  pub same : IsUntouched before now request old response.answer.reply new
-  pub err : TellsTroubleOf before old request response.answer.reply
-  pub leaves : LeavesPublished before now old (carries_out request response.answer.reply)
-      response.answer.reply new
-  -- and of the cursors it left what it asked for
-  pub cursors : LeavesCursors old request response.answer new
-
--- a body was answered by these bytes, and that says which fault the store met, if it met one; where
--- the store stood on the disk it was answered as the table says
-pub record IsAnswered (before now : DiskView) (old : Held) (body : List ℕ) (met : Option Fault)
-    (new : Held) (bytes : List ℕ) : Type 0 where
-  pub response : Response
-  pub spelled : bytes ≡ response_bytes response
-  pub responds : IsTurnedAway before now old body response new
-      ⊎ IsToldBy before now old body response new
-  pub tells : met ≡ fault_told response.answer.reply
-  pub run : (x : Contents) (rows : List Cursor) → StandsAt before old x rows
-      → ContinuesWith before now old x rows body response new
-      ⊎ StopsWith before now old x rows body response
 
 -- an array was in a manifest on the disk at some moment since a run began: a crash at that moment
 -- might have left an image whose newest superblock leads to a manifest that names it

@@ -4,8 +4,8 @@ ghost use Rattle.std.specs.Prelude.{◌≡◌, ◌≤◌, ◌<◌, ◌+◌, ◌-
 ghost use Rattle.strat_base.specs.Numbers.{AreBytes};
 ghost use Rattle.def_crash.specs.Moments.{Passes};
 ghost use Rattle.strat_memory.specs.Held.{Held, IsConsistent};
-ghost use Rattle.strat_model.specs.Answer.{plain, refusal};
-ghost use Rattle.strat_model.specs.Run.{Response, response_bytes};
+ghost use Rattle.strat_model.specs.Answer.{refusal};
+ghost use Rattle.strat_model.specs.Request.{Request};
 ghost use Rattle.strat_model.specs.Stream.{IsBody};
 ghost use Rattle.strat_model.specs.declared.ended.Ended.TheVariants as ended;
 ghost use Rattle.strat_model.specs.declared.replies.Refusal.TheVariants as why;
@@ -13,81 +13,61 @@ ghost use Rattle.strat_frame.specs.declared.deframer.Next.TheVariants as next;
 ghost use Rattle.strat_serve.specs.Grouping.{GathersBatch, StagesBody};
 ghost use Rattle.strat_serve.specs.Pending.{SendsAtEnd};
 ghost use Rattle.strat_serve.specs.Progress.{TurnGoesOn, ServesPending, TurnHasCause, TurnsTo, waiting};
+ghost use Rattle.strat_serve.specs.Speech.{Said};
 ghost use Rattle.strat_serve.specs.World.{Streams, beside, world};
 ghost use Rattle.strat_store.specs.Staging.{replies_staged};
 
 use crate::answering::{Buffers, serve_alone};
-use crate::pending::{end_run, make_room};
-use arrayvec::ArrayVec;
+use crate::pending::{StagedReplies, end_run, make_room};
+use crate::protocol::Protocol;
 use strat_base::PairBuf;
 use strat_disk::Disk;
-use strat_frame::{Next, OutBuf, parse_command, write_reply};
+use strat_frame::{Next, OutBuf};
 use strat_io::Sink;
-use strat_model::{Ended, Refusal, Reply};
+use strat_model::{Ended, Reply};
 use strat_store::Store;
 use strat_store::staging_laws::staging_follows_the_table;
 
-/// Bytes of the replies to a batch: sixteen of 13 each.
-const REPLIES_MAX: usize = 208;
-
-/// Adds bytes to the replies that wait.
-fn keep_bytes(kept: &mut ArrayVec<u8, REPLIES_MAX>, bytes: &[u8])
-    requires { length kept.old.items + length bytes.now ≤ 208 }
-    ensures ok { kept.new.items ≡ kept.old.items ++ bytes.now }
-    ensures len { length kept.new.items ≡ length kept.old.items + length bytes.now }
-{
-    kept.try_extend_from_slice(bytes).unwrap();
-}
-
-/// Adds the reply to the change that was staged last to those that wait, and says what it tells.
-fn keep_reply(
-    store: &Store,
-    tag: u32,
-    pairs: &mut PairBuf,
-    out: &mut OutBuf,
-    kept: &mut ArrayVec<u8, REPLIES_MAX>,
-) -> Reply
+/// What is told of the change that was staged last.
+fn last_reply(store: &Store) -> Reply
     requires fits { store.now.spent ≡ false }
     requires found { 0 < length store.now.log.batch }
-    requires room { length kept.old.items + 13 ≤ 208 }
     ensures found { slice_get (replies_staged store.now) (length store.now.log.batch - 1)
         ≡ Some result }
-    ensures ok { kept.new.items
-        ≡ kept.old.items ++ response_bytes (record { tag = tag; answer = plain result }) }
-    ensures len { length kept.new.items ≤ length kept.old.items + 13 }
 {
-    pairs.clear();
-    out.clear();
-    let told = store.staged_reply(store.staged() - 1);
-    write_reply(tag, &told, pairs, out);
-    keep_bytes(kept, out.bytes());
-    told
+    store.staged_reply(store.staged() - 1)
 }
 
-/// Stages the change that a body asks for, and keeps its reply for later: the body's tag is answered. `None` if it asks
-/// for no change, or for one that may not be staged; then nothing has changed.
-fn stage_body(
+/// Stages the change that a body asks for, and keeps what is sent for it for later: the body's tag is answered. `None` if it
+/// asks for no change, or for one that may not be staged; then nothing has changed.
+fn stage_body<P: Protocol>(
+    protocol: &P,
     store: &mut Store,
     body: &[u8],
     pairs: &mut PairBuf,
     out: &mut OutBuf,
-    kept: &mut ArrayVec<u8, REPLIES_MAX>,
+    kept: &mut StagedReplies,
 ) -> Option<u32>
     requires fits { store.old.spent ≡ false }
-    requires room { length kept.old.items ≤ 13 * length store.old.log.batch }
-    ensures ok { IfSome result (λ tag. (response : Response) × (response.tag ≡ tag)
-        × StagesBody store.old body.now response store.new
-        × (kept.new.items ≡ kept.old.items ++ response_bytes response)) }
+    requires room { length kept.old ≤ 1295 * length store.old.log.batch }
+    ensures ok { IfSome result (λ tag. (said : Said) × (said.tag ≡ tag)
+        × StagesBody P.speech store.old body.now said store.new
+        × (kept.new ≡ kept.old ++ said.sent)) }
     ensures none { IfNone result ((store.new ≡ store.old)
-        × (kept.new.items ≡ kept.old.items)) }
-    ensures room { length kept.new.items ≤ 13 * length store.new.log.batch }
+        × (kept.new ≡ kept.old)) }
+    ensures room { length kept.new ≤ 1295 * length store.new.log.batch }
     ensures state { store.new.spent ≡ false }
 {
-    let Ok((tag, command)) = parse_command(body) else {
+    let changes = store.changes();
+    let Some((tag, command)) = protocol.ask(changes, body, pairs, out) else {
         return None;
     };
     if store.stage(&command) {
-        keep_reply(store, tag, pairs, out, kept);
+        let reply = last_reply(store);
+        pairs.clear();
+        out.clear();
+        protocol.tell(changes, tag, &command, &reply, pairs, out);
+        kept.keep(out.bytes());
         return Some(tag);
     }
     None
@@ -95,17 +75,13 @@ fn stage_body(
 
 /// Stages the changes of the frames that are held, one after the other. Answers what ended that: a body that is not
 /// staged, the end of what is held, or a frame that is too long.
-fn stage_frames(
-    store: &mut Store,
-    buffers: &mut Buffers,
-    kept: &mut ArrayVec<u8, REPLIES_MAX>,
-) -> Next
+fn stage_frames<P: Protocol>(protocol: &P, store: &mut Store, buffers: &mut Buffers) -> Next
     requires fits { store.old.spent ≡ false }
-    requires room { length kept.old.items ≤ 13 * length store.old.log.batch }
-    ensures ok { GathersBatch store.old store.new buffers.old.frames buffers.new.frames result
-        kept.old.items kept.new.items }
+    requires room { length buffers.old.staged ≤ 1295 * length store.old.log.batch }
+    ensures ok { GathersBatch P.speech store.old store.new buffers.old.frames buffers.new.frames
+        result buffers.old.staged buffers.new.staged }
     ensures fits { AreBytes buffers.new.frames.held }
-    ensures room { length kept.new.items ≤ 13 * length store.new.log.batch }
+    ensures room { length buffers.new.staged ≤ 1295 * length store.new.log.batch }
     ensures same { buffers.new.pending ≡ buffers.old.pending }
     ensures state { store.new.spent ≡ false }
 {
@@ -113,11 +89,12 @@ fn stage_frames(
         match buffers.frames.next() {
             Next::Frame => {
                 let staged = stage_body(
+                    protocol,
                     store,
                     buffers.frames.body(),
                     &mut buffers.pairs,
                     &mut buffers.out,
-                    kept,
+                    &mut buffers.staged,
                 );
                 if staged.is_none() {
                     return Next::Frame;
@@ -130,17 +107,20 @@ fn stage_frames(
 
 /// Ends a run at a batch that the device failed: answers so under the tag of its first change, behind the replies that are
 /// pending. Says how the run ends.
-fn refuse_batch<K: Sink>(sink: &mut K, tag: u32, buffers: &mut Buffers) -> Ended
+fn refuse_batch<P: Protocol, K: Sink>(
+    protocol: &P,
+    sink: &mut K,
+    changes: u32,
+    tag: u32,
+    buffers: &mut Buffers,
+) -> Ended
     requires len { buffers.old.pending.count + 1 ≤ 16 }
     requires room { length buffers.old.pending.bytes ≤ 65536 }
-    ensures { SendsAtEnd ended.Device result (K.held sink.old) (K.held sink.new)
+    ensures { (r : Request) → SendsAtEnd ended.Device result (K.held sink.old) (K.held sink.new)
         (K.faults sink.old) (K.faults sink.new) (buffers.old.pending.bytes
-        ++ response_bytes (record { tag = tag; answer = refusal why.DeviceFault })) }
+        ++ P.speech.tells changes tag r (refusal why.DeviceFault)) }
 {
-    buffers.out.clear();
-    buffers.pairs.clear();
-    let reply = Reply::Refused(Refusal::DeviceFault);
-    write_reply(tag, &reply, &buffers.pairs, &mut buffers.out);
+    protocol.tell_fault(changes, tag, &mut buffers.pairs, &mut buffers.out);
     buffers.pending.keep(buffers.out.bytes(), 1);
     end_run(sink, &mut buffers.pending, Ended::Device)
 }
@@ -149,7 +129,8 @@ fn refuse_batch<K: Sink>(sink: &mut K, tag: u32, buffers: &mut Buffers) -> Ended
 /// most. Two writes and two syncs, whatever their number. Their replies are pending once they are durable. Answers what
 /// comes after them, or how the run ends. If the device fails, DeviceFault is sent to the first change alone. `None`: the
 /// body in the buffer is not staged, and nothing has changed.
-fn serve_group<K: Sink, D: Disk>(
+fn serve_group<P: Protocol, K: Sink, D: Disk>(
+    protocol: &P,
     store: &mut Store,
     buffers: &mut Buffers,
     sink: &mut K,
@@ -160,11 +141,12 @@ fn serve_group<K: Sink, D: Disk>(
     requires len { IsBody buffers.old.frames.body }
     requires room { AreBytes buffers.old.frames.held }
     ensures ok { IfSome result (λ turn. (start : Held) (count budget : ℕ) (x y : Streams) (d : D)
-        → count ≤ budget → ServesPending start store.old count
+        → count ≤ budget → ServesPending P.speech start store.old count
         (waiting next.Frame buffers.old.frames) buffers.old.pending
         (beside x (D.view d)) (world y.left y.source_faults (K.held sink.old) (K.faults sink.old)
         (D.view disk.old) (D.faults disk.old))
-        → TurnsTo turn start store.new count budget buffers.new.frames buffers.new.pending
+        → TurnsTo P.speech turn start store.new count budget
+        buffers.new.frames buffers.new.pending
         (beside x (D.view d)) (world y.left y.source_faults (K.held sink.new) (K.faults sink.new)
         (D.view disk.new) (D.faults disk.new))) }
     ensures kept { IfSome result (λ turn.
@@ -179,30 +161,33 @@ fn serve_group<K: Sink, D: Disk>(
         (world y.left y.source_faults (K.held sink.new) (K.faults sink.new)
         (D.view disk.new) (D.faults disk.new))) }
 {
-    let mut kept = ArrayVec::new();
+    buffers.staged.clear();
+    let before = store.changes();
     let first = stage_body(
+        protocol,
         store,
         buffers.frames.body(),
         &mut buffers.pairs,
         &mut buffers.out,
-        &mut kept,
+        &mut buffers.staged,
     )?;
-    let met = stage_frames(store, buffers, &mut kept);
+    let met = stage_frames(protocol, store, buffers);
     let many = store.staged();
     let Ok(()) = make_room(sink, &mut buffers.pending, many) else {
         return Some(Err(Ended::Sink));
     };
     staging_follows_the_table::<D>();
     if store.commit(disk).is_err() {
-        return Some(Err(refuse_batch(sink, first, buffers)));
+        return Some(Err(refuse_batch(protocol, sink, before, first, buffers)));
     }
-    buffers.pending.keep(kept.as_slice(), many);
+    buffers.pending.keep(buffers.staged.bytes(), many);
     Some(Ok(met))
 }
 
 /// Serves the frame in the buffer: together with the changes of frames held after it, or alone. Its reply is pending then,
 /// as those are to the frames before it, sixteen at most. Answers what comes next, or how the run ends.
-pub(crate) fn serve_turn<K: Sink, D: Disk>(
+pub(crate) fn serve_turn<P: Protocol, K: Sink, D: Disk>(
+    protocol: &P,
     store: &mut Store,
     buffers: &mut Buffers,
     sink: &mut K,
@@ -213,11 +198,12 @@ pub(crate) fn serve_turn<K: Sink, D: Disk>(
     requires len { IsBody buffers.old.frames.body }
     requires room { AreBytes buffers.old.frames.held }
     ensures ok { (start : Held) (count budget : ℕ) (x y : Streams) (d : D)
-        → count ≤ budget → ServesPending start store.old count
+        → count ≤ budget → ServesPending P.speech start store.old count
         (waiting next.Frame buffers.old.frames) buffers.old.pending
         (beside x (D.view d)) (world y.left y.source_faults (K.held sink.old) (K.faults sink.old)
         (D.view disk.old) (D.faults disk.old))
-        → TurnsTo result start store.new count budget buffers.new.frames buffers.new.pending
+        → TurnsTo P.speech result start store.new count budget
+        buffers.new.frames buffers.new.pending
         (beside x (D.view d)) (world y.left y.source_faults (K.held sink.new) (K.faults sink.new)
         (D.view disk.new) (D.faults disk.new)) }
     ensures kept { TurnGoesOn result store.new buffers.old.frames buffers.new.frames }
@@ -228,8 +214,8 @@ pub(crate) fn serve_turn<K: Sink, D: Disk>(
         (world y.left y.source_faults (K.held sink.new) (K.faults sink.new)
         (D.view disk.new) (D.faults disk.new)) }
 {
-    match serve_group(store, buffers, sink, disk) {
+    match serve_group(protocol, store, buffers, sink, disk) {
         Some(turn) => turn,
-        None => serve_alone(store, buffers, sink, disk),
+        None => serve_alone(protocol, store, buffers, sink, disk),
     }
 }

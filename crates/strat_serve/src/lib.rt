@@ -9,8 +9,12 @@ mod generating;
 mod grouping;
 pub mod laws;
 mod pending;
+mod protocol;
+mod replying;
 mod serving;
 pub mod workloads;
 
 pub use generating::{GenSource, NullSink};
-pub use serving::serve;
+pub use protocol::Protocol;
+pub use replying::Replies;
+pub use serving::{serve, serve_by};

@@ -1,6 +1,6 @@
 //! Replies that wait until they are sent together: sixteen at most.
 
-ghost use Rattle.std.specs.Prelude.{◌≡◌, ◌≤◌, ◌+◌, ◌++◌, length, true, IfOk, OnOk, OnErr};
+ghost use Rattle.std.specs.Prelude.{◌≡◌, ◌≤◌, ◌+◌, ◌++◌, [], length, true, IfOk, OnOk, OnErr};
 ghost use Rattle.def_crash.specs.Faults.{CountsFaults};
 ghost use Rattle.strat_io.specs.Streams.{Appends};
 ghost use Rattle.strat_serve.specs.Pending.{SendsAtEnd, SendsOrKeeps, none_pending};
@@ -20,6 +20,9 @@ const FEW_BYTES: usize = 65_536;
 
 /// Bytes of pending replies, with room for the largest reply behind the most to which one is added.
 const ROOM: usize = 393_996;
+
+/// Bytes of what is sent for a batch: sixteen answers of 1,295 each, as long as the frame of the largest change.
+const BATCH_ROOM: usize = 20_720;
 
 /// Pending replies. Its memory is taken by `new`.
 #[derive(Drop)]
@@ -85,6 +88,56 @@ impl PendingReplies {
         ensures room { result ≡ true → length self.now.bytes ≤ 65536 }
     {
         self.count <= MOST - more && self.bytes.len() <= FEW_BYTES
+    }
+}
+
+/// What is sent for the staged changes, once they are durable. Its memory is taken by `new`.
+#[derive(Drop)]
+pub struct StagedReplies {
+    bytes: Vec<u8>,
+}
+
+impl Model for StagedReplies {
+    ghost use Rattle.std.specs.Prelude.{◌≤◌, ℕ, List, vec_capacity};
+
+    ghost Value = { List ℕ };
+
+    ghost view = { λ r. r.bytes.items };
+
+    ghost invariant = { λ r. 20720 ≤ vec_capacity r.bytes };
+}
+
+impl StagedReplies {
+    /// None so far.
+    pub fn new(alloc: Global) -> Result<StagedReplies, NoMemory>
+        ensures ok { IfOk result (λ r. r ≡ []) }
+    {
+        Ok(StagedReplies {
+            bytes: Vec::with_capacity(alloc, BATCH_ROOM)?,
+        })
+    }
+
+    /// Adds the bytes of an answer.
+    pub(crate) fn keep(&mut self, bytes: &[u8])
+        requires room { length self.old + length bytes.now ≤ 20720 }
+        ensures ok { self.new ≡ self.old ++ bytes.now }
+        ensures len { length self.new ≡ length self.old + length bytes.now }
+    {
+        self.bytes.extend_from_slice(bytes).unwrap();
+    }
+
+    /// Forgets them.
+    pub(crate) fn clear(&mut self)
+        ensures { self.new ≡ [] }
+    {
+        self.bytes.clear();
+    }
+
+    /// Their bytes.
+    pub(crate) fn bytes(&self) -> &[u8]
+        ensures { result.now ≡ self.now }
+    {
+        &self.bytes
     }
 }
 

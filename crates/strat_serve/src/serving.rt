@@ -1,16 +1,19 @@
 //! The serving run.
 
-ghost use Rattle.std.specs.Prelude.{◌≡◌, ◌≢◌, ◌<◌, ◌≤◌, ◌+◌, length, take, [], IfOk, IfSome, IfNone, OnOk, OnErr, false};
+ghost use Rattle.std.specs.Prelude.{◌≡◌, ◌≢◌, ◌<◌, ◌≤◌, ◌+◌, length, take, [], IfOk, IfSome, IfNone, OnErr, false};
 ghost use Rattle.def_crash.specs.Faults.{CountsFaults};
 ghost use Rattle.def_crash.specs.Moments.{Passes};
 ghost use Rattle.strat_memory.specs.Held.{IsConsistent};
 ghost use Rattle.strat_serve.specs.Pending.{none_pending};
-ghost use Rattle.strat_serve.specs.Session.{Took, IsAtEnd, RunOutcome, RefusesFor, IsEarlyEnd, EndHasCause, HasOpened, Served};
+ghost use Rattle.strat_serve.specs.Session.{Took, IsAtEnd, RunOutcome, RefusesFor, IsEarlyEnd, EndHasCause, HasOpened};
+ghost use Rattle.strat_serve.specs.Spoken.{ServedBy, SpokenOutcome};
 ghost use Rattle.strat_serve.specs.World.{world};
 
 use crate::answering::{Buffers, refuse_long};
 use crate::grouping::serve_turn;
 use crate::pending::send_pending;
+use crate::protocol::Protocol;
+use crate::replying::Replies;
 use std::alloc::Global;
 use strat_base::Failed;
 use strat_disk::Disk;
@@ -60,9 +63,10 @@ fn at_end(held: usize) -> Ended
     }
 }
 
-/// Serves frames from a source to a sink over an open store, as `serve` does.
+/// Serves frames from a source to a sink over an open store, as `serve_by` does.
 #[tactic(auto, using(def_crash::proofs::MomentLemmas::passes_trans))]
-fn serve_frames<S: Source, K: Sink, D: Disk>(
+fn serve_frames<P: Protocol, S: Source, K: Sink, D: Disk>(
+    protocol: &P,
     store: &mut Store,
     buffers: &mut Buffers,
     source: &mut S,
@@ -75,7 +79,7 @@ fn serve_frames<S: Source, K: Sink, D: Disk>(
     requires kept { IsConsistent store.old }
     ensures ok { (d : D) → HasOpened (D.view d) (D.faults d)
         (D.view disk.old) (D.faults disk.old) store.old
-        → Served budget result
+        → ServedBy P.speech budget result
         (world (S.left source.old) (S.faults source.old) (K.held sink.old) (K.faults sink.old)
         (D.view d) (D.faults d))
         (world (S.left source.new) (S.faults source.new) (K.held sink.new) (K.faults sink.new)
@@ -92,7 +96,7 @@ fn serve_frames<S: Source, K: Sink, D: Disk>(
     let mut met = Next::NotYet;
     loop {
         match met {
-            Next::Frame => match serve_turn(store, buffers, sink, disk) {
+            Next::Frame => match serve_turn(protocol, store, buffers, sink, disk) {
                 Ok(next) => met = next,
                 Err(how) => return how,
             },
@@ -113,17 +117,59 @@ fn serve_frames<S: Source, K: Sink, D: Disk>(
                 buffers.frames.feed(&piece[..n]);
                 met = buffers.frames.next();
             }
-            Next::TooLong { .. } => return refuse_long(sink, buffers),
+            Next::TooLong { .. } => return refuse_long(protocol, sink, buffers),
         }
     }
 }
 
-/// Opens the store on a disk and serves frames from a source to a sink, until the source ends or as many bytes were read
-/// as the budget has. It takes the memory for frames, pairs and replies before it touches the disk. It reads at most 4,096
-/// bytes at a time, and reads on only when every whole frame before has its reply, and these went out. A reply goes out
-/// only when the change that it answers is durable, in one write with those around it: before more than sixteen wait, or
-/// more than 65,536 bytes.
+/// Opens the store on a disk and serves frames of a protocol from a source to a sink, until the source ends or as many bytes
+/// were read as the budget has. It takes the memory for frames, pairs and replies before it touches the disk. It reads at
+/// most 4,096 bytes at a time, and reads on only when every whole frame before has its reply, and these went out. A reply
+/// goes out only when the change that it answers is durable, in one write with those around it: before more than sixteen
+/// wait, or more than 65,536 bytes.
 #[tactic(auto, using(def_crash::proofs::MomentLemmas::passes_trans))]
+pub fn serve_by<P: Protocol, S: Source, K: Sink, D: Disk>(
+    alloc: Global,
+    protocol: &P,
+    source: &mut S,
+    sink: &mut K,
+    disk: &mut D,
+    budget: u64,
+) -> Ended
+    ensures ok { SpokenOutcome P.speech budget result
+        (world (S.left source.old) (S.faults source.old) (K.held sink.old) (K.faults sink.old)
+        (D.view disk.old) (D.faults disk.old))
+        (world (S.left source.new) (S.faults source.new) (K.held sink.new) (K.faults sink.new)
+        (D.view disk.new) (D.faults disk.new)) }
+    ensures found { RefusesFor result (D.view disk.old) (D.view disk.new) }
+    ensures time { Passes (D.view disk.old) (D.view disk.new) }
+    ensures cause { EndHasCause result
+        (world (S.left source.old) (S.faults source.old) (K.held sink.old) (K.faults sink.old)
+        (D.view disk.old) (D.faults disk.old))
+        (world (S.left source.new) (S.faults source.new) (K.held sink.new) (K.faults sink.new)
+        (D.view disk.new) (D.faults disk.new)) }
+    ensures same { IsEarlyEnd result (D.view disk.old)
+        → (source.new ≡ source.old) × (sink.new ≡ sink.old) }
+{
+    let Ok(mut buffers) = Buffers::new(alloc) else {
+        return Ended::NoMemory;
+    };
+    let mut store = match Store::attach(alloc, disk) {
+        Ok(store) => store,
+        Err(fault) => return Ended::from(fault),
+    };
+    serve_frames(
+        protocol,
+        &mut store,
+        &mut buffers,
+        source,
+        sink,
+        disk,
+        budget,
+    )
+}
+
+/// Serves commands on the store of a disk, and sends a reply to each, as `serve_by` does.
 pub fn serve<S: Source, K: Sink, D: Disk>(
     alloc: Global,
     source: &mut S,
@@ -146,12 +192,5 @@ pub fn serve<S: Source, K: Sink, D: Disk>(
     ensures same { IsEarlyEnd result (D.view disk.old)
         → (source.new ≡ source.old) × (sink.new ≡ sink.old) }
 {
-    let Ok(mut buffers) = Buffers::new(alloc) else {
-        return Ended::NoMemory;
-    };
-    let mut store = match Store::attach(alloc, disk) {
-        Ok(store) => store,
-        Err(fault) => return Ended::from(fault),
-    };
-    serve_frames(&mut store, &mut buffers, source, sink, disk, budget)
+    serve_by(alloc, &Replies, source, sink, disk, budget)
 }

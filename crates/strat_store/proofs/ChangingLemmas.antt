@@ -258,6 +258,7 @@ module _ (r : OpenStore) (cached : Blocks) (kept : IsConsistent (held_of r cache
             held = more_held j grown;
             cached = cached_behind stands.stands.content now.content (held_of r cached) kept
                 (subst (λ (n : ℕ). KeepsTaken (is_in_front n) stands.stands.content now.content) kept.log.mem (keeps stands.stands.content now.content stands.stands.exposed now.exposed)) stands.cached;
+            filtered = stands.filtered;
           };
           place = record {
             table = sym (steps_to (contents_state x) c takes);

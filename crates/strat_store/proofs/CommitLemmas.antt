@@ -42,7 +42,7 @@ module _ (old new : DiskView) (s : Held) (whole : IsConsistent (held_joined s)) 
   -- superblock and manifest are on the disk as they were
   commit_on : (t : Held) → KeepsPublished s t → IsOnDisk old s → IsOnDisk new t
   commit_on t same on =
-      let then : KeepsPublished (held_joined s) t = record { slot = same.slot; sb = same.sb; chained = same.chained; levels = same.levels } in
+      let then : KeepsPublished (held_joined s) t = record { slot = same.slot; sb = same.sb; chained = same.chained; levels = same.levels; filters = same.filters } in
       let first : IsOnDisk old (held_joined s) = record { content = on.content; exposed = on.exposed; newest = on.newest; chain = on.chain } in
       (logged_leaves old new (held_joined s) t whole then torn appends.time).1 first
 
@@ -96,6 +96,7 @@ module _ (old new : DiskView) (s : Held) (whole : IsConsistent (held_joined s)) 
             stands = now;
             held = ap (λ (z : Contents). with_batch z s.log.batch) at.stands.held;
             cached = cached_behind f g (held_joined s) whole (behind f g at.stands.stands.exposed now.exposed) at.stands.cached;
+            filtered = at.stands.filtered;
           };
           rows_are = rows_kept f g (held_joined s) whole same rows at.rows_are;
           going = λ k of. going_kept f g (held_joined s) whole same k of (at.going k of);

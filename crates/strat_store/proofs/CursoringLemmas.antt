@@ -126,7 +126,7 @@ module _ (v : DiskView) (s : Held) (x : Contents) (rows : List Cursor) (whole : 
   pub stands_still : (m : Memory) (b : Bool) (left : List Cursor) → AreRowsOf f m.parents m.cursors.opened left
       → ((c : HeldCursor) → Contains m.cursors.opened c → MayGoOn f next c s.cached) → StandsAt v (record s { memory = m; spent = b }) x left
   stands_still m b left rows_are going = record {
-    stands = record { stands = at.stands.stands; held = at.stands.held; cached = at.stands.cached };
+    stands = record { stands = at.stands.stands; held = at.stands.held; cached = at.stands.cached; filtered = at.stands.filtered };
     rows_are = rows_are;
     going = going;
   }
@@ -161,7 +161,7 @@ module _ (v : DiskView) (s : Held) (x : Contents) (rows : List Cursor) (whole : 
     pub stands_now : (m : Memory) (b : Bool) (left : List Cursor) → AreRowsOf f m.parents m.cursors.opened left
         → ((c : HeldCursor) → Contains m.cursors.opened c → MayGoOn f next c d) → StandsAt now (record s { memory = m; cached = d; spent = b }) x left
     stands_now m b left rows_are going = record {
-      stands = record { stands = later; held = at.stands.held; cached = still_cached };
+      stands = record { stands = later; held = at.stands.held; cached = still_cached; filtered = at.stands.filtered };
       rows_are = subst (λ (g : Image). AreRowsOf g m.parents m.cursors.opened left) same_content rows_are;
       going = λ c of. subst (λ (g : Image). MayGoOn g next c d) same_content (going c of);
     }

@@ -67,7 +67,7 @@ module _ (r : OpenStore) (cached : Blocks) (kept : IsConsistent (held_of r cache
         told = sym (ap (λ (o : Outcome). o.answer) same);
         going = refused_calm r.memory c q refused;
         after = x;
-        stands = record { stands = stands.stands; held = stands.held; cached = stands.cached };
+        stands = record { stands = stands.stands; held = stands.held; cached = stands.cached; filtered = stands.filtered };
         place = stays r.journal.mem at after (request_for c) off (λ i. (sym same i).table) refl;
         fill = empties_none r.journal.mem at after (request_for c) off;
       })
@@ -106,7 +106,7 @@ module _ (r : OpenStore) (cached : Blocks) (kept : IsConsistent (held_of r cache
         full = omega (arith, full, kept.log.mem);
         told = refl;
         going = refl;
-        stands = record { stands = now.stands; held = now.held; cached = now.cached };
+        stands = record { stands = now.stands; held = now.held; cached = now.cached; filtered = now.filtered };
         place = λ i. record { table = table_of (contents_state x); fill = length (same refl i).list };
       }))
   gives_up new w trouble.Device still same whole = breaks r cached kept v x stands c free new w

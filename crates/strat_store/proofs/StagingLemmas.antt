@@ -256,7 +256,7 @@ stands_staged v s x rows c keeps at =
     let m = memory_after s.memory c in
     let same : m.cursors.opened ≡ s.memory.cursors.opened = ap (λ (k : HeldCursors). k.opened) (cursors_stay s.memory c) in
     record {
-      stands = record { stands = at.stands.stands; held = at.stands.held; cached = at.stands.cached };
+      stands = record { stands = at.stands.stands; held = at.stands.held; cached = at.stands.cached; filtered = at.stands.filtered };
       rows_are = subst (λ (cs : List HeldCursor). AreRowsOf f m.parents cs rows) (sym same) (keeps f rows at.rows_are);
       going = λ k of. at.going k (subst (λ (cs : List HeldCursor). Contains cs k) same of);
     }

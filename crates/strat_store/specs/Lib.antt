@@ -1,3 +1,4 @@
+pub mod Filtering
 pub mod Getting
 pub mod Ranging
 pub mod Staging

@@ -22,6 +22,7 @@ use Rattle.strat_model.specs.declared.replies.Reply.{Reply}
 use Rattle.strat_model.specs.declared.replies.Reply.TheVariants as reply
 use Rattle.def_recovery.specs.Asked.{asked}
 use Rattle.strat_store.specs.Applying.{change_wanted}
+use Rattle.strat_store.specs.Filtering.{arrays_unrefused, asked_filtered}
 use Rattle.strat_store.specs.Getting.{MayTellOfKey}
 use Rattle.strat_memory.specs.Held.{Held}
 use Rattle.strat_memory.specs.Memory.{Memory, info_told, stat_told}
@@ -95,9 +96,16 @@ abbrev pub arrays_of_version : Held → ℕ → List ArrayDesc
 arrays_of_version s version =
     if is_known s.memory.parents version then arrays_asked s.memory.parents s.levels version else []
 
--- the arrays that a look-up may read: those of its version, or of its cursor. No other command reads any
+-- those of them whose filter does not refuse a key
+abbrev pub arrays_of_key : Held → ℕ → List ℕ → List ArrayDesc
+arrays_of_key s version key =
+    if is_known s.memory.parents version
+    then arrays_unrefused s.filters s.memory.parents s.levels version key else []
+
+-- the arrays that a look-up may read: those of its version, for a get without those that refuse its key, or those of its
+-- cursor. No other command reads any
 abbrev pub arrays_wanted : Held → Request → List ArrayDesc
-arrays_wanted s (Get version key) = arrays_of_version s version
+arrays_wanted s (Get version key) = arrays_of_key s version key
 arrays_wanted s (Scan version lo hi limit) = arrays_of_version s version
 arrays_wanted s (NextPairs number limit) = arrays_of_number number s.memory.cursors.opened
 arrays_wanted s _ = []
@@ -108,11 +116,11 @@ ReadsForLook s request before now =
     change_wanted request ≡ None → ReadsArrays (arrays_wanted s request) before now
 
 -- a command that asks for no change was answered as what is in memory says, and the arrays of its version or of its cursor where
--- they are read as an image has them, whatever is bad in others
+-- they are read as an image has them, whatever is bad in others; of a key that its filter refuses an array has no entry for a get
 abbrev pub TellsFrom : Image → Held → Request → Answer → Type 0
 TellsFrom f s (Get version key) answer = TellsOfVersion s.memory version answer
     (MayTellOfKey answer.reply × (AreReadAs f s version
-    → answer ≡ found key (asked f s.memory.parents (s.memory.entries ∷ [])
+    → answer ≡ found key (asked_filtered f s.filters s.memory.parents (s.memory.entries ∷ [])
     (levels_there s.levels) version key)))
 TellsFrom f s (Scan version lo hi limit) answer = TellsOfVersion s.memory version answer
     (MayTellOfRange answer.reply × (AreReadAs f s version → (pairs : Pairs)

@@ -4,6 +4,7 @@
 mod changing;
 mod cursors;
 pub mod damage_laws;
+mod filtering;
 mod get;
 mod level_lookup;
 pub mod looking_laws;

@@ -30,6 +30,7 @@ ghost use Rattle.strat_memory.specs.Held.{IsConsistent, StandsAt, StandsWith, ar
 ghost use Rattle.strat_memory.specs.Memory.{KeepsRows, info_told};
 ghost use Rattle.strat_cursor.specs.Looking.{AreOfOldArrays, LooksThrough, ReadsArrays};
 ghost use Rattle.strat_memory.specs.Paying.{StoreTwoSince};
+ghost use Rattle.strat_store.specs.Filtering.{KeepsFilter};
 ghost use Rattle.strat_store.specs.Ranging.{HasPairsFor, ReadsForLook, TellsFrom, arrays_wanted};
 ghost use Rattle.strat_store.specs.Staging.{FollowsBatch, IsStaged, held_joined, may_stage, replies_staged, reply_of_commit, with_staged};
 ghost use Rattle.strat_memory.specs.RecoveredFields.{held_of, empty_cache};
@@ -39,6 +40,7 @@ ghost use Rattle.strat_open.specs.declared.attach_fault.AttachFault.TheVariants 
 
 use crate::changing::change;
 use crate::cursors::{reply_to_close_cursor, reply_to_next_pairs, reply_to_open_cursor};
+use crate::filtering::keeps_filter;
 use crate::get::get;
 use crate::scan::scan_range;
 use crate::staging::{Replies, append_staged, stage_change};
@@ -253,6 +255,22 @@ impl Store {
         self.spent
     }
 
+    /// How many changes it accepted in its life, those that are staged among them: the number of the next one. O(1).
+    pub fn changes(&self) -> u32
+        ensures ok { result ≡ self.now.memory.changes }
+    {
+        self.held.memory.counts().0
+    }
+
+    /// Whether the store keeps a filter of an array of its levels. One that was opened has none; its checkpoints make them, as
+    /// far as there is memory. O(arrays of the levels).
+    pub fn has_filter(&self, id: u64) -> bool
+        ensures ok { result ≡ true → KeepsFilter self.now.filters self.now.levels id }
+        ensures none { result ≡ false → ¬ KeepsFilter self.now.filters self.now.levels id }
+    {
+        keeps_filter(&self.held.filters, &self.held.published.levels, id)
+    }
+
     /// Carries out one command. The pairs of its answer are in `out`, which is emptied first.
     ///
     /// A change is durable before it is answered: two writes and two syncs, and in memory one insertion into level 0, or
@@ -261,9 +279,10 @@ impl Store {
     /// five times at most. It takes its memory before anything of the store is replaced; without it the answer is
     /// `NoMemory`, and the store is as it was.
     ///
-    /// A get asks level 0, and then one array of each level at most. A scan goes through level 0 and one array of each
-    /// level, pair by pair. In an array of fewer than 2^n blocks either reads n + 4 at most to search, and each once more at
-    /// most. It reads no array that is not asked at the version. These take no memory but for blocks that are cached.
+    /// A get asks level 0, and then one array of each level at most, but none whose filter refuses the key. A scan goes through
+    /// level 0 and one array of each level, pair by pair. In an array of fewer than 2^n blocks either reads n + 4 at most to
+    /// search, and each once more at most. No array that is not asked at the version, or that refuses a get's key, adds to
+    /// these reads. These take no memory but for blocks that are cached.
     ///
     /// Opening a cursor copies level 0's items, 12 bytes each, and at most 22 descriptors, and reads no block; `NoMemory`
     /// if there is no room for these. It shares the pairs: a level 0 that was emptied keeps its memory while a cursor reads
@@ -415,7 +434,7 @@ impl Store {
     /// A disk that crashed, or that an earlier run or opening failed on, may be opened as it is. If each of its crash
     /// states shows a table, each crash meanwhile leaves one of these tables, and afterwards that of the content.
     ///
-    /// It takes the memory of all changes that do not meet a full journal: 3.9 KB for each of `mem` and 75 bytes for
+    /// It takes the memory of all changes that do not meet a full journal: 3.9 KB for each of `mem` and 83 bytes for
     /// each of `versions_max`; 25 blocks, one for gets and 24 for scans; 0.5 MB for hints where blocks begin; and the
     /// levels' descriptors twice, once with an index of versions. While it recovers it takes more: 2.6 KB for each of
     /// `mem`, 0.3 MB, and 8 bytes for each block in use. Up to 1 MiB of blocks is cached later.

@@ -1,5 +1,5 @@
 -- Publications at a fill of one, and of one change more than a region takes.
-use Rattle.std.proofs.Common.{◌≡◌, ◌≢◌, ◌<◌, ℕ, zero, suc, List, length, [], ◌∷◌, Err, refl, ap, arith}
+use Rattle.std.proofs.Common.{◌≡◌, ◌<◌, ◌≤◌, ◌-◌, ◌++◌, ℕ, zero, suc, List, length, drop, replicate, [], ◌∷◌, Err, refl, ap, ◌∙◌, arith}
 use Rattle.strat_base.specs.EntryBytes.{entry_in}
 use Rattle.strat_base.specs.Numbers.{number, be}
 use Rattle.strat_base.specs.Tree.{climb}
@@ -136,3 +136,14 @@ one_succeeds = record {
 pub twice_damaged : recover twice_disk ≡ Err 2
 unfolding number be window over slot_of slot_in zeros change_in all_pass read_number read_items read_extent read_array read_level read_mark read_only read_manifest manifest_in manifest_bytes chain_from records block_in block_bytes entry_in entries_in link_bytes entries_on climb
 twice_damaged = refl
+
+-- what stands behind some places and one more
+behind_one : {X : Type 0} (x made : X) (n : ℕ) (rest : List X) → drop (suc n) (replicate n x ++ made ∷ rest) ≡ rest
+behind_one x made zero rest = refl
+behind_one x made (suc n) rest = behind_one x made n rest
+
+pub left_behind : {X : Type 0} (x made : X) (n : ℕ) (old : List X) → 1 ≤ n → drop n (replicate (n - 1) x ++ made ∷ drop n old) ≡ drop n old
+left_behind x made zero old low = absurd (omega (arith, low))
+left_behind x made (suc n) old low =
+    let k : suc n - 1 ≡ n = omega arith in
+    ap (λ (m : ℕ). drop (suc n) (replicate m x ++ made ∷ drop (suc n) old)) k ∙ behind_one x made n (drop (suc n) old)

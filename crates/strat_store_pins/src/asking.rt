@@ -1,12 +1,13 @@
 //! What look-ups read of a store's arrays, and what they then find.
 
-ghost use Rattle.std.specs.Prelude.{◌≡◌, [], ◌∷◌, false};
+ghost use Rattle.std.specs.Prelude.{◌≡◌, ℕ, [], ◌∷◌, false};
 ghost use Rattle.strat_cursor.specs.Looking.{HaveFewBlocks, reads_of_arrays};
 ghost use Rattle.strat_model.specs.Answer.{Answer, as_told};
 ghost use Rattle.strat_model.specs.Request.{Get, NextPairs, Scan, Stat};
 ghost use Rattle.strat_model.specs.declared.replies.Reply.TheVariants as reply;
-ghost use Rattle.strat_store.specs.Ranging.{AreReadAs, IsMapAsked, TellsFrom, arrays_wanted};
-ghost use Rattle.strat_store_pins.specs.Examples.{array_in, children_apart, one_block};
+ghost use Rattle.strat_store.specs.Filtering.{KeepsFilter};
+ghost use Rattle.strat_store.specs.Ranging.{AreReadAs, IsMapAsked, ReadsForLook, TellsFrom, arrays_wanted};
+ghost use Rattle.strat_store_pins.specs.Examples.{array_in, children_apart, children_filtered, one_block};
 
 /// A block that is bad leaves what is told of each version alone whose arrays do not have it.
 pub fn a_bad_block_bars_its_own_versions_alone()
@@ -15,6 +16,19 @@ pub fn a_bad_block_bars_its_own_versions_alone()
     ensures found { (answer : Answer)
         → TellsFrom one_block children_apart (Get 1 (97 ∷ [])) answer
         → answer ≡ as_told reply.Found ((97 ∷ [], 49 ∷ []) ∷ []) }
+{}
+
+/// A get of a key that the array's filter refuses reads nothing. Of a key that it does not refuse it may read the array, and finds
+/// what that has. A filter is kept of the one array and not of the other.
+pub fn a_filter_that_refuses_a_key_spares_its_read()
+    ensures reads { (before now : ℕ) → ReadsForLook children_filtered (Get 1 (98 ∷ [])) before now
+        → now ≡ before }
+    ensures ok { arrays_wanted children_filtered (Get 1 (97 ∷ [])) ≡ array_in 5 1 7 ∷ [] }
+    ensures found { (answer : Answer)
+        → TellsFrom one_block children_filtered (Get 1 (97 ∷ [])) answer
+        → answer ≡ as_told reply.Found ((97 ∷ [], 49 ∷ []) ∷ []) }
+    ensures kept { KeepsFilter children_filtered.filters children_filtered.levels 5
+        × (¬ KeepsFilter children_filtered.filters children_filtered.levels 6) }
 {}
 
 /// The map of a version has the values of its keys, and no others.

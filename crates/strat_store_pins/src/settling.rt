@@ -1,7 +1,7 @@
 //! What a command leaves of superblock and manifest, and of which trouble it may tell: each fact of these records, used once. Each is
 //! the contract of a function that does nothing.
 
-ghost use Rattle.std.specs.Prelude.{◌≡◌, ◌≢◌, ◌≤◌, ◌⊎◌, ◌+◌, ◌-◌, ℕ, suc, Bool, List, true, false, length, replicate, Contains, Some, None, Ok};
+ghost use Rattle.std.specs.Prelude.{◌≡◌, ◌≢◌, ◌≤◌, ◌⊎◌, ◌+◌, ◌-◌, ℕ, suc, Bool, List, true, false, length, drop, replicate, Contains, Some, None, Ok};
 ghost use Rattle.strat_base.specs.declared.descriptors.ArrayDesc.{ArrayDesc};
 ghost use Rattle.def_crash.specs.Blocks.{AgreeOn};
 ghost use Rattle.def_crash.specs.Image.{Image};
@@ -31,7 +31,8 @@ ghost use Rattle.strat_publish.specs.Settling.{ArePublishedTo, HasPublished, Lea
 use def_crash::laws::Viewed;
 
 /// A change that was carried out at a full journal left the other slot, with the next generation and the other region, and a
-/// manifest of all that memory counts, in the newest format and with no version dropped.
+/// manifest of all that memory counts, in the newest format and with no version dropped. The levels deeper than the one that it
+/// filled have the filters that they had.
 pub fn a_full_journal_is_published<D: Viewed>()
     ensures ok { (d e : D) (old new : Held) (told : Reply)
         → LeavesPublished (D.view d) (D.view e) old true told new
@@ -58,15 +59,18 @@ pub fn a_full_journal_is_published<D: Viewed>()
         (arrays_taken has.after.target old.chained.manifest) old.memory.cursors) {
           room = new.memory.cursors.room;
         } }
+    ensures filter { (old new : Held) (has : HasPublished old new)
+        → drop has.after.target new.filters ≡ drop has.after.target old.filters }
 {}
 
-/// A command that was not carried out as a change, and was not told that the device failed, left slot, superblock, manifest and
-/// levels; one that was told so left them, or those of a checkpoint.
+/// A command that was not carried out as a change, and was not told that the device failed, left slot, superblock, manifest,
+/// levels and filters; one that was told so left them, or those of a checkpoint.
 pub fn no_other_command_publishes<D: Viewed>()
     ensures same { (d e : D) (old new : Held) (told : Reply)
         → LeavesPublished (D.view d) (D.view e) old false told new
         → told ≢ reply.Refused why.DeviceFault → (new.slot ≡ old.slot) × (new.sb ≡ old.sb)
-        × (new.chained ≡ old.chained) × (new.levels ≡ old.levels) }
+        × (new.chained ≡ old.chained) × (new.levels ≡ old.levels)
+        × (new.filters ≡ old.filters) }
     ensures err { (d e : D) (old new : Held)
         → LeavesPublished (D.view d) (D.view e) old false (reply.Refused why.DeviceFault) new
         → (new.slot ≡ old.slot) ⊎ (new.slot ≡ 1 - old.slot) }

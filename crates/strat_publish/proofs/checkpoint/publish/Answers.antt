@@ -119,7 +119,7 @@ install-requires-clause-room g c =
 pub install-requires-clause-fits : goal.install-requires-clause-fits
 install-requires-clause-fits g c =
     let whole = c.requires.kept.0 (empty_cache 0) in
-    (whole.slot, let active = whole.log.active in let most = whole.lawful.region_most in omega (arith, active, most), (c.in_ok-next.ensures.fits (empty_cache 0)).lawful)
+    (whole.slot, let active = whole.log.active in let most = whole.lawful.region_most in omega (arith, active, most), (c.in_ok-next.ensures.fits (empty_cache 0)).lawful, c.in_ok-next.ensures.kept.2, c.in_ok-next.ensures.kept.3)
 
 pub install-requires-clause-same : goal.install-requires-clause-same
 install-requires-clause-same g c = (c.in_ok-next.ensures.fits (empty_cache 0)).mem
@@ -149,9 +149,9 @@ returns-clause-ok g c = λ x cached stands.
     let front = subst (λ (n : ℕ). TearsBlocks (is_in_front n) (g.D.Disk.view c.prepare_next.new.disk) (g.D.Disk.view c.install.new.disk)) whole.log.mem c.install.ensures.images in
     subst (λ (h : Held). IsPublishedAs (g.D.Disk.view c.install.new.disk) x h × CountsWritten (manifest_of c.args.held.now.published.manifest) h.chained.manifest)
     (sym (c.in_ok-install.ensures.ok cached)) (
-      published_as v (g.D.Disk.view c.prepare_next.new.disk) (g.D.Disk.view c.install.new.disk) (held_of mid cached) x next.target (super_of next.sb) (chained_of next.published) next.published.levels
+      published_as v (g.D.Disk.view c.prepare_next.new.disk) (g.D.Disk.view c.install.new.disk) (held_of mid cached) x next.target (super_of next.sb) (chained_of next.published) next.published.levels next.filters
           whole here (c.prepare_next.ensures.images cached) ready front (c.in_ok-install.ensures.kept x _ ready.computed),
-      counts_next (g.D.Disk.view c.prepare_next.new.disk) (held_of mid cached) x whole here.held (super_of next.sb) (chained_of next.published) ready,
+      counts_next (g.D.Disk.view c.prepare_next.new.disk) (held_of mid cached) x whole here.held (super_of next.sb) (chained_of next.published) _ ready,
     )
 
 pub returns-clause-trail : goal.returns-clause-trail
@@ -175,24 +175,24 @@ returns-clause-kept g c = λ _ cached.
     let next = c.in_ok-next.next in
     let admitted = c.in_ok-next.ensures.kept.0 in
     subst IsConsistent (sym (c.in_ok-install.ensures.ok cached))
-    (consistent_next (held_of mid cached) next.target (super_of next.sb) (chained_of next.published) next.published.levels whole (c.in_ok-next.ensures.fits cached) c.in_ok-next.ensures.found admitted.spelled admitted.belonging admitted.placed (c.in_ok-next.ensures.kept.1 cached))
+    (consistent_next (held_of mid cached) next.target (super_of next.sb) (chained_of next.published) next.published.levels next.filters whole (c.in_ok-next.ensures.fits cached) c.in_ok-next.ensures.found admitted.spelled admitted.belonging admitted.placed (c.in_ok-next.ensures.kept.1 cached))
 
 pub returns-clause-found : goal.returns-clause-found
 returns-clause-found g c =
     let m = c.reserve_for_next.new.memory in
     let next = c.in_ok-next.next in
-    found_next (held_of c.args.held.now (empty_cache 0)) (held_of c.install.new.held (empty_cache 0)) m m.ready m.cursors.room next.target (super_of next.sb) (chained_of next.published) next.published.levels
-    c.reserve_for_next.ensures.same (c.in_ok-install.ensures.ok (empty_cache 0)) c.in_ok-next.ensures.found
+    found_next (held_of c.args.held.now (empty_cache 0)) (held_of c.install.new.held (empty_cache 0)) m m.ready m.cursors.room next.target (super_of next.sb) (chained_of next.published) next.published.levels next.filters
+    c.reserve_for_next.ensures.same c.in_ok-next.ensures.kept.2 (c.in_ok-install.ensures.ok (empty_cache 0)) c.in_ok-next.ensures.found
 
 pub returns-in_err-reserve_for_next-clause-disk : goal.returns-in_err-reserve_for_next-clause-disk
 returns-in_err-reserve_for_next-clause-disk g c = λ other cached on.
-    kept_on (g.D.Disk.view c.args.disk.now) (held_of c.args.held.now cached) (held_of (record c.args.held.now { memory = c.reserve_for_next.new.memory }) cached) (record { slot = refl; sb = refl; chained = refl; levels = refl }) on
+    kept_on (g.D.Disk.view c.args.disk.now) (held_of c.args.held.now cached) (held_of (record c.args.held.now { memory = c.reserve_for_next.new.memory }) cached) (record { slot = refl; sb = refl; chained = refl; levels = refl; filters = refl }) on
 
 pub returns-in_err-next-clause-disk : goal.returns-in_err-next-clause-disk
 returns-in_err-next-clause-disk g c = λ other cached on.
     let mid = record c.args.held.now { memory = c.reserve_for_next.new.memory } in
     beside_on (g.D.Disk.view c.args.disk.now) (g.D.Disk.view c.prepare_next.new.disk) (held_of mid cached) (c.prepare_next.ensures.images cached)
-    (kept_on (g.D.Disk.view c.args.disk.now) (held_of c.args.held.now cached) (held_of mid cached) (record { slot = refl; sb = refl; chained = refl; levels = refl }) on)
+    (kept_on (g.D.Disk.view c.args.disk.now) (held_of c.args.held.now cached) (held_of mid cached) (record { slot = refl; sb = refl; chained = refl; levels = refl; filters = refl }) on)
 
 pub returns-clause-disk : goal.returns-clause-disk
 returns-clause-disk g c = λ other cached on.
@@ -203,22 +203,22 @@ returns-clause-disk g c = λ other cached on.
     let found = c.in_ok-next.ensures.found in
     let greater : c.args.held.now.sb.generation < next.sb.generation = omega (arith, ap (λ (sb : Super). sb.generation) found.sb_is) in
     subst (λ (h : Held). IsOnDisk (g.D.Disk.view c.install.new.disk) h) (sym (c.in_ok-install.ensures.ok cached))
-    (published_on v (g.D.Disk.view c.prepare_next.new.disk) (g.D.Disk.view c.install.new.disk) (held_of mid cached) next.target (super_of next.sb) (chained_of next.published) next.published.levels
+    (published_on v (g.D.Disk.view c.prepare_next.new.disk) (g.D.Disk.view c.install.new.disk) (held_of mid cached) next.target (super_of next.sb) (chained_of next.published) next.published.levels next.filters
     whole refl (c.prepare_next.ensures.images cached) c.in_ok-next.ensures.disk (g.met.D.Disk.leaves_content c.prepare_next.new.disk) c.in_ok-install.ensures.disk c.install.ensures.time
     greater (c.in_ok-next.ensures.fits cached).mem c.in_ok-next.ensures.kept.0.belonging
-    (kept_on v (held_of c.args.held.now cached) (held_of mid cached) (record { slot = refl; sb = refl; chained = refl; levels = refl }) on))
+    (kept_on v (held_of c.args.held.now cached) (held_of mid cached) (record { slot = refl; sb = refl; chained = refl; levels = refl; filters = refl }) on))
 
 pub returns-in_err-reserve_for_next-clause-same : goal.returns-in_err-reserve_for_next-clause-same
 returns-in_err-reserve_for_next-clause-same g c =
     let m = c.reserve_for_next.new.memory in
     let still = still_ready c.args.held.now.memory m m m.ready m.cursors.room refl c.reserve_for_next.ensures.same in
-    (refl, still.0, λ short. (refl, c.reserve_for_next.ensures.same), on_err c.from_residual.result _ (λ cached. (record { slot = refl; sb = refl; chained = refl; levels = refl }, still.1)))
+    (refl, still.0, λ short. (refl, c.reserve_for_next.ensures.same), on_err c.from_residual.result _ (λ cached. (record { slot = refl; sb = refl; chained = refl; levels = refl; filters = refl }, still.1)))
 
 pub returns-in_err-next-clause-same : goal.returns-in_err-next-clause-same
 returns-in_err-next-clause-same g c =
     let m = c.reserve_for_next.new.memory in
     let still = still_ready c.args.held.now.memory m m m.ready m.cursors.room refl c.reserve_for_next.ensures.same in
-    (refl, still.0, λ short. (refl, c.reserve_for_next.ensures.same), on_err c.from_residual-in_err-next.result _ (λ cached. (record { slot = refl; sb = refl; chained = refl; levels = refl }, still.1)))
+    (refl, still.0, λ short. (refl, c.reserve_for_next.ensures.same), on_err c.from_residual-in_err-next.result _ (λ cached. (record { slot = refl; sb = refl; chained = refl; levels = refl; filters = refl }, still.1)))
 
 pub returns-in_err-install-clause-same : goal.returns-in_err-install-clause-same
 returns-in_err-install-clause-same g c =
@@ -229,7 +229,7 @@ returns-in_err-install-clause-same g c =
       still.0,
       λ short. absurd (device_short c.from_residual-in_err-install.result c.from_residual-in_err-install.ensures.1 short),
       on_err c.from_residual-in_err-install.result _
-          (λ cached. let keeps = told.1 cached in (record { slot = keeps.slot; sb = keeps.sb; chained = keeps.chained; levels = keeps.levels }, still.1)),
+          (λ cached. let keeps = told.1 cached in (record { slot = keeps.slot; sb = keeps.sb; chained = keeps.chained; levels = keeps.levels; filters = keeps.filters }, still.1)),
     )
 
 pub returns-clause-same : goal.returns-clause-same

@@ -12,7 +12,7 @@ returns-clause-ok g c x log others may old_is mem_is =
     (g.met.D.Disk.leaves_content c.promote.new.disk) c.in_ok-made.ensures.ok
     (g.D.Disk.view c.write_next_manifest.new.disk) c.promote.new.space c.write_next_manifest.new.space c.in_ok-manifest.first c.in_ok-manifest.length c.in_ok-manifest.chain
     c.in_ok-made.ensures.room c.write_next_manifest.ensures.images c.in_ok-manifest.ensures.room (g.met.D.Disk.leaves_content c.write_next_manifest.new.disk)
-    (manifest_of c.in_ok-manifest.manifest) c.in_ok-manifest.ensures.found c.in_ok-manifest.ensures.ok
+    (manifest_of c.in_ok-manifest.manifest) c.in_ok-manifest.ensures.found c.in_ok-manifest.ensures.ok c.in_ok-made.ensures.fits.0.0 c.in_ok-made.made.filters c.in_ok-made.ensures.filters
 
 pub returns-clause-room : goal.returns-clause-room
 returns-clause-room g c = uses_both c.args.space.now c.promote.new.space c.write_next_manifest.new.space _ c.in_ok-manifest.chain c.in_ok-made.ensures.room c.in_ok-manifest.ensures.room

@@ -28,23 +28,33 @@ returns-in-Ok-Done-clause-ok g c f h s exposed now sound mem_is holds used =
     let sliced =
     c.in-Ok-Done.ensures.ok f h _ exposed now job (λ b of. used b (block_there c.args.levels.now _ b of))
     (begun_nothing c.parts.result.0.now.list c.args.levels.now c.args.mem _ c.args.next_array _ c.in_ok-promotion.ensures.ok f _) in
-    subst (λ (n : ℕ). IsPromotedTo h s c.args.next_array n c.finish-target.result.1) (sym c.finish-target.ensures.ok)
-    (subst (λ (made : Option LevelDesc). IsPromotedTo h s c.args.next_array (target_of c.slice.new.self) made) (sym c.finish-target.ensures.found)
+    subst (λ (n : ℕ). IsPromotedTo h s c.args.next_array n c.take_made.result.level) (sym c.take_made.ensures.ok.0)
+    (subst (λ (made : Option LevelDesc). IsPromotedTo h s c.args.next_array (target_of c.slice.new.self) made) (sym c.take_made.ensures.ok.1)
     (promoted_to c.args.memory.now c.args.levels.now c.args.mem c.args.next_array _ c.parts.result.0.now.list c.parts.result.1.now c.parts.result.2.now.parents _
     c.parts.ensures.ok c.parts.ensures.found.0 c.parts.ensures.found.1 c.count-versions.ensures.ok c.in_ok-promotion.ensures.ok f h s mem_is holds c.requires.kept sound
     _ _ (rw c.in-Ok-Done.field-0-is at c.in-Ok-Done.ensures.kept).1 c.requires.fits.0 c.slice.new.self c.slice.ensures.same.1 (rw c.in-Ok-Done.field-0-is at sliced).1))
 
+pub returns-in-Ok-Done-clause-filters : goal.returns-in-Ok-Done-clause-filters
+returns-in-Ok-Done-clause-filters g c f h s exposed now sound mem_is holds used =
+    let job =
+    its_job c.args.memory.now c.args.levels.now c.args.mem c.args.next_array _ c.parts.result.0.now.list c.parts.result.1.now c.parts.result.2.now.parents _
+    c.parts.ensures.ok c.parts.ensures.found.0 c.parts.ensures.found.1 c.count-versions.ensures.ok c.in_ok-promotion.ensures.ok f h s mem_is holds c.requires.kept sound in
+    let told =
+    c.in-Ok-Done.ensures.filters f h _ exposed now job (λ b of. used b (block_there c.args.levels.now _ b of))
+    (begun_nothing c.parts.result.0.now.list c.args.levels.now c.args.mem _ c.args.next_array _ c.in_ok-promotion.ensures.ok f _) in
+    c.take_made.ensures.filters h (rw c.in-Ok-Done.field-0-is at told)
+
 pub returns-in-Ok-Done-clause-room : goal.returns-in-Ok-Done-clause-room
 returns-in-Ok-Done-clause-room g c =
-    subst (λ (made : Option LevelDesc). UsesMore c.args.space.now (extents_of (arrays_made made)) c.slice.new.space) (sym c.finish-target.ensures.found)
+    subst (λ (made : Option LevelDesc). UsesMore c.args.space.now (extents_of (arrays_made made)) c.slice.new.space) (sym c.take_made.ensures.ok.1)
     (takes_its_blocks c.args.memory.now c.args.levels.now c.args.mem c.args.next_array _ c.parts.result.0.now.list c.parts.result.1.now c.parts.result.2.now.parents _
-    c.parts.ensures.ok c.parts.ensures.found.0 c.parts.ensures.found.1 c.count-versions.ensures.ok c.in_ok-promotion.ensures.ok _ _ c.slice.new.self _ c.slice.ensures.room (rw c.in-Ok-Done.field-0-is at c.in-Ok-Done.ensures.kept).1)
+    c.parts.ensures.ok c.parts.ensures.found.0 c.parts.ensures.found.1 c.count-versions.ensures.ok c.in_ok-promotion.ensures.ok _ _ c.slice.new.self _ c.slice.ensures.room.1 (rw c.in-Ok-Done.field-0-is at c.in-Ok-Done.ensures.kept).1)
 
 pub returns-in-Ok-Done-clause-used : goal.returns-in-Ok-Done-clause-used
 returns-in-Ok-Done-clause-used g c =
-    subst (λ (made : Option LevelDesc). used_count c.slice.new.space ≡ used_count c.args.space.now + length (blocks_of (extents_of (arrays_made made)))) (sym c.finish-target.ensures.found)
+    subst (λ (made : Option LevelDesc). used_count c.slice.new.space ≡ used_count c.args.space.now + length (blocks_of (extents_of (arrays_made made)))) (sym c.take_made.ensures.ok.1)
     (counts_its_blocks c.args.memory.now c.args.levels.now c.args.mem c.args.next_array _ c.parts.result.0.now.list c.parts.result.1.now c.parts.result.2.now.parents _
-    c.parts.ensures.ok c.parts.ensures.found.0 c.parts.ensures.found.1 c.count-versions.ensures.ok c.in_ok-promotion.ensures.ok _ _ c.slice.new.self _ c.slice.ensures.room (rw c.in-Ok-Done.field-0-is at c.in-Ok-Done.ensures.kept).1)
+    c.parts.ensures.ok c.parts.ensures.found.0 c.parts.ensures.found.1 c.count-versions.ensures.ok c.in_ok-promotion.ensures.ok _ _ c.slice.new.self _ c.slice.ensures.room.1 (rw c.in-Ok-Done.field-0-is at c.in-Ok-Done.ensures.kept).1)
 
 pub returns-in-Ok-Done-clause-reads : goal.returns-in-Ok-Done-clause-reads
 returns-in-Ok-Done-clause-reads g c =

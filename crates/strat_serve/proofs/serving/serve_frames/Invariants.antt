@@ -11,7 +11,7 @@ use Rattle.strat_serve.proofs.serving.serve_frames.Given as goal
 abbrev pub invariant-loop-met : goal.invariant-loop-met
 invariant-loop-met g l = record {
   progress : (d : g.row.D.Denot) → HasOpened (g.D.Disk.view d) (g.D.Disk.faults d) (g.D.Disk.view l.fn.disk) (g.D.Disk.faults l.fn.disk) l.fn.store
-      → ServesPending l.fn.store l.store l.taken (waiting l.met l.buffers.frames) l.buffers.pending
+      → ServesPending g.P.Protocol.speech l.fn.store l.store l.taken (waiting l.met l.buffers.frames) l.buffers.pending
       (world (g.S.Source.left l.fn.source) (g.S.Source.faults l.fn.source) (g.K.Sink.held l.fn.sink) (g.K.Sink.faults l.fn.sink) (g.D.Disk.view d) (g.D.Disk.faults d))
       (world (g.S.Source.left l.source) (g.S.Source.faults l.source) (g.K.Sink.held l.sink) (g.K.Sink.faults l.sink) (g.D.Disk.view l.disk) (g.D.Disk.faults l.disk));
   meets : Meets l.met l.buffers.frames;

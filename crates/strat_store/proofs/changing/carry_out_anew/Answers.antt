@@ -105,7 +105,7 @@ returns-clause-same g c = (
   c.carry_out.ensures.same.0 ∙ c.publish.ensures.same.0,
   c.carry_out.ensures.same.1,
   c.carry_out.ensures.same.3,
-  rows_renewed c.args.held.now.memory c.publish.new.held.memory c.carry_out.new.held.memory c.publish.ensures.same.1 (opened_after _ _ _ _ _ _ c.in_default.ensures.found.1) c.carry_out.ensures.found.1,
+  rows_renewed c.args.held.now.memory c.publish.new.held.memory c.carry_out.new.held.memory c.publish.ensures.same.1 (opened_after _ _ _ _ _ _ _ _ c.in_default.ensures.found.1) c.carry_out.ensures.found.1,
   λ short cached. absurd (let e : reply.Refused why.NoMemory ≡ reply.Refused why.DeviceFault = sym short ∙ c.carry_out.ensures.same.2 (ap accepts short) in cc),
 )
 
