@@ -30,6 +30,7 @@ check_ends ended.Sink ends = inr (inr (inr (inl refl)))
 check_ends ended.NoMemory ends = inr (inr (inr (inr (inl refl))))
 check_ends (ended.Damaged block) ends = inr (inr (inr (inr (inr (inl refl)))))
 check_ends ended.Unsound ends = inr (inr (inr (inr (inr (inr refl)))))
+check_ends ended.UnknownVersion ends = absurd ends
 check_ends ended.Usage ends = absurd ends
 check_ends ended.FrameTooLong ends = absurd ends
 check_ends ended.Truncated ends = absurd ends

@@ -59,6 +59,7 @@ served_ends budget ended.Usage a b served cause source sink disk = absurd served
 served_ends budget ended.NotAStore a b served cause source sink disk = absurd served.ends
 served_ends budget ended.NoMemory a b served cause source sink disk = absurd served.ends
 served_ends budget ended.Unsound a b served cause source sink disk = absurd served.ends
+served_ends budget ended.UnknownVersion a b served cause source sink disk = absurd served.ends
 
 -- and one that gave up ends as the opening says, or for want of memory
 gave_up_ends : (how : Ended) (before now : World) (f : Image) (r : Read (Option Head)) → GaveUp how before now → RefusesFor how before.disk now.disk → EndHasCause how before now
@@ -79,6 +80,7 @@ gave_up_ends ended.Source a b f r gave refuses cause disk exposed found = absurd
 gave_up_ends ended.Sink a b f r gave refuses cause disk exposed found = absurd gave.ends
 gave_up_ends ended.Budget a b f r gave refuses cause disk exposed found = absurd gave.ends
 gave_up_ends ended.Unsound a b f r gave refuses cause disk exposed found = absurd gave.ends
+gave_up_ends ended.UnknownVersion a b f r gave refuses cause disk exposed found = absurd gave.ends
 
 -- where neither the source, the sink nor the disk failed, a run ends as what an opening finds says
 pub completes : (budget : ℕ) (how : Ended) (before now : World) (f : Image) → RunOutcome budget how before now → RefusesFor how before.disk now.disk → EndHasCause how before now
@@ -110,6 +112,7 @@ gave_up_sound how status h is calm (inr nine) = absurd (go how (is ∙ nine) cal
     go ended.Sink e calm = omega (arith, e)
     go ended.Budget e calm = omega (arith, e)
     go ended.Unsound e calm = omega (arith, e)
+    go ended.UnknownVersion e calm = omega (arith, e)
 
 -- a run over an image that shows a table ends at no damaged block
 pub never_damaged : (budget : ℕ) (how : Ended) (before now : World) (f : Image) (t : Table) → RunOutcome budget how before now → before.disk.content ≡ Some f → ShowsTable f t
@@ -165,3 +168,6 @@ gave_up_by ended.Budget before (inr (inr nine)) = absurd (omega (arith, nine.0))
 gave_up_by ended.Unsound before (inl two) = absurd (omega (arith, two))
 gave_up_by ended.Unsound before (inr (inl eight)) = absurd (omega (arith, eight))
 gave_up_by ended.Unsound before (inr (inr nine)) = absurd (omega (arith, nine.0))
+gave_up_by ended.UnknownVersion before (inl two) = absurd (omega (arith, two))
+gave_up_by ended.UnknownVersion before (inr (inl eight)) = absurd (omega (arith, eight))
+gave_up_by ended.UnknownVersion before (inr (inr nine)) = absurd (omega (arith, nine.0))

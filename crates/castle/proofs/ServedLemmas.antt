@@ -94,6 +94,7 @@ module _ (seed count : ℕ) (few : count < 2 ^ 32) where
   served_end ended.NotAStore b n left s0 s1 k0 k1 cause served = absurd served.ends
   served_end ended.NoMemory b n left s0 s1 k0 k1 cause served = absurd served.ends
   served_end ended.Unsound b n left s0 s1 k0 k1 cause served = absurd served.ends
+  served_end ended.UnknownVersion b n left s0 s1 k0 k1 cause served = absurd served.ends
 
   gave_up_end : (how : Ended) (before now : World) → GaveUp how before now → EndsWorkload how × (how ≢ ended.Sink)
   gave_up_end ended.NotAStore b n gave = (tt, λ is. let f : ended.NotAStore ≡ ended.Sink = is in cc)
@@ -108,6 +109,7 @@ module _ (seed count : ℕ) (few : count < 2 ^ 32) where
   gave_up_end ended.Sink b n gave = absurd gave.ends
   gave_up_end ended.Budget b n gave = absurd gave.ends
   gave_up_end ended.Unsound b n gave = absurd gave.ends
+  gave_up_end ended.UnknownVersion b n gave = absurd gave.ends
 
   pub workload_end : (how : Ended) (before now : World) → before.left ≡ Some (workload_bytes seed count) → before.source_faults ≡ 0 → now.source_faults ≡ 0 → before.sink_faults ≡ 0 → now.sink_faults ≡ 0
       → EndHasCause how before now → RunOutcome 1099511627776 how before now → EndsWorkload how × (how ≢ ended.Sink)
@@ -232,6 +234,7 @@ module _ (d0 d1 d2 : DiskView) (later : Passes d0 d1) (passes : Passes d1 d2)
     gave_up_leaves ended.Sink gave refuses = absurd gave.ends
     gave_up_leaves ended.Budget gave refuses = absurd gave.ends
     gave_up_leaves ended.Unsound gave refuses = absurd gave.ends
+    gave_up_leaves ended.UnknownVersion gave refuses = absurd gave.ends
 
     module _ (how : Ended) (served : Served 1099511627776 how before now) where
       abbrev s : Session
@@ -315,6 +318,7 @@ module _ (d0 d1 d2 : DiskView) (later : Passes d0 d1) (passes : Passes d1 d2)
     served_leaves ended.Source ends no_sink served = absurd ends
     served_leaves ended.Budget ends no_sink served = absurd ends
     served_leaves ended.Unsound ends no_sink served = absurd ends
+    served_leaves ended.UnknownVersion ends no_sink served = absurd ends
 
     pub workload_leaves : (how : Ended) → EndsWorkload how → how ≢ ended.Sink → RunOutcome 1099511627776 how before now → RefusesFor how d1 d2 → LeavesWorkload seed count how d0 d2
     workload_leaves how ends no_sink (inl gave) refuses = gave_up_leaves how gave refuses

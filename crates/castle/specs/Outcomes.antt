@@ -173,4 +173,5 @@ text_of status =
     if status == 8 then codes "no memory" else
     if status == 9 then codes "damaged" else
     if status == 10 then codes "byte budget" else
-    if status == 11 then codes "unsound" else codes "unknown status"
+    if status == 11 then codes "unsound" else
+    if status == 12 then codes "unknown version" else codes "unknown status"

@@ -89,6 +89,7 @@ pub fn status_text(status: u8) -> &'static str
         9 => "damaged",
         10 => "byte budget",
         11 => "unsound",
+        12 => "unknown version",
         _ => "unknown status",
     }
 }

@@ -310,6 +310,7 @@ fn each_status_has_its_text(rt: HostRuntime) {
         "damaged",
         "byte budget",
         "unsound",
+        "unknown version",
         "unknown status",
     ];
     for (status, text) in (0..).zip(texts) {

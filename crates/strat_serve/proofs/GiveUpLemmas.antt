@@ -111,6 +111,7 @@ served_late speech budget ended.Source before now served early = early
 served_late speech budget ended.Sink before now served early = early
 served_late speech budget ended.Budget before now served early = early
 served_late speech budget ended.Unsound before now served early = early
+served_late speech budget ended.UnknownVersion before now served early = early
 
 -- its end has its cause since before the opening
 pub caused_since : (how : Ended) (before mid now : World) → mid.source_faults ≡ before.source_faults → mid.sink_faults ≡ before.sink_faults → mid.disk_faults ≡ before.disk_faults → EndHasCause how mid now → EndHasCause how before now

@@ -134,6 +134,7 @@ module _ (s : Sitting) (texts : AllByRecursion IsReply (all_said s)) where
   sends_so ended.NotAStore before now sends = sends_all before now sends
   sends_so ended.Usage before now sends = sends_all before now sends
   sends_so ended.Unsound before now sends = sends_all before now sends
+  sends_so ended.UnknownVersion before now sends = sends_all before now sends
 
 -- a sitting is a session
 is_session : (budget : ℕ) (s : Sitting) → IsSitting replies budget s → IsSession budget (session_of s)

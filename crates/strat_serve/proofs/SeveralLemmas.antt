@@ -72,3 +72,4 @@ module _ (before now : World) (f : Image) (exposed : Exposes before.disk f) (lea
   gave_whole ended.Sink gave = absurd gave.ends
   gave_whole ended.Budget gave = absurd gave.ends
   gave_whole ended.Unsound gave = absurd gave.ends
+  gave_whole ended.UnknownVersion gave = absurd gave.ends

@@ -333,6 +333,7 @@ module _ (budget : ℕ) (before now : Streams) (v w : DiskView) (f : Image) (t :
   answers_as_table ended.NotAStore served run = absurd served.ends
   answers_as_table ended.Usage served run = absurd served.ends
   answers_as_table ended.Unsound served run = absurd served.ends
+  answers_as_table ended.UnknownVersion served run = absurd served.ends
 
 -- what is there is something
 pub there : {A : Type 0} (o : Option A) → IsSome o → (x : A) × (o ≡ Some x)
@@ -363,6 +364,7 @@ no_device_at_end how budget s left ends device sink told = go how ends device si
     go ended.NotAStore ends device sink = ends
     go ended.Usage ends device sink = ends
     go ended.Unsound ends device sink = ends
+    go ended.UnknownVersion ends device sink = ends
 
 -- the frames of fewer bodies are fewer bytes
 frames_within : (bodies : List (List ℕ)) (n m : ℕ) → n ≤ m → length (flat_map frame (take n bodies)) ≤ length (flat_map frame (take m bodies))
