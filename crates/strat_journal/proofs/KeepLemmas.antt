@@ -96,6 +96,10 @@ module _ (list batch : List Change) (bytes : List ℕ) (mem count staged end len
   front_size : length (records_bytes list ++ records_bytes batch) ≡ len
   front_size = omega (arith, length-append (records_bytes list) (records_bytes batch), keeps.list_end, keeps.batch_end)
 
+  pub len_within : len < length bytes
+  len_within =
+      omega (arith, keeps.room, keeps.list_end, keeps.batch_end, length-records_bytes list keeps.list_fits, length-records_bytes batch keeps.batch_fits, keeps.list_count, keeps.batch_count, keeps.few)
+
   -- the buffer has room for one more record of the largest size
   pub room_more : count + staged < mem → len + 1290 ≤ length bytes
   room_more few =

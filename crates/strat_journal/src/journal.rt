@@ -1,6 +1,6 @@
 //! The journal in memory, and how a batch becomes durable.
 
-ghost use Rattle.std.specs.Prelude.{◌≡◌, ◌≤◌, ◌<◌, ℕ, ◌+◌, ◌-◌, [], ◌∷◌, ◌++◌, length, map, Some, IsTrue, IfOk, OnOk, OnErr};
+ghost use Rattle.std.specs.Prelude.{◌≡◌, ◌≤◌, ◌<◌, ℕ, ◌^◌, ◌+◌, ◌-◌, [], ◌∷◌, ◌++◌, length, map, Some, IsTrue, IfOk, OnOk, OnErr};
 ghost use Rattle.strat_base.specs.Change.{is_lawful};
 ghost use Rattle.strat_base.specs.ChangeView.{change_of};
 ghost use Rattle.def_crash.specs.Faults.{CountsFaults, ReadsAtMost};
@@ -55,6 +55,7 @@ pub struct Journal {
 }
 
 impl Model for Journal {
+    ghost use Rattle.std.specs.Prelude.{◌++◌};
     ghost use Rattle.strat_journal.specs.Buffered.{KeepsBoth};
     ghost use Rattle.strat_journal.specs.Log.{Log};
 
@@ -166,6 +167,7 @@ impl Journal {
     fn gate(&self) -> u64
         ensures ok { result ≡ gate_of self.now }
         ensures fits { MayAppend self.now }
+        ensures len { result < 2 ^ 24 }
     {
         let region = if self.front.count() == 0 {
             self.active
@@ -179,6 +181,7 @@ impl Journal {
     fn behind_gate(&self) -> &[u8]
         requires { 0 < length self.now.batch }
         ensures ok { open_flag ∷ result.now ≡ records_bytes self.now.batch ++ 0 ∷ [] }
+        ensures len { length result.now ≤ 5296257 }
     {
         self.back.behind_gate()
     }

@@ -1,6 +1,6 @@
 //! Records of one region in a buffer.
 
-ghost use Rattle.std.specs.Prelude.{◌≡◌, ◌≤◌, ◌<◌, ℕ, ◌+◌, [], ◌∷◌, ◌++◌, length, map, IsTrue, IfOk};
+ghost use Rattle.std.specs.Prelude.{◌≡◌, ◌≤◌, ◌<◌, ℕ, ◌+◌, [], ◌∷◌, ◌++◌, length, map, true, IsTrue, IfOk};
 ghost use Rattle.std.specs.List.{list_all};
 ghost use Rattle.strat_base.specs.Change.{is_lawful};
 ghost use Rattle.strat_base.specs.ChangeView.{change_of};
@@ -99,6 +99,7 @@ impl RecordBuf {
         ensures fits { (list_all is_lawful self.now.list ≡ true)
             × (list_all is_lawful self.now.batch ≡ true)
             × (length self.now.list + length self.now.batch ≤ self.now.mem) }
+        ensures len { result ≤ 5275648 }
     {
         self.end
     }
@@ -107,6 +108,7 @@ impl RecordBuf {
     pub(crate) fn behind_gate(&self) -> &[u8]
         requires { 0 < length self.now.batch }
         ensures ok { open_flag ∷ result.now ≡ records_bytes self.now.batch ++ 0 ∷ [] }
+        ensures len { length result.now ≤ 5296257 }
     {
         behind_gate(&self.bytes, self.end, self.len)
     }
