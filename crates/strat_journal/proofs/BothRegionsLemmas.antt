@@ -41,8 +41,8 @@ module _ (c : Image) (mem active : ℕ) (items : List Owned) (read : region_reco
       → (journal_in_two c mem active ≡ Ok (logged ++ map logged_of later)) × (IsTrue stale ↔ IsStale c mem active (length items + length later))
   later_none later stale short none open' = (
     join_short c mem active (records_behind c mem (other_region active)) logged read (omega (arith, short, length-map items logged_of))
-    ∙ ap (λ (l : List Logged). Ok l) (sym (append-nil logged))
-    ∙ ap (λ (l : List Owned). Ok (logged ++ map logged_of l)) (sym none),
+        ∙ ap (λ (l : List Logged). Ok l) (sym (append-nil logged))
+        ∙ ap (λ (l : List Owned). Ok (logged ++ map logged_of l)) (sym none),
     stale_is stale (c (region_at mem (other_region active))) mem (length items) (length items + length later) open' (omega arith) (λ up. omega (arith, short)) (omega (arith, ap length none)),
   )
 
