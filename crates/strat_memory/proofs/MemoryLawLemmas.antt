@@ -1,8 +1,9 @@
 -- What a store has in memory, beside the head and the table that it is of.
-use Rattle.std.proofs.Common.{◌≡◌, ◌<◌, ◌≤◌, ◌+◌, ℕ, Bool, true, false, if◌then◌else◌, eqb, not, ◌&&◌, List, [], ◌∷◌, ◌++◌, length, take, drop, Option, Some, None, refl, sym, ap, ◌∙◌, subst, arith, true≢false, length-append}
+use Rattle.std.proofs.Common.{◌≡◌, ◌<◌, ◌≤◌, ◌+◌, ℕ, Bool, true, false, if◌then◌else◌, eqb, not, ◌&&◌, List, [], ◌∷◌, ◌++◌, append-nil, fold, length, take, drop, Option, Some, None, refl, sym, ap, ◌∙◌, subst, arith, true≢false, length-append}
 use Rattle.std.specs.Option.{IfSome, option_map, option_map_or}
 use Rattle.std.specs.Prelude.{filter_map, is_some}
-use Rattle.std.proofs.lemmas.List.{length-drop, take_all, take-append-le}
+use Rattle.std.proofs.lemmas.List.{append_assoc, length-drop, take_all, take-append-drop, take-append-le}
+use Rattle.std.proofs.lemmas.List.Sums.{fold-append}
 use Rattle.strat_base.specs.Change.{Change}
 use Rattle.strat_base.specs.Change as change
 use Rattle.strat_base.specs.Entries.{Entry}
@@ -36,7 +37,7 @@ use Rattle.def_state.specs.Sound.{is_accepted, accepts_change, journal_max, IsSo
 use Rattle.def_state.specs.State.{State, versions_of, journal_updates, updates_of, changes_of, tree_after, update_of, marks_of, marks_after, map_at, is_living}
 use Rattle.def_state.proofs.SoundLemmas.{sound_tree}
 use Rattle.def_state.proofs.UpdateLemmas.{all_lives}
-use Rattle.strat_memory.specs.Memory.{Memory, SealedLevel, refusal_of_update, refusal_of_clone, refusal_of_change, with_update, memory_after, HasRoomFor, reply_to, info_told, stat_told, fresh_memory, lists_in_memory, oldest_entries, sealed_entries, sealed_off, unsealed, table_with, CountsSealed, IsMemoryOf}
+use Rattle.strat_memory.specs.Memory.{Memory, SealedLevel, refusal_of_update, refusal_of_clone, refusal_of_change, with_update, memory_after, HasRoomFor, reply_to, info_told, stat_told, fresh_memory, head_full, lists_in_memory, oldest_changes, oldest_entries, oldest_parents, oldest_updates, oldest_versions, sealed_entries, sealed_off, unsealed, table_with, CountsSealed, IsMemoryOf}
 use Rattle.def_promote.proofs.PaidLemmas.{updates_few}
 use Rattle.strat_memory.proofs.MemoryLemmas.{left_few}
 use Rattle.strat_memory.proofs.ThreeTests.{three_none, three_pass, three_refuse}
@@ -91,6 +92,38 @@ oldest_all : (mem : ℕ) (journal : List Change) (entries : List Entry) (sealed 
     → option_map_or (λ (z : SealedLevel). z.entries) sealed entries ≡ entries_left journal
 oldest_all mem journal entries None spare lists few = lists.1
 oldest_all mem journal entries (Some z) spare lists few = lists.1 ∙ ap entries_left (take_all mem journal few)
+
+-- what a promotion takes is what fills the active region, or all of the journal where nothing is sealed
+oldest_part : (mem : ℕ) (journal : List Change) (entries : List Entry) (sealed : Option SealedLevel) (spare : ℕ) → HoldLists mem journal entries (option_map (λ z. z.entries) sealed) spare
+    → option_map_or (λ (z : SealedLevel). z.entries) sealed entries ≡ entries_left (take mem journal)
+oldest_part mem journal entries None spare lists = lists.1 ∙ ap entries_left (sym (take_all mem journal lists.0))
+oldest_part mem journal entries (Some z) spare lists = lists.1
+
+-- the counts of that are those of the head then
+record CountsOldest (h : Head) (m : Memory) (sealed : Option SealedLevel) : Type 0 where
+  versions : option_map_or (λ (z : SealedLevel). z.versions) sealed (length m.parents) ≡ length (head_versions (head_full h))
+  updates : option_map_or (λ (z : SealedLevel). z.updates) sealed m.updates ≡ head_updates (head_full h)
+  changes : option_map_or (λ (z : SealedLevel). z.changes) sealed m.changes ≡ head_changes (head_full h)
+
+counts_part : (h : Head) (m : Memory) → IsMemoryOf h m → (sealed : Option SealedLevel) → HoldLists h.sb.mem h.journal m.entries (option_map (λ z. z.entries) sealed) m.spare → IfSome sealed (CountsSealed h) → CountsOldest h m sealed
+counts_part h m of None lists counted =
+    let front : h.journal ≡ take h.sb.mem h.journal = sym (take_all h.sb.mem h.journal lists.0) in
+    record {
+      versions = ap (λ (ps : Parents). length ps) of.parents ∙ ap (λ (js : List Change). length (head_versions (record h { journal = js }))) front;
+      updates = of.updates ∙ ap (λ (js : List Change). head_updates (record h { journal = js })) front;
+      changes = of.changes ∙ ap (λ (js : List Change). head_changes (record h { journal = js })) front;
+    }
+counts_part h m of (Some z) lists counted = record { versions = counted.versions; updates = counted.updates; changes = counted.changes }
+
+-- versions that were there stay in front while changes come
+grown_front : (parents : Parents) (journal : List Change) → (rest : Parents) × (fold tree_after parents journal ≡ parents ++ rest)
+grown_front parents [] = ([], sym (append-nil parents))
+grown_front parents (change.Put v key value ∷ journal) = grown_front parents journal
+grown_front parents (change.Delete v key ∷ journal) = grown_front parents journal
+grown_front parents (change.DropVersion v ∷ journal) = grown_front parents journal
+grown_front parents (change.Clone v ∷ journal) =
+    let more = grown_front (with_child parents v) journal in
+    (Some v ∷ more.0, more.1 ∙ append_assoc parents (Some v ∷ []) more.0)
 
 spare_some : (mem : ℕ) (journal : List Change) (entries : List Entry) (sealed : Option (List Entry)) (spare : ℕ) → HoldLists mem journal entries sealed spare → length journal < mem → 1 ≤ spare
 spare_some mem journal entries None spare lists lt = omega (arith, lists.2, lt)
@@ -357,6 +390,28 @@ module _ (h : Head) (m : Memory) (of : IsMemoryOf h m) where
   -- what a promotion takes is all that the journal says, where that fits a region
   pub oldest_whole : length h.journal ≤ h.sb.mem → oldest_entries m ≡ set_all (filter_map update_of h.journal)
   oldest_whole few = oldest_all h.sb.mem h.journal m.entries m.sealed m.spare of.lists few
+
+  pub oldest_front : oldest_entries m ≡ entries_left (take h.sb.mem h.journal)
+  oldest_front = oldest_part h.sb.mem h.journal m.entries m.sealed m.spare of.lists
+
+  pub oldest_counted : (oldest_versions m ≡ length (head_versions (head_full h))) × (oldest_updates m ≡ head_updates (head_full h)) × (oldest_changes m ≡ head_changes (head_full h))
+  oldest_counted = let counts = counts_part h m of m.sealed of.lists of.counted in (counts.versions, counts.updates, counts.changes)
+
+  -- the versions then are the first ones
+  pub versions_front : (rest : Parents) × (m.parents ≡ head_versions (head_full h) ++ rest)
+  versions_front =
+      let front = take h.sb.mem h.journal in
+      let back = drop h.sb.mem h.journal in
+      let two : head_versions h ≡ fold tree_after (head_versions (head_full h)) back =
+      ap (fold tree_after (parents_in h.manifest)) (sym (take-append-drop h.sb.mem h.journal)) ∙ fold-append tree_after (parents_in h.manifest) front back in
+      let more = grown_front (head_versions (head_full h)) back in
+      (more.0, of.parents ∙ two ∙ more.1)
+
+  pub parents_front : oldest_parents m ≡ head_versions (head_full h)
+  parents_front =
+      let vs : Parents = head_versions (head_full h) in
+      let more = versions_front in
+      ap (λ (n : ℕ). take n m.parents) oldest_counted.0 ∙ ap (take (length vs)) more.1 ∙ take-append-le (length vs) vs more.0 (omega arith) ∙ take_all (length vs) vs (omega arith)
 
   pub unsealed_below : length h.journal < h.sb.mem → m.sealed ≡ None
   unsealed_below lt = sealed_full h.sb.mem h.journal m.entries m.sealed m.spare of.lists lt

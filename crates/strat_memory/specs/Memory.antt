@@ -57,6 +57,21 @@ lists_in_memory m = lists_read m.entries (sealed_entries m)
 abbrev pub oldest_entries : Memory → List Entry
 oldest_entries m = option_map_or (λ z. z.entries) m.sealed m.entries
 
+-- how many versions there were, and how many updates and changes had been accepted, when level 0 was sealed, or are now where
+-- nothing is sealed
+abbrev pub oldest_versions : Memory → ℕ
+oldest_versions m = option_map_or (λ z. z.versions) m.sealed (length m.parents)
+
+-- the versions that there were then
+abbrev pub oldest_parents : Memory → Parents
+oldest_parents m = take (oldest_versions m) m.parents
+
+abbrev pub oldest_updates : Memory → ℕ
+oldest_updates m = option_map_or (λ z. z.updates) m.sealed m.updates
+
+abbrev pub oldest_changes : Memory → ℕ
+oldest_changes m = option_map_or (λ z. z.changes) m.sealed m.changes
+
 -- why an update at a version is refused, if it is
 abbrev pub refusal_of_update : Memory → ℕ → Option Refusal
 refusal_of_update m v =

@@ -27,7 +27,7 @@ ghost use Rattle.strat_model.specs.Pairs.{Pairs};
 ghost use Rattle.def_meaning.specs.TableOver.{are_known};
 ghost use Rattle.def_state.specs.LookUp.{first_live};
 ghost use Rattle.def_state.specs.Reading.{live_of};
-ghost use Rattle.strat_memory.specs.Memory.{SealedLevel, refusal_of_update, refusal_of_clone, refusal_of_change, with_update, memory_after, HasRoomFor, reply_to, info_told, stat_told, fresh_memory, KeepsRows, cursor_from, with_cursor, lists_in_memory, oldest_entries, sealed_entries, sealed_off, unsealed};
+ghost use Rattle.strat_memory.specs.Memory.{SealedLevel, refusal_of_update, refusal_of_clone, refusal_of_change, with_update, memory_after, HasRoomFor, reply_to, info_told, stat_told, fresh_memory, KeepsRows, cursor_from, with_cursor, lists_in_memory, oldest_changes, oldest_entries, oldest_updates, oldest_versions, sealed_entries, sealed_off, unsealed};
 ghost use Rattle.strat_base.specs.Marks.{is_dropped};
 
 use std::alloc::Global;
@@ -407,6 +407,19 @@ impl Memory {
         match &self.sealed {
             Some(sealed) => (&sealed.zero, &self.pool, &self.tree),
             None => (&self.zero, &self.pool, &self.tree),
+        }
+    }
+
+    /// How many versions there were, and how many changes and updates had been accepted, when level 0 was sealed, or are now
+    /// where nothing is sealed. O(1).
+    pub fn sealed_counts(&self) -> (u32, u32, u32)
+        ensures ok { (result.0 ≡ oldest_versions self.now) × (result.1 ≡ oldest_changes self.now)
+            × (result.2 ≡ oldest_updates self.now) }
+        ensures fits { result.0 ≤ length self.now.parents }
+    {
+        match &self.sealed {
+            Some(sealed) => (sealed.versions, sealed.changes, sealed.updates),
+            None => (self.tree.count(), self.changes, self.updates),
         }
     }
 

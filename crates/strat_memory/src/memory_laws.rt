@@ -1,7 +1,7 @@
 //! Laws of what a store has in memory: it answers as the table that its head means, and follows the
 //! head from change to change. Each is the contract of a function that does nothing.
 
-ghost use Rattle.std.specs.Prelude.{◌≡◌, ◌<◌, ◌≤◌, ℕ, List, [], ◌∷◌, ◌++◌, length, drop, filter_map, Some, None, IsTrue, false, is_some, not};
+ghost use Rattle.std.specs.Prelude.{◌≡◌, ◌<◌, ◌≤◌, ℕ, List, [], ◌∷◌, ◌++◌, length, take, drop, filter_map, Some, None, IsTrue, false, is_some, not};
 ghost use Rattle.strat_base.specs.Change.{Change};
 ghost use Rattle.strat_base.specs.Tree.{is_known};
 ghost use Rattle.def_crash.specs.Image.{Image};
@@ -17,11 +17,12 @@ ghost use Rattle.def_recovery.specs.Head.{Head, head_versions, head_updates, hea
 ghost use Rattle.def_recovery.specs.Opened.{parents_in};
 ghost use Rattle.def_recovery.specs.Opening.{state_of};
 ghost use Rattle.def_meaning.specs.StateTable.{table_of, request_for};
+ghost use Rattle.def_slice.specs.Lists.{entries_left};
 ghost use Rattle.def_state.specs.Reading.{live_of, level_zero};
 ghost use Rattle.def_state.specs.Setting.{set_all};
 ghost use Rattle.def_state.specs.Sound.{is_accepted, accepts_change, journal_max, IsSound};
 ghost use Rattle.def_state.specs.State.{State, update_of};
-ghost use Rattle.strat_memory.specs.Memory.{Memory, refusal_of_change, memory_after, HasRoomFor, reply_to, info_told, stat_told, fresh_memory, lists_in_memory, oldest_entries, sealed_off, unsealed, table_with, IsMemoryOf};
+ghost use Rattle.strat_memory.specs.Memory.{Memory, refusal_of_change, memory_after, HasRoomFor, reply_to, info_told, stat_told, fresh_memory, head_full, lists_in_memory, oldest_changes, oldest_entries, oldest_parents, oldest_updates, oldest_versions, sealed_off, unsealed, table_with, IsMemoryOf};
 ghost use Rattle.strat_base.specs.Marks.{Marks, none_dropped};
 
 /// Memory refuses a change just where the table does, and for the same reason; of any other it tells
@@ -106,6 +107,19 @@ pub fn memory_may_be_sealed()
         → oldest_entries m ≡ set_all (filter_map update_of h.journal) }
     ensures none { (h : Head) (m : Memory) → IsMemoryOf h m → length h.journal < h.sb.mem
         → m.sealed ≡ None }
+{}
+
+/// What a promotion takes is what the front of the journal says that fills the active region. The counts at the seal are
+/// those of the head then, and the versions then are the first ones.
+pub fn a_seal_has_what_fills_the_region()
+    ensures ok { (h : Head) (m : Memory) → IsMemoryOf h m
+        → oldest_entries m ≡ entries_left (take h.sb.mem h.journal) }
+    ensures len { (h : Head) (m : Memory) → IsMemoryOf h m
+        → (oldest_versions m ≡ length (head_versions (head_full h)))
+        × (oldest_updates m ≡ head_updates (head_full h))
+        × (oldest_changes m ≡ head_changes (head_full h)) }
+    ensures found { (h : Head) (m : Memory) → IsMemoryOf h m
+        → oldest_parents m ≡ head_versions (head_full h) }
 {}
 
 /// Memory that let go of what was sealed is that of a head with the same limits, versions and counts, whose journal has what
