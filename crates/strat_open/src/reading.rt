@@ -106,7 +106,7 @@ impl Reading {
             ≡ set_all (filter_map update_of self.now.journal) }
         ensures kept { ListStands result.1.now result.0.now }
     {
-        let (zero, pool, _) = self.found.memory.parts();
+        let (zero, pool, _) = self.found.memory.sealed_parts();
         (zero.view(), pool)
     }
 

@@ -31,7 +31,7 @@ use Rattle.def_publish.proofs.LongLemmas.{bytes_few}
 use Rattle.def_publish.proofs.NextLemmas.{array_at, arrays_are, changes_bound, entries_made, few_parts, next_lawful}
 use Rattle.def_publish.proofs.OccupiedLemmas.{free_beside, named_used, taken_beside}
 use Rattle.def_publish.proofs.PromotedLemmas.{promoted_state, promoted_whole}
-use Rattle.def_publish.specs.Contents.{Contents, contents_state, named_blocks}
+use Rattle.def_publish.specs.Contents.{Contents, contents_head, contents_state, named_blocks}
 use Rattle.def_publish.specs.Next.{IsNextOf, MayBeNext, HasManifest, arrays_made}
 use Rattle.def_publish.specs.Occupied.{IsSpaceOf, UsesMore, extents_of, arrays_in}
 use Rattle.def_publish.specs.Standing.{ContentsStand, LeavesContent}
@@ -39,6 +39,7 @@ use Rattle.def_state.specs.Sound.{IsSound}
 use Rattle.def_state.specs.State.{State, IsPaid}
 use Rattle.strat_cursor.specs.Looking.{arrays_there}
 use Rattle.strat_memory.proofs.FilterLemmas.{filtered_after}
+use Rattle.strat_publish.proofs.SealedLemmas.{oldest_here}
 use Rattle.strat_memory.specs.Filters.{LevelFilters, AreFiltersOn}
 use Rattle.strat_memory.specs.Memory.{Memory}
 use Rattle.strat_publish.specs.Promoting.{HoldInMemory, IsPromotedTo}
@@ -89,7 +90,7 @@ module _ (v : DiskView) (s : SpaceView) (m : Memory) (levels : List (Option Leve
 
   holds : HoldInMemory f (contents_state x) m levels
   holds = record {
-    entries = may.memory.entries;
+    entries = oldest_here (contents_head x) m may.memory (omega (arith, may.full));
     levels_are = ap (all_some (level_on f)) may.placed.listed_are ∙ (may.stands.reads f may.stands.left).lies.arrays;
     numbered = may.placed.numbered;
     parents = may.memory.parents;

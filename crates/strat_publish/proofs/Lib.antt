@@ -13,6 +13,7 @@ pub mod ObstacleLemmas
 pub mod SettlingLemmas
 pub mod RetiringLemmas
 pub mod KeptLemmas
+pub mod SealedLemmas
 pub mod SettledLemmas
 pub mod CountingLemmas
 pub mod LaidLemmas

@@ -44,7 +44,7 @@ use Rattle.def_publish.specs.Occupied.{UsesMore, extents_of}
 use Rattle.def_state.specs.Sound.{IsSound}
 use Rattle.def_state.specs.State.{State, versions_of}
 use Rattle.strat_cursor.specs.Looking.{arrays_there}
-use Rattle.strat_memory.specs.Memory.{Memory}
+use Rattle.strat_memory.specs.Memory.{Memory, oldest_entries}
 use Rattle.strat_publish.specs.Promoting.{MayPromote, HoldInMemory, IsPromotedTo}
 use Rattle.def_state.proofs.SoundLemmas.{ordered}
 
@@ -95,7 +95,7 @@ made_extents None = refl
 made_extents (Some level) = joined (λ (a : ArrayDesc). a.extents) level.arrays
 
 module _ (m : Memory) (levels : List (Option LevelDesc)) (mem id versions : ℕ) (list : ItemList) (pool : List PoolEntry) (parents : Parents) (p : Promotion)
-    (entries_are : entries_held pool list ≡ m.entries) (parents_are : parents ≡ m.parents) (rooted : IsTree parents) (count : versions ≡ length parents) (begun : IsBegun list levels mem versions id p) where
+    (entries_are : entries_held pool list ≡ oldest_entries m) (parents_are : parents ≡ m.parents) (rooted : IsTree parents) (count : versions ≡ length parents) (begun : IsBegun list levels mem versions id p) where
   horizon_is : p.task.horizon ≡ length m.parents
   horizon_is = begun.horizon ∙ count ∙ ap (λ (ps : Parents). length ps) parents_are
 
@@ -117,7 +117,7 @@ module _ (m : Memory) (levels : List (Option LevelDesc)) (mem id versions : ℕ)
   over_state : (f : Image) (s : State) → s.mem ≡ mem → HoldInMemory f s m levels → MayPromote m levels id → IsBegunOver f s (inputs_given list pool levels parents) p
   over_state f s mem_is holds may =
       let same : parents ≡ versions_of s = parents_are ∙ holds.parents in
-      let size : length list.items ≡ length m.entries = sym (length-map list.items (entry_of_item (arena_at pool list.arena).pairs)) ∙ ap (λ (es : List Entry). length es) entries_are in
+      let size : length list.items ≡ length (oldest_entries m) = sym (length-map list.items (entry_of_item (arena_at pool list.arena).pairs)) ∙ ap (λ (es : List Entry). length es) entries_are in
       let many : versions ≡ length (versions_of s) = count ∙ ap (λ (ps : Parents). length ps) same in
       record {
         holds = record {

@@ -1,7 +1,9 @@
 -- A publication of a store: what stands before it, between its calls and after it.
-use Rattle.std.proofs.Common.{◌≡◌, ◌≤◌, ◌+◌, ◌-◌, ◌*◌, ℕ, Bool, true, false, eqb, ◌&&◌, ◌||◌, inl, inr, ◌⊎◌, List, [], ◌∷◌, ◌++◌, length, Contains, flat_map, fold, map, Option, None, Some, refl, sym, ap, ◌∙◌, subst, arith, true≢false}
+use Rattle.std.proofs.Common.{◌≡◌, ◌≤◌, ◌+◌, ◌-◌, ◌*◌, ℕ, Bool, true, false, eqb, ◌&&◌, ◌||◌, inl, inr, ◌⊎◌, List, [], ◌∷◌, ◌++◌, length, Contains, drop, flat_map, fold, map, Option, None, Some, refl, sym, ap, ◌∙◌, subst, arith, true≢false}
 use Rattle.std.specs.List.{list_all}
 use Rattle.std.specs.Option.{option_to_list}
+use Rattle.std.specs.Prelude.{is_some}
+use Rattle.std.proofs.lemmas.List.{drop_all}
 use Rattle.std.proofs.lemmas.Bool.{and_parts, eqb-true, le-ltb}
 use Rattle.std.proofs.lemmas.Option.{slice_get_within, get_or_from_slice_get}
 use Rattle.strat_array.specs.Kept.{Blocks}
@@ -38,15 +40,14 @@ use Rattle.def_publish.proofs.ListLemmas.{contained_among, among_contained}
 use Rattle.def_publish.proofs.TableLemmas.{same_table}
 use Rattle.def_publish.specs.Contents.{Contents, contents_state}
 use Rattle.def_publish.specs.Next.{arrays_made}
-use Rattle.def_publish.specs.Occupied.{arrays_in}
 use Rattle.def_publish.specs.Standing.{AreFree, LeavesContent, ShowsTable, ContentsStand}
 use Rattle.def_state.specs.Level.{TaggedArray, Level, own_leads, least_live}
 use Rattle.def_state.specs.Sound.{IsSound, is_described, has_ascending_entries}
 use Rattle.def_state.specs.State.{State, versions_of, tree_after}
 use Rattle.strat_publish.proofs.LookLawLemmas.{made_of}
-use Rattle.strat_memory.proofs.MemoryLawLemmas.{memory_emptied}
 use Rattle.strat_publish.proofs.KeptLemmas.{array_named, held_behind, kept_next, named_behind}
 use Rattle.strat_publish.proofs.RetiringLemmas.{retired_room}
+use Rattle.strat_publish.proofs.SealedLemmas.{behind_none, emptied_first, emptied_next, let_go, ready_cursors, ready_manifest, ready_of, ready_parents}
 use Rattle.strat_publish.proofs.SettlingLemmas.{listed_arrays, named_there}
 use Rattle.strat_publish.specs.Outcomes.{IsDamagedIn, IsPublishedAs}
 use Rattle.strat_memory.specs.Filters.{LevelFilters, filters_after}
@@ -54,24 +55,15 @@ use Rattle.strat_memory.specs.Held.{Held, AreKept, ArePlaced, IsConsistent, Stan
 use Rattle.strat_cursor.specs.Cursors.{retired_all}
 use Rattle.strat_cursor.specs.Held.{HeldCursors}
 use Rattle.strat_cursor.specs.Looking.{AreCachedFrom, arrays_there}
-use Rattle.strat_memory.specs.Memory.{Memory, IsMemoryOf, emptied, prepared, renewed}
-use Rattle.strat_publish.specs.Publishing.{is_in_front, manifest_after}
+use Rattle.strat_memory.specs.Memory.{Memory, IsMemoryOf, IsReadyFrom, emptied, renewed}
+use Rattle.strat_publish.specs.Publishing.{is_in_front}
 use Rattle.strat_publish.specs.Settling.{held_next, contents_next, MayFollow, StandApart, WritesBeside, IsReadied, ArePublishedAfter, ArePublishedTo, arrays_taken}
 
--- memory that is prepared for a publication, or is not
-pub consistent_ready : (s : Held) (o : Option ℕ) (n : ℕ) (m : Memory) → m ≡ prepared s.memory o n → IsConsistent s → IsConsistent (record s { memory = m })
-consistent_ready s o n m is whole =
-    let of : IsMemoryOf (head_held s) (prepared s.memory o n) = record {
-      changes_max = whole.memory.changes_max;
-      versions_max = whole.memory.versions_max;
-      parents = whole.memory.parents;
-      undropped = whole.memory.undropped;
-      updates = whole.memory.updates;
-      changes = whole.memory.changes;
-      entries = whole.memory.entries;
-      room = whole.memory.room;
-    } in
-    let kept : AreKept s.sb s.chained s.levels (prepared s.memory o n) = record {
+-- a store keeps what it holds as its memory is another of its head, with the cursors that it had
+memory_kept : (s : Held) (m : Memory) → IsMemoryOf (head_held s) m → m.cursors ≡ record s.memory.cursors { room = m.cursors.room } → IsConsistent s → IsConsistent (record s { memory = m })
+memory_kept s m of cursors whole =
+    let k : Memory = record m { cursors = record s.memory.cursors { room = m.cursors.room } } in
+    let here : AreKept s.sb s.chained s.levels k = record {
       named = whole.kept.named;
       needed = whole.kept.needed;
       ids = whole.kept.ids;
@@ -80,6 +72,7 @@ consistent_ready s o n m is whole =
       once = whole.kept.once;
       few = whole.kept.few;
     } in
+    let same : k ≡ m = λ i. record m { cursors = sym cursors i } in
     record {
       slot = whole.slot;
       lawful = whole.lawful;
@@ -87,48 +80,48 @@ consistent_ready s o n m is whole =
       belonging = whole.belonging;
       log = whole.log;
       accepted = whole.accepted;
-      memory = subst (λ (k : Memory). IsMemoryOf (head_held s) k) (sym is) of;
+      memory = of;
       placed = whole.placed;
-      kept = subst (λ (k : Memory). AreKept s.sb s.chained s.levels k) (sym is) kept;
+      kept = subst (λ (j : Memory). AreKept s.sb s.chained s.levels j) same here;
     }
+
+pub consistent_ready : (s : Held) (m : Memory) → IsReadyFrom s.sb.mem s.memory m → length s.log.list ≡ s.sb.mem → IsConsistent s → IsConsistent (record s { memory = m })
+consistent_ready s m is full whole = memory_kept s m (ready_of (head_held s) s.memory m is full whole.memory) (ready_cursors s.sb.mem s.memory m is) whole
 
 pub stands_ready : (v : DiskView) (s : Held) (x : Contents) (m : Memory) → StandsWith v s x → StandsWith v (record s { memory = m }) x
 stands_ready v s x m w = record { stands = w.stands; held = w.held; cached = w.cached; filtered = w.filtered }
 
-pub damaged_ready : (content : Option Image) (m k : Memory) (o : Option ℕ) (n : ℕ) (levels : List (Option LevelDesc)) (b : ℕ) → k ≡ prepared m o n → IsDamagedIn content k levels b → IsDamagedIn content m levels b
-damaged_ready content m k o n levels b is bad =
-    let here : IsDamagedIn content (prepared m o n) levels b = subst (λ (n : Memory). IsDamagedIn content n levels b) is bad in
-    record { listed = here.listed; bad = here.bad }
+ready_arrays : (mem : ℕ) (m k : Memory) (levels : List (Option LevelDesc)) → IsReadyFrom mem m k → arrays_held k levels ≡ arrays_held m levels
+ready_arrays mem m k levels is = ap (λ (c : HeldCursors). arrays_there levels ++ c.retired) (ready_cursors mem m k is)
 
--- memory that is prepared has the versions and the cursors of before, and room where there was room beside these
-pub still_ready : (m k now : Memory) (o : Option ℕ) (n : ℕ) → now ≡ k → k ≡ prepared m o n → (now.parents ≡ m.parents) × (now.cursors ≡ record m.cursors { room = now.cursors.room })
-still_ready m k now o n same is =
-    let all : now ≡ prepared m o n = same ∙ is in
-    (ap (λ (j : Memory). j.parents) all, ap (λ (j : Memory). j.cursors) all ∙ (λ i. record m.cursors { room = sym (ap (λ (j : Memory). j.cursors.room) all) i }))
+pub damaged_ready : (mem : ℕ) (content : Option Image) (m k : Memory) (levels : List (Option LevelDesc)) (b : ℕ) → IsReadyFrom mem m k → IsDamagedIn content k levels b → IsDamagedIn content m levels b
+damaged_ready mem content m k levels b is bad = record {
+  listed = subst (λ (rs : List ArrayDesc). Contains (blocks_listed rs) b) (ready_arrays mem m k levels is) bad.listed;
+  bad = bad.bad;
+}
 
-pub room_ready : (m k : Memory) (o : Option ℕ) (n : ℕ) (given held : List LevelDesc) → k ≡ prepared m o n → given ≡ held → length m.cursors.retired + length (arrays_in given) ≤ k.cursors.room
-    → length k.cursors.retired + length (arrays_in held) ≤ k.cursors.room
-room_ready m k o n given held is same room =
-    let kept : length k.cursors.retired ≡ length m.cursors.retired = ap (λ (j : Memory). length j.cursors.retired) is in
-    let size = ap (λ (ls : List LevelDesc). length (arrays_in ls)) same in
-    omega (arith, room, kept, size)
+-- memory that is ready has the versions and the cursors of before
+pub still_ready : (mem : ℕ) (m k now : Memory) → now ≡ k → IsReadyFrom mem m k → (now.parents ≡ m.parents) × (now.cursors ≡ record m.cursors { room = now.cursors.room })
+still_ready mem m k now same is = (
+  ap (λ (j : Memory). j.parents) same ∙ ready_parents mem m k is,
+  ap (λ (j : Memory). j.cursors) same ∙ ready_cursors mem m k is ∙ (λ i. record m.cursors { room = sym (ap (λ (j : Memory). j.cursors.room) same) i }),
+)
 
 -- so are the arrays that it holds, and what a disk exposes is one image
-pub agree_ready : (m k : Memory) (o : Option ℕ) (n : ℕ) (levels : List (Option LevelDesc)) (f g : Image) → k ≡ prepared m o n → AgreeOn (blocks_listed (arrays_held k levels)) f g → AgreeOn (blocks_listed (arrays_held m levels)) f g
-agree_ready m k o n levels f g is agree =
-    let here : AgreeOn (blocks_listed (arrays_held (prepared m o n) levels)) f g = subst (λ (j : Memory). AgreeOn (blocks_listed (arrays_held j levels)) f g) is agree in
-    here
+pub agree_ready : (mem : ℕ) (m k : Memory) (levels : List (Option LevelDesc)) (f g : Image) → IsReadyFrom mem m k → AgreeOn (blocks_listed (arrays_held k levels)) f g → AgreeOn (blocks_listed (arrays_held m levels)) f g
+agree_ready mem m k levels f g is agree = subst (λ (rs : List ArrayDesc). AgreeOn (blocks_listed rs) f g) (ready_arrays mem m k levels is) agree
 
 pub agree_once : (v : DiskView) (f g : Image) (blocks : List ℕ) → Exposes v f → Exposes v g → AgreeOn blocks f g
 agree_once v f g blocks was now b of = subst (λ (h : Image). KeepsBlock b f h) (exposed_once v f g was now) (keeps_refl b f)
 
--- what a promotion leaves, with memory prepared
-published_after : (target : ℕ) (s sb here : Super) (m next there : Manifest) (memory ready now : Memory) (filters left : List LevelFilters) (made : LevelFilters) (o : Option ℕ) (n : ℕ) → 1 ≤ target → ready ≡ prepared memory o n → here ≡ sb → there ≡ next
-    → now ≡ renewed s.mem (arrays_taken target m) ready → left ≡ filters_after filters target made → ArePublishedTo target s m ready sb next → ArePublishedAfter s m memory filters here there now.cursors left
-published_after target s sb here m next there memory ready now filters left made o n low same sb_is next_is now_is left_is is =
+-- what a promotion leaves, with memory ready
+published_after : (target mem : ℕ) (s sb here : Super) (m next there : Manifest) (memory ready now : Memory) (filters left : List LevelFilters) (made : LevelFilters) → 1 ≤ target → IsReadyFrom mem memory ready → here ≡ sb → there ≡ next
+    → now ≡ renewed (arrays_taken target m) ready → left ≡ filters_after filters target made → ArePublishedTo target s m ready sb next → ArePublishedAfter s m memory filters here there now.cursors left
+published_after target mem s sb here m next there memory ready now filters left made low same sb_is next_is now_is left_is is =
     let gone : List ArrayDesc = arrays_taken target m in
+    let n : ℕ = ready.cursors.room in
     let cursors : now.cursors ≡ record (retired_all gone memory.cursors) { room = n } =
-    ap (λ (k : Memory). k.cursors) now_is ∙ ap (λ (k : Memory). retired_all gone k.cursors) same ∙ retired_room gone memory.cursors n in
+    ap (λ (k : Memory). k.cursors) now_is ∙ ap (λ (c : HeldCursors). retired_all gone c) (ready_cursors mem memory ready same) ∙ retired_room gone memory.cursors n in
     record {
       target = target;
       made = made;
@@ -138,7 +131,7 @@ published_after target s sb here m next there memory ready now filters left made
         first = is.first;
         size = is.size;
         numbered = is.numbered;
-        manifest_is = next_is ∙ is.manifest_is ∙ ap (λ (k : Memory). manifest_after m k target is.made) same;
+        manifest_is = next_is ∙ is.manifest_is ∙ ready_manifest mem target m is.made memory ready same;
         sb_is = sb_is ∙ is.sb_is;
       };
       cursors_are = cursors ∙ (λ i. record (retired_all gone memory.cursors) { room = sym (ap (λ (c : HeldCursors). c.room) cursors) i });
@@ -319,10 +312,10 @@ versions_back h =
     ap (λ (ps : Parents). None ∷ map (λ p. Some p) (parent_numbers ps)) grown.1 ∙ ap (λ (ns : List ℕ). None ∷ map (λ p. Some p) ns) (numbers_of grown.0) ∙ sym grown.1
 
 -- what a store holds after a publication is consistent
-pub consistent_next : (s : Held) (target : ℕ) (sb : Super) (chained : Chained) (levels : List (Option LevelDesc)) (made : LevelFilters) → IsConsistent s → MayFollow s sb chained
+pub consistent_next : (s : Held) (target : ℕ) (sb : Super) (chained : Chained) (levels : List (Option LevelDesc)) (made : LevelFilters) → IsConsistent s → is_some s.memory.sealed ≡ true → length s.log.list ≡ s.sb.mem → MayFollow s sb chained
     → ArePublishedTo target s.sb s.chained.manifest s.memory sb chained.manifest → is_lawful_manifest newest_format chained.manifest ≡ true → belongs sb chained ≡ true
     → ArePlaced chained.manifest.levels levels → StandApart target s chained → IsConsistent (held_next s target sb chained levels made)
-consistent_next s target sb chained levels made whole follows are spelled belonging placed apart =
+consistent_next s target sb chained levels made whole some full follows are spelled belonging placed apart =
     let h : Head = head_held s in
     let new : Head = record { sb = sb; manifest = chained.manifest; journal = [] } in
     let versions : head_versions new ≡ head_versions h =
@@ -343,18 +336,18 @@ consistent_next s target sb chained levels made whole follows are spelled belong
       };
       accepted = refl;
       memory =
-          let here = memory_emptied h new s.memory whole.memory refl follows.changes_max follows.versions_max versions updates changes follows.undropped in
-          let all : IsMemoryOf new (renewed sb.mem (arrays_taken target s.chained.manifest) s.memory) = record {
+          let none : [] ≡ drop s.sb.mem s.log.list = sym (drop_all s.sb.mem s.log.list (omega (arith, full))) in
+          let here = let_go h new s.memory whole.memory some none (omega arith) follows.mem follows.changes_max follows.versions_max versions updates changes follows.undropped in
+          record {
             changes_max = here.changes_max;
             versions_max = here.versions_max;
             parents = here.parents;
             undropped = here.undropped;
             updates = here.updates;
             changes = here.changes;
-            entries = here.entries;
-            room = here.room;
-          } in
-          subst (λ (n : ℕ). IsMemoryOf new (renewed n (arrays_taken target s.chained.manifest) s.memory)) follows.mem all;
+            lists = here.lists;
+            counted = here.counted;
+          };
       placed = placed;
       kept = kept_next s target sb chained levels whole are follows.mem spelled belonging placed apart;
     }
@@ -402,20 +395,20 @@ none_damaged v s x b whole stands bad =
     let st : State = contents_state x in
     none_bad f levels st b arrays read stands.stands.sound at (bad f stands.stands.exposed)
 
--- what was emptied
-emptied_next : (mem : ℕ) (gone : List ArrayDesc) (m k now : Memory) (o : Option ℕ) (n : ℕ) → now ≡ renewed mem gone k → k ≡ prepared m o n → now ≡ record (emptied mem m) { cursors = now.cursors }
-emptied_next mem gone m k now o n is ready =
-    is ∙ ap (λ (j : Memory). record (emptied mem j) { cursors = retired_all gone k.cursors }) ready ∙ (λ i. record (emptied mem m) { cursors = sym (ap (λ (j : Memory). j.cursors) is) i })
-
 -- and what is found of a store after a publication
-pub found_next : (s t : Held) (m : Memory) (o : Option ℕ) (n target : ℕ) (sb : Super) (chained : Chained) (levels : List (Option LevelDesc)) (made : LevelFilters) → m ≡ prepared s.memory o n
-    → 1 ≤ target → t ≡ held_next (record s { memory = m }) target sb chained levels made → ArePublishedTo target s.sb s.chained.manifest m sb chained.manifest
+pub found_next : (s t : Held) (m : Memory) (target : ℕ) (sb : Super) (chained : Chained) (levels : List (Option LevelDesc)) (made : LevelFilters) → IsReadyFrom s.sb.mem s.memory m
+    → is_some m.sealed ≡ true → length s.log.list ≡ s.sb.mem → IsConsistent s → 1 ≤ target
+    → t ≡ held_next (record s { memory = m }) target sb chained levels made → ArePublishedTo target s.sb s.chained.manifest m sb chained.manifest
     → (t.slot ≡ 1 - s.slot) × ArePublishedAfter s.sb s.chained.manifest s.memory s.filters t.sb t.chained.manifest t.memory.cursors t.filters × (t.log.list ≡ [])
-    × (t.memory ≡ record (emptied s.sb.mem s.memory) { cursors = t.memory.cursors })
-found_next s t m o n target sb chained levels made same low is are =
-    let memory : t.memory ≡ renewed s.sb.mem (arrays_taken target s.chained.manifest) m = ap (λ (h : Held). h.memory) is in (
+    × (t.memory ≡ record (emptied t.memory.spare s.memory) { ready = t.memory.ready; cursors = t.memory.cursors })
+    × (s.memory.sealed ≡ None → t.memory ≡ record (emptied s.sb.mem s.memory) { cursors = t.memory.cursors })
+found_next s t m target sb chained levels made same some full whole low is are =
+    let gone : List ArrayDesc = arrays_taken target s.chained.manifest in
+    let memory : t.memory ≡ renewed gone m = ap (λ (h : Held). h.memory) is in
+    let of = ready_of (head_held s) s.memory m same full whole.memory in (
       ap (λ (h : Held). h.slot) is,
-      published_after target s.sb sb t.sb s.chained.manifest chained.manifest t.chained.manifest s.memory m t.memory s.filters t.filters made o n low same (ap (λ (h : Held). h.sb) is) (ap (λ (h : Held). h.chained.manifest) is) memory (ap (λ (h : Held). h.filters) is) are,
+      published_after target s.sb.mem s.sb sb t.sb s.chained.manifest chained.manifest t.chained.manifest s.memory m t.memory s.filters t.filters made low same (ap (λ (h : Held). h.sb) is) (ap (λ (h : Held). h.chained.manifest) is) memory (ap (λ (h : Held). h.filters) is) are,
       ap (λ (h : Held). h.log.list) is,
-      emptied_next s.sb.mem (arrays_taken target s.chained.manifest) s.memory m t.memory o n memory same,
+      emptied_next s.sb.mem gone s.memory m t.memory memory same (behind_none s.sb.mem s.log.list m.entries m.sealed m.spare of.lists some full),
+      λ none. emptied_first s.sb.mem gone s.memory m t.memory memory same some none,
     )

@@ -36,7 +36,9 @@ use Rattle.def_state.proofs.UpdateLemmas.{all_among}
 use Rattle.def_state.specs.Setting.{set_all}
 use Rattle.def_state.specs.Sound.{is_accepted, are_accepted, is_there, takes_updates}
 use Rattle.def_state.specs.State.{tree_after, update_of, marks_after}
-use Rattle.strat_memory.specs.Held.{Held, IsConsistent, StandsWith, contents_held}
+use Rattle.strat_memory.specs.Held.{Held, IsConsistent, StandsWith, contents_held, head_held}
+use Rattle.strat_memory.specs.Memory.{oldest_entries}
+use Rattle.strat_publish.proofs.SealedLemmas.{oldest_here}
 use Rattle.strat_publish.specs.Publishing.{MayCompute}
 use Rattle.strat_cursor.specs.Looking.{arrays_there, MayBeFound, HaveOwnIds}
 use Rattle.strat_publish.specs.Promoting.{MayPromote}
@@ -192,12 +194,13 @@ whole_promotes s whole =
     let updates = leb-true m.updates m.changes (pass_at (manifest_tests newest_format m) 1 whole.spelled) in
     let led = leb-true (sum_by (λ (a : ArrayDesc). a.leads) (descriptors m)) m.updates (pass_at tests 5 whole.belonging) in
     let accepted = accepted_few s.sb.changes_max s.sb.versions_max (parents_in m) m.marks m.changes s.log.list whole.accepted changes in
-    let entries = ap (λ (es : List Entry). length es) whole.memory.entries in
+    let oldest = oldest_here (head_held s) s.memory whole.memory whole.log.few in
+    let entries = ap (λ (es : List Entry). length es) oldest in
     let fewer = entries_few s.log.list in
-    let sums = leads_summed s.levels (length s.memory.entries) whole.placed.count in
+    let sums = leads_summed s.levels (length (oldest_entries s.memory)) whole.placed.count in
     let same = ap (λ (rs : List ArrayDesc). sum_by (λ (a : ArrayDesc). a.leads) rs) listed in
     record {
-      low = (λ i. list_all (λ (e : Entry). ltb e.version (length (whole.memory.parents i))) (whole.memory.entries i))
+      low = (λ i. list_all (λ (e : Entry). ltb e.version (length (whole.memory.parents i))) (oldest i))
           ∙ entries_known s.sb.changes_max s.sb.versions_max (parents_in m) m.marks m.changes s.log.list whole.accepted;
       arrays = record {
         within = λ a of. within_numbers m.next_array a (array a (at a of)).0 (all_at is_filled a (descriptors m) (pass_at tests 6 whole.belonging) (at a of));

@@ -15,29 +15,29 @@ use Rattle.def_state.specs.Setting.{set_all}
 use Rattle.def_state.specs.State.{State, IsPaid, versions_of, journal_updates}
 use Rattle.strat_cursor.specs.Looking.{levels_there, arrays_there}
 use Rattle.strat_memory.specs.Filters.{AreFiltersOn}
-use Rattle.strat_memory.specs.Memory.{Memory}
+use Rattle.strat_memory.specs.Memory.{Memory, oldest_entries}
 use Rattle.strat_promote.specs.Promotions.{FiltersStand, arrays_promoted}
 use Rattle.strat_promote.specs.declared.promotion.Promotion.{Promotion}
 
--- how many leads level 0 has, and then levels 1 to 22
+-- how many leads what is sealed has, or level 0 where nothing is, and then levels 1 to 22
 abbrev pub leads_in_memory : Memory → List (Option LevelDesc) → List ℕ
 leads_in_memory m levels =
-    length m.entries
+    length (oldest_entries m)
     ∷ map (λ n. leads_if_any (level_numbered levels n)) (range_with_len 1 22)
 
--- level 0 and the levels may be promoted into arrays that are numbered from a number on: their versions are known, and they
+-- what is sealed, or level 0 where nothing is, and the levels may be promoted into arrays that are numbered from a number on: their versions are known, and they
 -- have no more leads than any store
 pub record MayPromote (m : Memory) (levels : List (Option LevelDesc)) (next_array : ℕ)
     : Type 0 where
-  pub low : IsTrue (list_all (λ e. nat_lt e.version (length m.parents)) m.entries)
+  pub low : IsTrue (list_all (λ e. nat_lt e.version (length m.parents)) (oldest_entries m))
   pub arrays : AreReadable (length m.parents) (arrays_there levels)
   pub few : sum (leads_in_memory m levels) ≤ 2 ^ 24
   pub first : next_array ≤ 2 ^ 63
 
--- level 0 and the levels are those of a state, whose arrays stand in an image
+-- what is sealed, or level 0 where nothing is, and the levels are those of a state, whose arrays stand in an image
 pub record HoldInMemory (f : Image) (s : State) (m : Memory) (levels : List (Option LevelDesc))
     : Type 0 where
-  pub entries : m.entries ≡ set_all (journal_updates s)
+  pub entries : oldest_entries m ≡ set_all (journal_updates s)
   pub levels_are : all_some (level_on f) (levels_there levels) ≡ Some s.levels
   pub numbered : (n : ℕ) (level : LevelDesc) → level_numbered levels n ≡ Some level
       → level.number ≡ n

@@ -52,16 +52,16 @@ super_after sb first size = record sb {
 abbrev pub arrays_taken : ℕ → Manifest → List ArrayDesc
 arrays_taken target m = arrays_in (descs_to target m.levels)
 
--- what a store holds after a publication of this superblock, manifest and levels: level 0 and the journal are emptied, the
--- arrays of the levels down to a target are kept where a cursor names them, and of the filters of these levels those of the
--- arrays that were made take the place
+-- what a store holds after a publication of this superblock, manifest and levels: what was sealed is let go of, the journal
+-- is emptied, the arrays of the levels down to a target are kept where a cursor names them, and of the filters of these
+-- levels those of the arrays that were made take the place
 abbrev pub held_next : Held → ℕ → Super → Chained → List (Option LevelDesc) → LevelFilters → Held
 held_next s target sb chained levels made = record {
   slot = 1 - s.slot;
   sb = sb;
   chained = chained;
   log = region_begun s.log;
-  memory = renewed s.sb.mem (arrays_taken target s.chained.manifest) s.memory;
+  memory = renewed (arrays_taken target s.chained.manifest) s.memory;
   levels = levels;
   filters = filters_after s.filters target made;
   cached = s.cached;

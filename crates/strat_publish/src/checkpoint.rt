@@ -1,7 +1,7 @@
 //! A checkpoint of a store, whole: its journal is emptied into its levels.
 
 ghost use Rattle.std.specs.List.{list_all};
-ghost use Rattle.std.specs.Prelude.{◌≡◌, ◌<◌, ◌≤◌, ℕ, ◌+◌, ◌-◌, ◌*◌, ◌^◌, List, [], ◌∷◌, length, min, nat_le, nat_lt, Some, IfOk, OnOk, OnErr, IsErrOf, IsTrue};
+ghost use Rattle.std.specs.Prelude.{◌≡◌, ◌<◌, ◌≤◌, ℕ, ◌+◌, ◌-◌, ◌*◌, ◌^◌, List, [], ◌∷◌, length, min, nat_le, nat_lt, is_some, None, IfOk, OnOk, OnErr, IsErrOf, IsTrue};
 ghost use Rattle.strat_array.specs.Kept.{Blocks};
 ghost use Rattle.def_crash.specs.Blocks.{TearsBlocks, AgreeOn};
 ghost use Rattle.def_crash.specs.Faults.{CountsFaults, HasCause};
@@ -30,7 +30,7 @@ ghost use Rattle.strat_memory.specs.Filters.{filters_after};
 ghost use Rattle.strat_memory.specs.Held.{IsConsistent, IsOnDisk, StandsWith, arrays_held, contents_held};
 ghost use Rattle.strat_cursor.specs.Cursors.{retired_all};
 ghost use Rattle.strat_cursor.specs.Looking.{arrays_there};
-ghost use Rattle.strat_memory.specs.Memory.{emptied, prepared};
+ghost use Rattle.strat_memory.specs.Memory.{emptied, IsReadyFrom};
 ghost use Rattle.strat_memory.specs.Paying.{ArePaidSince};
 ghost use Rattle.strat_publish.specs.Counting.{CountsWritten};
 ghost use Rattle.strat_publish.specs.Publishing.{IsComputed, LaysSuperblock, WritesManifest, descs_to, is_in_front, manifest_after};
@@ -287,9 +287,10 @@ fn count_arrays(levels: &[LevelDesc]) -> usize
     n
 }
 
-/// Takes the memory that `install` needs: the next level 0, and room for all arrays of these levels among those that are
-/// kept, which stays for the next time. The only error is want of memory, after which the rest of memory is as it was.
-fn reserve_for_next(
+/// Takes the memory that a checkpoint needs beside its promotion, and seals level 0, if that is not sealed: room for all
+/// arrays of these levels among those that are kept, which stays for the next time, and a new level 0. The only error is
+/// want of memory, before anything is sealed.
+fn seal_for_next(
     alloc: Global,
     memory: &mut Memory,
     mem: u32,
@@ -297,13 +298,18 @@ fn reserve_for_next(
 ) -> Result<(), NoMemory>
     requires fits { (4 ≤ mem) × (mem ≤ 4096) }
     requires len { length (arrays_in levels.now) < 2 ^ 64 }
-    ensures ok { OnOk result ((memory.new.ready ≡ Some mem)
-        × (length memory.old.cursors.retired + length (arrays_in levels.now)
+    ensures ok { OnOk result (IsTrue (is_some memory.new.sealed)
+        × (length memory.new.cursors.retired + length (arrays_in levels.now)
         ≤ memory.new.cursors.room)) }
-    ensures same { memory.new ≡ prepared memory.old memory.new.ready memory.new.cursors.room }
+    ensures same { IsReadyFrom mem memory.old memory.new }
 {
+    memory.reserve_retired(count_arrays(levels))?;
+    if memory.is_sealed() {
+        return Ok(());
+    }
     memory.prepare(alloc, mem)?;
-    memory.reserve_retired(count_arrays(levels))
+    memory.seal();
+    Ok(())
 }
 
 /// Keeps those of these arrays that a cursor names. O(arrays * arrays of all cursors), and no memory.
@@ -345,10 +351,9 @@ fn install<D: Disk>(
 ) -> Result<(), Failed>
     requires fits { (held.old.slot ≤ 1) × (held.old.journal.active ≤ 1)
         × IsLawful (super_of next.sb) × (1 ≤ next.target) × (next.target ≤ 22) }
-    requires room { (held.old.memory.ready ≡ Some held.old.sb.mem)
-        × (length held.old.memory.cursors.retired
+    requires room { length held.old.memory.cursors.retired
         + length (arrays_in (manifest_of held.old.published.manifest).levels)
-        ≤ held.old.memory.cursors.room) }
+        ≤ held.old.memory.cursors.room }
     requires same { next.sb.mem ≡ held.old.sb.mem }
     ensures ok { OnOk result ((cached : Blocks) → held_of held.new cached
         ≡ held_next (held_of held.old cached) next.target (super_of next.sb)
@@ -374,21 +379,22 @@ fn install<D: Disk>(
     held.slot = 1 - held.slot;
     held.sb = next.sb;
     let left = mem::replace(&mut held.published, next.published);
-    held.memory.restart();
+    held.memory.forget_sealed();
     retire_levels(&mut held.memory, left.manifest.levels, next.target);
     held.filters.replace(alloc, next.target, next.filters);
     Ok(())
 }
 
-/// Makes a checkpoint: level 0 and the shallow levels become one new level, a new manifest names it, and a new superblock
-/// makes that the store's. The journal is empty then. It reads each block of the merged arrays twice at most, writes each
-/// block of the new arrays and of the manifest once, and syncs five times at most.
+/// Makes a checkpoint: level 0 is sealed, if it isn't, what is sealed and the shallow levels become one new level, a new
+/// manifest names it, and a new superblock makes that the store's. The journal is empty then, and nothing is sealed. It
+/// reads each block of the merged arrays twice at most, writes each block of the new arrays and of the manifest once, and
+/// syncs five times at most.
 ///
-/// All memory is taken before the superblock is laid: without it the store is as it was. `Unfit`: too few blocks are free,
-/// an array would have more than 2^25 entries, or another bound of our own was reached. No store that stands on its disk
-/// reaches one, and the store is as it was then, too. `Damaged` names a block of the store's arrays that is no block of
-/// entries, or is out of order: no store that stands on its disk has one. After `Device` only recovery can tell which
-/// contents the disk holds; both mean the same table.
+/// All memory is taken before the superblock is laid: without it the store is as it was, but that level 0 may be sealed.
+/// The next checkpoint goes on with that. `Unfit`: too few blocks are free, an array would have more than 2^25 entries, or
+/// another bound of our own was reached. No store that stands on its disk reaches one, and the store is as it was then,
+/// too. `Damaged` names a block of the store's arrays that is no block of entries, or is out of order: no store that stands
+/// on its disk has one. After `Device` only recovery can tell which contents the disk holds; both mean the same table.
 pub fn publish<D: Disk>(alloc: Global, held: &mut OpenStore, disk: &mut D) -> Result<(), Obstacle>
     requires kept { ((cached : Blocks) → IsConsistent (held_of held.old cached))
         × (length held.old.journal.list ≡ held.old.sb.mem) }
@@ -402,7 +408,10 @@ pub fn publish<D: Disk>(alloc: Global, held: &mut OpenStore, disk: &mut D) -> Re
         held.old.memory held.old.filters (super_of held.new.sb)
         (manifest_of held.new.published.manifest) held.new.memory.cursors held.new.filters
         × (held.new.journal.list ≡ [])
-        × (held.new.memory ≡ record (emptied held.old.sb.mem held.old.memory)
+        × (held.new.memory ≡ record (emptied held.new.memory.spare held.old.memory)
+        { ready = held.new.memory.ready; cursors = held.new.memory.cursors })
+        × (held.old.memory.sealed ≡ None
+        → held.new.memory ≡ record (emptied held.old.sb.mem held.old.memory)
         { cursors = held.new.memory.cursors })) }
     ensures disk { (IsErrOf result Device → ⊥) → (cached : Blocks)
         → IsOnDisk (D.view disk.old) (held_of held.old cached)
@@ -421,8 +430,7 @@ pub fn publish<D: Disk>(alloc: Global, held: &mut OpenStore, disk: &mut D) -> Re
     ensures same { (held.new.sb.mem ≡ held.old.sb.mem)
         × (held.new.memory.parents ≡ held.old.memory.parents)
         × (RanShort result → (held.new.journal ≡ held.old.journal)
-        × (held.new.memory ≡ prepared held.old.memory held.new.memory.ready
-        held.new.memory.cursors.room))
+        × IsReadyFrom held.old.sb.mem held.old.memory held.new.memory)
         × OnErr result ((cached : Blocks)
         → KeepsPublished (held_of held.old cached) (held_of held.new cached)
         × KeepsCursors (held_of held.old cached) (held_of held.new cached)) }
@@ -437,7 +445,7 @@ pub fn publish<D: Disk>(alloc: Global, held: &mut OpenStore, disk: &mut D) -> Re
         × ((x : Contents) (cached : Blocks)
         → StandsWith (D.view disk.old) (held_of held.old cached) x → ⊥) }
 {
-    reserve_for_next(
+    seal_for_next(
         alloc,
         &mut held.memory,
         held.sb.mem,

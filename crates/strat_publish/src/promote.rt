@@ -1,4 +1,4 @@
-//! A promotion of level 0 and of the shallow levels of a store, in one go.
+//! A promotion of a sealed level 0 and of the shallow levels of a store, in one go.
 
 ghost use Rattle.std.specs.Prelude.{◌≡◌, ◌≤◌, ℕ, true, ◌+◌, ◌-◌, ◌*◌, ◌^◌, [], length, min, IfOk, OnErr, IsErrOf, Contains};
 ghost use Rattle.strat_array.specs.Taking.{AreUsed};
@@ -82,7 +82,7 @@ fn take_made(alloc: Global, mut promotion: Promotion, first: u64) -> Made
     }
 }
 
-/// Promotes level 0 and the levels down to the first that has room for all their leads. Each block of their arrays is read
+/// Promotes what is sealed, or level 0 where nothing is, and the levels down to the first that has room for all their leads. Each block of their arrays is read
 /// twice at most, and nothing is written but free blocks. After an error the blocks that were taken are free again.
 /// `Damaged` names a block of an array that holds no entries, or none that come after those before it. `Unfit`: there are more
 /// leads than any store has that stands on its disk, or fewer free blocks.
@@ -128,7 +128,7 @@ pub(crate) fn promote<D: Disk>(
     ensures reads { D.reads disk.new
         ≤ D.reads disk.old + 2 * length (blocks_listed (arrays_there levels.now)) }
 {
-    let (zero, pool, tree) = memory.parts();
+    let (zero, pool, tree) = memory.sealed_parts();
     let versions = tree.count();
     let mut promotion = Promotion::begin(alloc, zero, levels, tree, versions, mem, next_array)?;
     match promotion.slice(zero, levels, pool, tree, space, disk, ALL) {

@@ -36,7 +36,7 @@ use Rattle.def_publish.specs.Contents.{Contents, contents_state}
 use Rattle.def_state.specs.State.{IsPaid}
 use Rattle.strat_store.specs.Cursoring.{LeavesCursors}
 use Rattle.strat_memory.specs.Held.{Held, ArePlaced, IsConsistent, IsOnDisk, StandsWith, arrays_held}
-use Rattle.strat_memory.specs.Memory.{KeepsRows, Memory, prepared, refusal_of_change, reply_to}
+use Rattle.strat_memory.specs.Memory.{IsReadyFrom, KeepsRows, Memory, refusal_of_change, reply_to}
 use Rattle.strat_memory.specs.Paying.{ArePaidSince}
 use Rattle.strat_publish.specs.Counting.{CountsWritten}
 use Rattle.strat_memory.specs.RecoveredFields.{held_of}
@@ -83,20 +83,23 @@ wanted_change (Clone v) c wanted = refl
 wanted_change (DropVersion v) c wanted = refl
 wanted_change _ c wanted = absurd (cc)
 
--- a store that keeps what is published, its journal and its memory, but for what stands ready, holds the same
+-- a store that keeps what is published, its journal and its memory, but for what is ready, holds the same
 pub holds_the_same : (r new : OpenStore) (cached : Blocks) (told : Reply) → KeepsPublished (held_of r cached) (held_of new cached) → new.journal ≡ r.journal
-    → new.memory ≡ prepared r.memory new.memory.ready new.memory.cursors.room → HoldsTheSame (held_of r cached) (held_after new cached told)
-holds_the_same r new cached told keeps journal memory = λ i. record {
-  slot = keeps.slot i;
-  sb = keeps.sb i;
-  chained = keeps.chained i;
-  log = journal i;
-  memory = memory i;
-  levels = keeps.levels i;
-  filters = keeps.filters i;
-  cached = cached;
-  spent = is_fault told;
-}
+    → IsReadyFrom r.sb.mem r.memory new.memory → HoldsTheSame (held_of r cached) (held_after new cached told)
+holds_the_same r new cached told keeps journal memory = (
+  memory,
+  λ i. record {
+    slot = keeps.slot i;
+    sb = keeps.sb i;
+    chained = keeps.chained i;
+    log = journal i;
+    memory = new.memory;
+    levels = keeps.levels i;
+    filters = keeps.filters i;
+    cached = cached;
+    spent = is_fault told;
+  },
+)
 
 -- a change that is refused leaves the disk as it was
 pub untouched_by : (v w : DiskView) (request : Request) (c : Change) (r new : OpenStore) (cached : Blocks) (told : Reply) → change_wanted request ≡ Some c

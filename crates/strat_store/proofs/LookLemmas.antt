@@ -257,30 +257,43 @@ decided seen.None other = absurd (other refl)
 decided seen.Gone other = refl
 decided seen.Put other = refl
 
--- what level 0 says of a key is what is told, whatever the levels say
-pub looks_here : (content : Option Image) (filters : List LevelFilters) (parents : Parents) (entries : List Entry) (levels : List (Option LevelDesc)) (n : ℕ) (key : List ℕ) (c : Blocks) (out : TheirPairs) (told : Seen)
-    → TellsFound (live_of parents entries n key) key [] out told → decides told ≡ true
+-- what is looked up in lists and levels: what the lists say, or else what the levels do
+or_or : (a b c : Option Entry) → option_or a (option_or b c) ≡ option_or (option_or a b) c
+or_or None b c = refl
+or_or (Some x) b c = refl
+
+looked_behind : (f : Image) (filters : List LevelFilters) (parents : Parents) (zeros : List (List Entry)) (levels : List LevelDesc) (v : ℕ) (key : List ℕ)
+    → looked_up (on_disk_filtered f filters) parents zeros levels v key ≡ option_or (first_live parents zeros v key) (looked_up (on_disk_filtered f filters) parents [] levels v key)
+looked_behind f filters parents [] levels v key = refl
+looked_behind f filters parents (entries ∷ zeros) levels v key =
+    ap (option_or (live_of parents entries v key)) (looked_behind f filters parents zeros levels v key)
+    ∙ or_or (live_of parents entries v key) (first_live parents zeros v key) (looked_up (on_disk_filtered f filters) parents [] levels v key)
+
+-- what the lists of level 0 say of a key is what is told, whatever the levels say
+pub looks_here : (content : Option Image) (filters : List LevelFilters) (parents : Parents) (zeros : List (List Entry)) (levels : List (Option LevelDesc)) (n : ℕ) (key : List ℕ) (c : Blocks) (out : TheirPairs) (told : Seen)
+    → TellsFound (first_live parents zeros n key) key [] out told → decides told ≡ true
     → (f : Image) (next : ℕ) → content ≡ Some f → AreInOrder f (arrays_asked parents levels n) → HaveOwnIds (arrays_there levels) → AreNumberedByPlace levels → AreCachedFrom f next (arrays_asked parents levels n) c
-    → TellsFound (looked_up (on_disk_filtered f filters) parents (entries ∷ []) (levels_there levels) n key) key [] out told
-looks_here content filters parents entries levels n key c out told tells some f next exposed ordered own numbered cached =
-    tells_on (live_of parents entries n key) (looked_up (on_disk_filtered f filters) parents [] (levels_there levels) n key) key [] out told tells some
+    → TellsFound (looked_up (on_disk_filtered f filters) parents zeros (levels_there levels) n key) key [] out told
+looks_here content filters parents zeros levels n key c out told tells some f next exposed ordered own numbered cached =
+    subst (λ (o : Option Entry). TellsFound o key [] out told) (sym (looked_behind f filters parents zeros (levels_there levels) n key))
+    (tells_on (first_live parents zeros n key) (looked_up (on_disk_filtered f filters) parents [] (levels_there levels) n key) key [] out told tells some)
 
 -- pairs that a fault leaves as they were are none where there were none
 pub none_more : (r : Result Seen Fault) (mid out : TheirPairs) → OnErr r (out ≡ mid) → mid ≡ [] → OnErr r (out ≡ [])
 none_more (Ok told) mid out same none = tt
 none_more (Err f) mid out same none = same ∙ none
 
--- what level 0 says nothing of is what the levels say
-pub looks_on : (content : Option Image) (filters : List LevelFilters) (parents ps : Parents) (entries : List Entry) (levels : List (Option LevelDesc)) (n : ℕ) (key : List ℕ) (c : Blocks) (mid out : TheirPairs) (r : Result Seen Fault)
-    → ps ≡ parents → live_of parents entries n key ≡ None → mid ≡ []
+-- what the lists of level 0 say nothing of is what the levels say
+pub looks_on : (content : Option Image) (filters : List LevelFilters) (parents ps : Parents) (zeros : List (List Entry)) (levels : List (Option LevelDesc)) (n : ℕ) (key : List ℕ) (c : Blocks) (mid out : TheirPairs) (r : Result Seen Fault)
+    → ps ≡ parents → first_live parents zeros n key ≡ None → mid ≡ []
     → IfOk r (λ seen. (f : Image) (next : ℕ) → content ≡ Some f → AreInOrder f (arrays_asked ps levels n) → HaveOwnIds (arrays_there levels) → AreNumberedByPlace levels → AreCachedFrom f next (arrays_asked ps levels n) c
     → TellsFound (looked_up (on_disk_filtered f filters) ps [] (levels_there levels) n key) key mid out seen)
     → IfOk r (λ seen. (f : Image) (next : ℕ) → content ≡ Some f → AreInOrder f (arrays_asked parents levels n) → HaveOwnIds (arrays_there levels) → AreNumberedByPlace levels → AreCachedFrom f next (arrays_asked parents levels n) c
-    → TellsFound (looked_up (on_disk_filtered f filters) parents (entries ∷ []) (levels_there levels) n key) key [] out seen)
-looks_on content filters parents ps entries levels n key c mid out (Err e) same none empty tells = tt
-looks_on content filters parents ps entries levels n key c mid out (Ok seen) same none empty tells = λ f next exposed ordered own numbered cached.
+    → TellsFound (looked_up (on_disk_filtered f filters) parents zeros (levels_there levels) n key) key [] out seen)
+looks_on content filters parents ps zeros levels n key c mid out (Err e) same none empty tells = tt
+looks_on content filters parents ps zeros levels n key c mid out (Ok seen) same none empty tells = λ f next exposed ordered own numbered cached.
     let rest : Parents → Option Entry = λ (qs : Parents). looked_up (on_disk_filtered f filters) qs [] (levels_there levels) n key in
-    subst (λ (o : Option Entry). TellsFound (option_or o (rest parents)) key [] out seen) (sym none)
+    subst (λ (o : Option Entry). TellsFound o key [] out seen) (sym (looked_behind f filters parents zeros (levels_there levels) n key ∙ ap (λ (o : Option Entry). option_or o (rest parents)) none))
     (subst (λ (p : TheirPairs). TellsFound (rest parents) key p out seen) empty
     (subst (λ (qs : Parents). TellsFound (rest qs) key mid out seen) same (tells f next exposed (subst (λ (qs : Parents). AreInOrder f (arrays_asked qs levels n)) (sym same) ordered) own numbered (subst (λ (qs : Parents). AreCachedFrom f next (arrays_asked qs levels n) c) (sym same) cached))))
 

@@ -1,5 +1,5 @@
 -- What a store says of a range, and of any look-up.
-use Rattle.std.specs.Prelude.{◌≡◌, ◌≢◌, ◌⊎◌, ℕ, Bool, true, false, if◌then◌else◌, List, [], ◌∷◌, length, Contains, Option, None, Result, Ok, Err}
+use Rattle.std.specs.Prelude.{◌≡◌, ◌≢◌, ◌⊎◌, ℕ, Bool, true, false, if◌then◌else◌, List, [], length, Contains, Option, None, Result, Ok, Err}
 use Rattle.strat_base.specs.declared.limits.TheConstants.{CURSORS_MAX}
 use Rattle.strat_base.specs.Entries.{Entry}
 use Rattle.strat_base.specs.Tree.{Parents, is_known}
@@ -25,19 +25,19 @@ use Rattle.strat_store.specs.Applying.{change_wanted}
 use Rattle.strat_store.specs.Filtering.{arrays_unrefused, asked_filtered}
 use Rattle.strat_store.specs.Getting.{MayTellOfKey}
 use Rattle.strat_memory.specs.Held.{Held}
-use Rattle.strat_memory.specs.Memory.{Memory, info_told, stat_told}
+use Rattle.strat_memory.specs.Memory.{Memory, info_told, lists_in_memory, stat_told}
 
 -- what is told of a range after a scan, or after the fault that ended it
 abbrev pub reply_of_scan : Result Bool Fault → Reply
 reply_of_scan (Ok more) = reply.Pairs more
 reply_of_scan (Err fault) = reply.Refused (refusal_by fault)
 
--- these pairs are the map of a version, as look-ups find it in an image
-pub record IsMapAsked (f : Image) (parents : Parents) (entries : List Entry)
+-- these pairs are the map of a version, as look-ups find it in these lists of level 0, the newest first, and in an image
+pub record IsMapAsked (f : Image) (parents : Parents) (zeros : List (List Entry))
     (levels : List (Option LevelDesc)) (v : ℕ) (m : Pairs) : Type 0 where
   pub ordered : IsMap m
   pub each : (key : List ℕ)
-      → value_of m key ≡ asked f parents (entries ∷ []) (levels_there levels) v key
+      → value_of m key ≡ asked f parents zeros (levels_there levels) v key
 
 -- what may be told of a range of a version that is there
 abbrev pub MayTellOfRange : Reply → Type 0
@@ -120,11 +120,11 @@ ReadsForLook s request before now =
 abbrev pub TellsFrom : Image → Held → Request → Answer → Type 0
 TellsFrom f s (Get version key) answer = TellsOfVersion s.memory version answer
     (MayTellOfKey answer.reply × (AreReadAs f s version
-    → answer ≡ found key (asked_filtered f s.filters s.memory.parents (s.memory.entries ∷ [])
+    → answer ≡ found key (asked_filtered f s.filters s.memory.parents (lists_in_memory s.memory)
     (levels_there s.levels) version key)))
 TellsFrom f s (Scan version lo hi limit) answer = TellsOfVersion s.memory version answer
     (MayTellOfRange answer.reply × (AreReadAs f s version → (pairs : Pairs)
-    → IsMapAsked f s.memory.parents s.memory.entries s.levels version pairs
+    → IsMapAsked f s.memory.parents (lists_in_memory s.memory) s.levels version pairs
     → answer ≡ page (range pairs lo hi) limit))
 TellsFrom f s (Info version) answer =
     TellsOfVersion s.memory version answer (answer ≡ plain (info_told s.memory version))

@@ -30,6 +30,7 @@ ghost use Rattle.strat_filter.specs.Bits.{may_hold};
 ghost use Rattle.strat_filter.specs.Keys.{IsFilterOf};
 ghost use Rattle.strat_memory.specs.Filters.{AreFiltersOf, LevelFilters, filter_refuses};
 ghost use Rattle.strat_memory.specs.Held.{Held, IsConsistent, StandsWith};
+ghost use Rattle.strat_memory.specs.Memory.{lists_in_memory};
 ghost use Rattle.strat_store.specs.Filtering.{KeepsFilter, arrays_unrefused, asked_filtered};
 ghost use Rattle.strat_store.specs.Ranging.{AreReadAs, IsMapAsked, TellsFrom};
 
@@ -52,13 +53,13 @@ pub fn a_store_answers_from_its_levels()
 /// look-ups through level 0 and the levels find, and a scan of a version whose arrays can be read tells a page of these, a
 /// page of a cursor the next of what it has left.
 pub fn a_scan_and_a_page_tell_of_a_map()
-    ensures found { (f : Image) (parents : Parents) (entries : List Entry)
+    ensures found { (f : Image) (parents : Parents) (zeros : List (List Entry))
         (levels : List (Option LevelDesc)) (v : ℕ)
-        → (m : Pairs) × IsMapAsked f parents entries levels v m }
+        → (m : Pairs) × IsMapAsked f parents zeros levels v m }
     ensures ok { (f : Image) (s : Held) (v limit : ℕ) (lo hi : List ℕ) (answer : Answer)
         → TellsFrom f s (Scan v lo hi limit) answer → is_known s.memory.parents v ≡ true
         → AreReadAs f s v
-        → (m : Pairs) × IsMapAsked f s.memory.parents s.memory.entries s.levels v m
+        → (m : Pairs) × IsMapAsked f s.memory.parents (lists_in_memory s.memory) s.levels v m
         × (answer ≡ page (range m lo hi) limit) }
     ensures end { (f : Image) (s : Held) (c : HeldCursor) (limit : ℕ) (answer : Answer)
         → TellsFrom f s (NextPairs c.number limit) answer → Contains s.memory.cursors.opened c

@@ -87,7 +87,7 @@ back x y = by (bytes_eq x y) (bytes_eq y x) refl refl
     by true false one other = sym (same_bytes y x (sym (bytes_same x y one))) ∙ other
     by false true one other = sym one ∙ same_bytes x y (sym (bytes_same y x other))
 
-pub map_is : IsMapAsked one_block children_apart.memory.parents [] children_apart.levels 1 ((97 ∷ [], 49 ∷ []) ∷ [])
+pub map_is : IsMapAsked one_block children_apart.memory.parents ([] ∷ []) children_apart.levels 1 ((97 ∷ [], 49 ∷ []) ∷ [])
 unfolding IsStrictlySortedBy
 map_is = record {
   ordered = (tt, tt);
@@ -98,7 +98,7 @@ map_is = record {
     by true = refl
     by false = refl
 
-pub no_map : IsMapAsked one_block children_apart.memory.parents [] children_apart.levels 1 [] → ⊥
+pub no_map : IsMapAsked one_block children_apart.memory.parents ([] ∷ []) children_apart.levels 1 [] → ⊥
 no_map is =
     let none : ◌≡◌ {A = Option (List ℕ)} None (Some (49 ∷ [])) = is.each (97 ∷ []) ∙ asked_is (97 ∷ []) in
     cc

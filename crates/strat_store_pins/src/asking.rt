@@ -5,6 +5,7 @@ ghost use Rattle.strat_cursor.specs.Looking.{HaveFewBlocks, reads_of_arrays};
 ghost use Rattle.strat_model.specs.Answer.{Answer, as_told};
 ghost use Rattle.strat_model.specs.Request.{Get, NextPairs, Scan, Stat};
 ghost use Rattle.strat_model.specs.declared.replies.Reply.TheVariants as reply;
+ghost use Rattle.strat_memory.specs.Memory.{lists_in_memory};
 ghost use Rattle.strat_store.specs.Filtering.{KeepsFilter};
 ghost use Rattle.strat_store.specs.Ranging.{AreReadAs, IsMapAsked, ReadsForLook, TellsFrom, arrays_wanted};
 ghost use Rattle.strat_store_pins.specs.Examples.{array_in, children_apart, children_filtered, one_block};
@@ -33,10 +34,10 @@ pub fn a_filter_that_refuses_a_key_spares_its_read()
 
 /// The map of a version has the values of its keys, and no others.
 pub fn the_map_of_a_version_is_asked()
-    ensures ok { IsMapAsked one_block children_apart.memory.parents children_apart.memory.entries
-        children_apart.levels 1 ((97 ∷ [], 49 ∷ []) ∷ []) }
+    ensures ok { IsMapAsked one_block children_apart.memory.parents
+        (lists_in_memory children_apart.memory) children_apart.levels 1 ((97 ∷ [], 49 ∷ []) ∷ []) }
     ensures none { ¬ IsMapAsked one_block children_apart.memory.parents
-        children_apart.memory.entries children_apart.levels 1 [] }
+        (lists_in_memory children_apart.memory) children_apart.levels 1 [] }
     ensures found { (answer : Answer)
         → TellsFrom one_block children_apart (Scan 1 [] [] 2) answer
         → answer ≡ as_told (reply.Pairs false) ((97 ∷ [], 49 ∷ []) ∷ []) }

@@ -15,66 +15,66 @@ use Rattle.strat_publish.proofs.promote.promote.Goals as goal
 
 pub slice-requires-clause-fits : goal.slice-requires-clause-fits
 slice-requires-clause-fits g c = (
-  fed c.args.memory.now c.args.levels.now c.args.mem c.args.next_array _ c.parts.result.0.now.list c.parts.result.1.now c.parts.result.2.now.parents _
-      c.parts.ensures.ok c.parts.ensures.found.0 c.parts.ensures.found.1 c.count-versions.ensures.ok c.in_ok-promotion.ensures.ok c.parts.ensures.kept c.requires.kept,
+  fed c.args.memory.now c.args.levels.now c.args.mem c.args.next_array _ c.sealed_parts.result.0.now.list c.sealed_parts.result.1.now c.sealed_parts.result.2.now.parents _
+      c.sealed_parts.ensures.ok c.sealed_parts.ensures.found.0 c.sealed_parts.ensures.found.1 c.count-versions.ensures.ok c.in_ok-promotion.ensures.ok c.sealed_parts.ensures.kept c.requires.kept,
   omega arith,
 )
 
 pub returns-in-Ok-Done-clause-ok : goal.returns-in-Ok-Done-clause-ok
 returns-in-Ok-Done-clause-ok g c f h s exposed now sound mem_is holds used =
     let job =
-    its_job c.args.memory.now c.args.levels.now c.args.mem c.args.next_array _ c.parts.result.0.now.list c.parts.result.1.now c.parts.result.2.now.parents _
-    c.parts.ensures.ok c.parts.ensures.found.0 c.parts.ensures.found.1 c.count-versions.ensures.ok c.in_ok-promotion.ensures.ok f h s mem_is holds c.requires.kept sound in
+    its_job c.args.memory.now c.args.levels.now c.args.mem c.args.next_array _ c.sealed_parts.result.0.now.list c.sealed_parts.result.1.now c.sealed_parts.result.2.now.parents _
+    c.sealed_parts.ensures.ok c.sealed_parts.ensures.found.0 c.sealed_parts.ensures.found.1 c.count-versions.ensures.ok c.in_ok-promotion.ensures.ok f h s mem_is holds c.requires.kept sound in
     let sliced =
     c.in-Ok-Done.ensures.ok f h _ exposed now job (λ b of. used b (block_there c.args.levels.now _ b of))
-    (begun_nothing c.parts.result.0.now.list c.args.levels.now c.args.mem _ c.args.next_array _ c.in_ok-promotion.ensures.ok f _) in
+    (begun_nothing c.sealed_parts.result.0.now.list c.args.levels.now c.args.mem _ c.args.next_array _ c.in_ok-promotion.ensures.ok f _) in
     subst (λ (n : ℕ). IsPromotedTo h s c.args.next_array n c.take_made.result.level) (sym c.take_made.ensures.ok.0)
     (subst (λ (made : Option LevelDesc). IsPromotedTo h s c.args.next_array (target_of c.slice.new.self) made) (sym c.take_made.ensures.ok.1)
-    (promoted_to c.args.memory.now c.args.levels.now c.args.mem c.args.next_array _ c.parts.result.0.now.list c.parts.result.1.now c.parts.result.2.now.parents _
-    c.parts.ensures.ok c.parts.ensures.found.0 c.parts.ensures.found.1 c.count-versions.ensures.ok c.in_ok-promotion.ensures.ok f h s mem_is holds c.requires.kept sound
+    (promoted_to c.args.memory.now c.args.levels.now c.args.mem c.args.next_array _ c.sealed_parts.result.0.now.list c.sealed_parts.result.1.now c.sealed_parts.result.2.now.parents _
+    c.sealed_parts.ensures.ok c.sealed_parts.ensures.found.0 c.sealed_parts.ensures.found.1 c.count-versions.ensures.ok c.in_ok-promotion.ensures.ok f h s mem_is holds c.requires.kept sound
     _ _ (rw c.in-Ok-Done.field-0-is at c.in-Ok-Done.ensures.kept).1 c.requires.fits.0 c.slice.new.self c.slice.ensures.same.1 (rw c.in-Ok-Done.field-0-is at sliced).1))
 
 pub returns-in-Ok-Done-clause-filters : goal.returns-in-Ok-Done-clause-filters
 returns-in-Ok-Done-clause-filters g c f h s exposed now sound mem_is holds used =
     let job =
-    its_job c.args.memory.now c.args.levels.now c.args.mem c.args.next_array _ c.parts.result.0.now.list c.parts.result.1.now c.parts.result.2.now.parents _
-    c.parts.ensures.ok c.parts.ensures.found.0 c.parts.ensures.found.1 c.count-versions.ensures.ok c.in_ok-promotion.ensures.ok f h s mem_is holds c.requires.kept sound in
+    its_job c.args.memory.now c.args.levels.now c.args.mem c.args.next_array _ c.sealed_parts.result.0.now.list c.sealed_parts.result.1.now c.sealed_parts.result.2.now.parents _
+    c.sealed_parts.ensures.ok c.sealed_parts.ensures.found.0 c.sealed_parts.ensures.found.1 c.count-versions.ensures.ok c.in_ok-promotion.ensures.ok f h s mem_is holds c.requires.kept sound in
     let told =
     c.in-Ok-Done.ensures.filters f h _ exposed now job (λ b of. used b (block_there c.args.levels.now _ b of))
-    (begun_nothing c.parts.result.0.now.list c.args.levels.now c.args.mem _ c.args.next_array _ c.in_ok-promotion.ensures.ok f _) in
+    (begun_nothing c.sealed_parts.result.0.now.list c.args.levels.now c.args.mem _ c.args.next_array _ c.in_ok-promotion.ensures.ok f _) in
     c.take_made.ensures.filters h (rw c.in-Ok-Done.field-0-is at told)
 
 pub returns-in-Ok-Done-clause-room : goal.returns-in-Ok-Done-clause-room
 returns-in-Ok-Done-clause-room g c =
     subst (λ (made : Option LevelDesc). UsesMore c.args.space.now (extents_of (arrays_made made)) c.slice.new.space) (sym c.take_made.ensures.ok.1)
-    (takes_its_blocks c.args.memory.now c.args.levels.now c.args.mem c.args.next_array _ c.parts.result.0.now.list c.parts.result.1.now c.parts.result.2.now.parents _
-    c.parts.ensures.ok c.parts.ensures.found.0 c.parts.ensures.found.1 c.count-versions.ensures.ok c.in_ok-promotion.ensures.ok _ _ c.slice.new.self _ c.slice.ensures.room.1 (rw c.in-Ok-Done.field-0-is at c.in-Ok-Done.ensures.kept).1)
+    (takes_its_blocks c.args.memory.now c.args.levels.now c.args.mem c.args.next_array _ c.sealed_parts.result.0.now.list c.sealed_parts.result.1.now c.sealed_parts.result.2.now.parents _
+    c.sealed_parts.ensures.ok c.sealed_parts.ensures.found.0 c.sealed_parts.ensures.found.1 c.count-versions.ensures.ok c.in_ok-promotion.ensures.ok _ _ c.slice.new.self _ c.slice.ensures.room.1 (rw c.in-Ok-Done.field-0-is at c.in-Ok-Done.ensures.kept).1)
 
 pub returns-in-Ok-Done-clause-used : goal.returns-in-Ok-Done-clause-used
 returns-in-Ok-Done-clause-used g c =
     subst (λ (made : Option LevelDesc). used_count c.slice.new.space ≡ used_count c.args.space.now + length (blocks_of (extents_of (arrays_made made)))) (sym c.take_made.ensures.ok.1)
-    (counts_its_blocks c.args.memory.now c.args.levels.now c.args.mem c.args.next_array _ c.parts.result.0.now.list c.parts.result.1.now c.parts.result.2.now.parents _
-    c.parts.ensures.ok c.parts.ensures.found.0 c.parts.ensures.found.1 c.count-versions.ensures.ok c.in_ok-promotion.ensures.ok _ _ c.slice.new.self _ c.slice.ensures.room.1 (rw c.in-Ok-Done.field-0-is at c.in-Ok-Done.ensures.kept).1)
+    (counts_its_blocks c.args.memory.now c.args.levels.now c.args.mem c.args.next_array _ c.sealed_parts.result.0.now.list c.sealed_parts.result.1.now c.sealed_parts.result.2.now.parents _
+    c.sealed_parts.ensures.ok c.sealed_parts.ensures.found.0 c.sealed_parts.ensures.found.1 c.count-versions.ensures.ok c.in_ok-promotion.ensures.ok _ _ c.slice.new.self _ c.slice.ensures.room.1 (rw c.in-Ok-Done.field-0-is at c.in-Ok-Done.ensures.kept).1)
 
 pub returns-in-Ok-Done-clause-reads : goal.returns-in-Ok-Done-clause-reads
 returns-in-Ok-Done-clause-reads g c =
-    reads_few c.args.memory.now c.args.levels.now c.args.mem c.args.next_array _ c.parts.result.0.now.list c.parts.result.1.now c.parts.result.2.now.parents _
-    c.parts.ensures.ok c.parts.ensures.found.0 c.parts.ensures.found.1 c.count-versions.ensures.ok c.in_ok-promotion.ensures.ok _ _ c.slice.new.self c.slice.result c.slice.ensures.reads
+    reads_few c.args.memory.now c.args.levels.now c.args.mem c.args.next_array _ c.sealed_parts.result.0.now.list c.sealed_parts.result.1.now c.sealed_parts.result.2.now.parents _
+    c.sealed_parts.ensures.ok c.sealed_parts.ensures.found.0 c.sealed_parts.ensures.found.1 c.count-versions.ensures.ok c.in_ok-promotion.ensures.ok _ _ c.slice.new.self c.slice.result c.slice.ensures.reads
 
 pub returns-in-Ok-More-clause-reads : goal.returns-in-Ok-More-clause-reads
 returns-in-Ok-More-clause-reads g c =
-    reads_few c.args.memory.now c.args.levels.now c.args.mem c.args.next_array _ c.parts.result.0.now.list c.parts.result.1.now c.parts.result.2.now.parents _
-    c.parts.ensures.ok c.parts.ensures.found.0 c.parts.ensures.found.1 c.count-versions.ensures.ok c.in_ok-promotion.ensures.ok _ _ c.slice.new.self c.slice.result c.slice.ensures.reads
+    reads_few c.args.memory.now c.args.levels.now c.args.mem c.args.next_array _ c.sealed_parts.result.0.now.list c.sealed_parts.result.1.now c.sealed_parts.result.2.now.parents _
+    c.sealed_parts.ensures.ok c.sealed_parts.ensures.found.0 c.sealed_parts.ensures.found.1 c.count-versions.ensures.ok c.in_ok-promotion.ensures.ok _ _ c.slice.new.self c.slice.result c.slice.ensures.reads
 
 pub returns-in-Err-clause-reads : goal.returns-in-Err-clause-reads
 returns-in-Err-clause-reads g c =
-    reads_few c.args.memory.now c.args.levels.now c.args.mem c.args.next_array _ c.parts.result.0.now.list c.parts.result.1.now c.parts.result.2.now.parents _
-    c.parts.ensures.ok c.parts.ensures.found.0 c.parts.ensures.found.1 c.count-versions.ensures.ok c.in_ok-promotion.ensures.ok _ _ c.slice.new.self c.slice.result c.slice.ensures.reads
+    reads_few c.args.memory.now c.args.levels.now c.args.mem c.args.next_array _ c.sealed_parts.result.0.now.list c.sealed_parts.result.1.now c.sealed_parts.result.2.now.parents _
+    c.sealed_parts.ensures.ok c.sealed_parts.ensures.found.0 c.sealed_parts.ensures.found.1 c.count-versions.ensures.ok c.in_ok-promotion.ensures.ok _ _ c.slice.new.self c.slice.result c.slice.ensures.reads
 
 pub returns-in-Err-clause-damaged : goal.returns-in-Err-clause-damaged
 returns-in-Err-clause-damaged g c b torn =
-    blamed c.args.memory.now c.args.levels.now c.args.mem c.args.next_array _ c.parts.result.0.now.list c.parts.result.1.now c.parts.result.2.now.parents _
-    c.parts.ensures.ok c.parts.ensures.found.0 c.parts.ensures.found.1 c.count-versions.ensures.ok c.in_ok-promotion.ensures.ok (Exposes (g.D.Disk.view c.args.disk.now)) c.args.space.now b
+    blamed c.args.memory.now c.args.levels.now c.args.mem c.args.next_array _ c.sealed_parts.result.0.now.list c.sealed_parts.result.1.now c.sealed_parts.result.2.now.parents _
+    c.sealed_parts.ensures.ok c.sealed_parts.ensures.found.0 c.sealed_parts.ensures.found.1 c.count-versions.ensures.ok c.in_ok-promotion.ensures.ok (Exposes (g.D.Disk.view c.args.disk.now)) c.args.space.now b
     (c.in-Err.ensures.damaged b (err_handed _ _ torn))
 
 pub returns-in_err-promotion-clause-fits : goal.returns-in_err-promotion-clause-fits
@@ -85,10 +85,10 @@ returns-in-Err-clause-fits g c = (
   tt,
   λ unfit room f s exposed sound mem_is holds used.
       let job =
-      its_job c.args.memory.now c.args.levels.now c.args.mem c.args.next_array _ c.parts.result.0.now.list c.parts.result.1.now c.parts.result.2.now.parents _
-      c.parts.ensures.ok c.parts.ensures.found.0 c.parts.ensures.found.1 c.count-versions.ensures.ok c.in_ok-promotion.ensures.ok f f s mem_is holds c.requires.kept sound in
+      its_job c.args.memory.now c.args.levels.now c.args.mem c.args.next_array _ c.sealed_parts.result.0.now.list c.sealed_parts.result.1.now c.sealed_parts.result.2.now.parents _
+      c.sealed_parts.ensures.ok c.sealed_parts.ensures.found.0 c.sealed_parts.ensures.found.1 c.count-versions.ensures.ok c.in_ok-promotion.ensures.ok f f s mem_is holds c.requires.kept sound in
       c.in-Err.ensures.fits (err_handed _ _ unfit) room f _ exposed job (λ b of. used b (block_there c.args.levels.now _ b of))
-      (begun_nothing c.parts.result.0.now.list c.args.levels.now c.args.mem _ c.args.next_array _ c.in_ok-promotion.ensures.ok f _),
+      (begun_nothing c.sealed_parts.result.0.now.list c.args.levels.now c.args.mem _ c.args.next_array _ c.in_ok-promotion.ensures.ok f _),
 )
 
 pub returns-in-Ok-More-clause-fits : goal.returns-in-Ok-More-clause-fits
@@ -96,12 +96,12 @@ returns-in-Ok-More-clause-fits g c = (
   tt,
   λ unfit room f s exposed sound mem_is holds used.
       let job =
-      its_job c.args.memory.now c.args.levels.now c.args.mem c.args.next_array _ c.parts.result.0.now.list c.parts.result.1.now c.parts.result.2.now.parents _
-      c.parts.ensures.ok c.parts.ensures.found.0 c.parts.ensures.found.1 c.count-versions.ensures.ok c.in_ok-promotion.ensures.ok f f s mem_is holds c.requires.kept sound in
+      its_job c.args.memory.now c.args.levels.now c.args.mem c.args.next_array _ c.sealed_parts.result.0.now.list c.sealed_parts.result.1.now c.sealed_parts.result.2.now.parents _
+      c.sealed_parts.ensures.ok c.sealed_parts.ensures.found.0 c.sealed_parts.ensures.found.1 c.count-versions.ensures.ok c.in_ok-promotion.ensures.ok f f s mem_is holds c.requires.kept sound in
       let after = still_told (g.D.Disk.view c.args.disk.now) (g.D.Disk.view c.slice.new.disk) f c.slice.ensures.same.0.time exposed in
       let sliced =
       c.in-Ok-More.ensures.ok f after.0 _ exposed after.1 job (λ b of. used b (block_there c.args.levels.now _ b of))
-      (begun_nothing c.parts.result.0.now.list c.args.levels.now c.args.mem _ c.args.next_array _ c.in_ok-promotion.ensures.ok f _) in
+      (begun_nothing c.sealed_parts.result.0.now.list c.args.levels.now c.args.mem _ c.args.next_array _ c.in_ok-promotion.ensures.ok f _) in
       let taken = (rw c.in-Ok-More.field-0-is at c.in-Ok-More.ensures.kept).1 in
       let left = (rw c.in-Ok-More.field-0-is at sliced).1 in
       let few = job.over.few in

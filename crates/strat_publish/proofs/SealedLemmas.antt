@@ -1,0 +1,106 @@
+-- Memory that is ready for a publication, level 0 sealed, and memory that lets go of what was.
+use Rattle.std.proofs.Common.{◌≡◌, ◌≤◌, ℕ, true, false, inl, inr, List, [], length, drop, Option, None, Some, sym, ap, ◌∙◌, subst, arith, true≢false}
+use Rattle.std.specs.Option.{option_map}
+use Rattle.std.specs.Prelude.{filter_map, is_some}
+use Rattle.std.proofs.lemmas.List.{drop_all}
+use Rattle.strat_base.specs.Change.{Change}
+use Rattle.strat_base.specs.Entries.{Entry}
+use Rattle.strat_base.specs.Marks.{none_dropped}
+use Rattle.strat_base.specs.declared.descriptors.ArrayDesc.{ArrayDesc}
+use Rattle.strat_base.specs.declared.descriptors.LevelDesc.{LevelDesc}
+use Rattle.def_bytes.specs.Manifest.{Manifest}
+use Rattle.def_recovery.specs.Head.{Head, head_changes, head_marks, head_updates, head_versions}
+use Rattle.def_slice.specs.Lists.{entries_left, HoldLists}
+use Rattle.def_state.specs.Setting.{set_all}
+use Rattle.def_state.specs.State.{update_of}
+use Rattle.strat_cursor.specs.Cursors.{retired_all}
+use Rattle.strat_memory.proofs.MemoryLawLemmas.{memory_sealed, memory_unsealed, oldest_whole}
+use Rattle.strat_memory.specs.Memory.{Memory, SealedLevel, IsMemoryOf, IsReadyFrom, emptied, oldest_entries, prepared, renewed, sealed_off, unsealed}
+use Rattle.strat_publish.specs.Publishing.{manifest_after}
+
+-- what a promotion takes is what the journal says, where that fits a region
+pub oldest_here : (h : Head) (m : Memory) → IsMemoryOf h m → length h.journal ≤ h.sb.mem → oldest_entries m ≡ set_all (filter_map update_of h.journal)
+oldest_here h m of few = oldest_whole h m of few
+
+-- memory that lets go of what was sealed is that of a head whose journal has what came since
+pub let_go : (h new : Head) (m : Memory) → IsMemoryOf h m → is_some m.sealed ≡ true → new.journal ≡ drop h.sb.mem h.journal → length new.journal ≤ new.sb.mem → new.sb.mem ≡ h.sb.mem
+    → new.sb.changes_max ≡ h.sb.changes_max → new.sb.versions_max ≡ h.sb.versions_max
+    → head_versions new ≡ head_versions h → head_updates new ≡ head_updates h → head_changes new ≡ head_changes h → none_dropped (head_marks new) ≡ true → IsMemoryOf new (unsealed m)
+let_go = memory_unsealed
+
+-- memory with another level 0 ready, or none, and other room for arrays that are kept
+prepared_of : (h : Head) (m : Memory) (o : Option ℕ) (n : ℕ) → IsMemoryOf h m → IsMemoryOf h (prepared m o n)
+prepared_of h m o n of = record {
+  changes_max = of.changes_max;
+  versions_max = of.versions_max;
+  parents = of.parents;
+  undropped = of.undropped;
+  updates = of.updates;
+  changes = of.changes;
+  lists = of.lists;
+  counted = of.counted;
+}
+
+-- memory that is ready for a publication has the cursors of before, and what it counts is as it was
+pub ready_cursors : (mem : ℕ) (m k : Memory) → IsReadyFrom mem m k → k.cursors ≡ record m.cursors { room = k.cursors.room }
+ready_cursors mem m k (inl is) = ap (λ (j : Memory). j.cursors) is
+ready_cursors mem m k (inr is) = ap (λ (j : Memory). j.cursors) is.1
+
+pub ready_parents : (mem : ℕ) (m k : Memory) → IsReadyFrom mem m k → k.parents ≡ m.parents
+ready_parents mem m k (inl is) = ap (λ (j : Memory). j.parents) is
+ready_parents mem m k (inr is) = ap (λ (j : Memory). j.parents) is.1
+
+pub ready_manifest : (mem target : ℕ) (x : Manifest) (made : Option LevelDesc) (m k : Memory) → IsReadyFrom mem m k → manifest_after x k target made ≡ manifest_after x m target made
+ready_manifest mem target x made m k (inl is) = ap (λ (j : Memory). manifest_after x j target made) is
+ready_manifest mem target x made m k (inr is) = ap (λ (j : Memory). manifest_after x j target made) is.1
+
+-- it may differ in its lists alone
+ready_rest : (mem : ℕ) (m k : Memory) → IsReadyFrom mem m k → k ≡ record m { entries = k.entries; sealed = k.sealed; spare = k.spare; ready = k.ready; cursors = k.cursors }
+ready_rest mem m k (inl is) =
+    is ∙ (λ i. record m {
+      entries = sym (ap (λ (j : Memory). j.entries) is) i;
+      sealed = sym (ap (λ (j : Memory). j.sealed) is) i;
+      spare = sym (ap (λ (j : Memory). j.spare) is) i;
+      ready = k.ready;
+      cursors = sym (ap (λ (j : Memory). j.cursors) is) i;
+    })
+ready_rest mem m k (inr is) =
+    is.1 ∙ (λ i. record m {
+      entries = sym (ap (λ (j : Memory). j.entries) is.1) i;
+      sealed = sym (ap (λ (j : Memory). j.sealed) is.1) i;
+      spare = sym (ap (λ (j : Memory). j.spare) is.1) i;
+      ready = sym (ap (λ (j : Memory). j.ready) is.1) i;
+      cursors = sym (ap (λ (j : Memory). j.cursors) is.1) i;
+    })
+
+-- and is still that of the head, whose journal just fills its region
+pub ready_of : (h : Head) (m k : Memory) → IsReadyFrom h.sb.mem m k → length h.journal ≡ h.sb.mem → IsMemoryOf h m → IsMemoryOf h k
+ready_of h m k (inl is) full of = subst (λ (j : Memory). IsMemoryOf h j) (sym is) (prepared_of h m k.ready k.cursors.room of)
+ready_of h m k (inr is) full of =
+    subst (λ (j : Memory). IsMemoryOf h j) (sym is.1) (prepared_of h (sealed_off h.sb.mem m) None k.cursors.room (memory_sealed h m of is.0 full))
+
+-- once the journal just fills its region, and level 0 is sealed, the new level 0 has no entries
+pub behind_none : (mem : ℕ) (journal : List Change) (entries : List Entry) (sealed : Option SealedLevel) (spare : ℕ) → HoldLists mem journal entries (option_map (λ z. z.entries) sealed) spare → is_some sealed ≡ true
+    → length journal ≡ mem → entries ≡ []
+behind_none mem journal entries None spare lists some full = absurd (true≢false (sym some))
+behind_none mem journal entries (Some z) spare lists some full = lists.2 ∙ ap entries_left (drop_all mem journal (omega (arith, full)))
+
+-- what was emptied
+pub emptied_next : (mem : ℕ) (gone : List ArrayDesc) (m k now : Memory) → now ≡ renewed gone k → IsReadyFrom mem m k → k.entries ≡ []
+    → now ≡ record (emptied now.spare m) { ready = now.ready; cursors = now.cursors }
+emptied_next mem gone m k now is ready none =
+    is ∙ ap (λ (j : Memory). renewed gone j) (ready_rest mem m k ready)
+    ∙ (λ i. record m {
+      entries = none i;
+      sealed = None;
+      spare = sym (ap (λ (j : Memory). j.spare) is) i;
+      ready = sym (ap (λ (j : Memory). j.ready) is) i;
+      cursors = sym (ap (λ (j : Memory). j.cursors) is) i;
+    })
+
+-- which was sealed just before, where it was not yet
+pub emptied_first : (mem : ℕ) (gone : List ArrayDesc) (m k now : Memory) → now ≡ renewed gone k → IsReadyFrom mem m k → is_some k.sealed ≡ true → m.sealed ≡ None → now ≡ record (emptied mem m) { cursors = now.cursors }
+emptied_first mem gone m k now is (inl same) some none =
+    absurd (true≢false (sym some ∙ ap (λ (j : Memory). is_some j.sealed) same ∙ ap (λ (o : Option SealedLevel). is_some o) none))
+emptied_first mem gone m k now is (inr same) some none =
+    is ∙ ap (λ (j : Memory). record (renewed gone j) { cursors = retired_all gone k.cursors }) same.1 ∙ (λ i. record (emptied mem m) { cursors = sym (ap (λ (j : Memory). j.cursors) is) i })
