@@ -1,8 +1,8 @@
 -- The two buffers of a journal: the active region's records once it is full, and those of the region that takes the batch.
-use Rattle.std.proofs.Common.{◌≡◌, ◌≢◌, ◌≤◌, ◌<◌, ◌⊎◌, inl, inr, ◌+◌, ◌-◌, ◌*◌, ℕ, Bool, true, cond, List, [], ◌∷◌, ◌++◌, length, drop, refl, sym, ap, ◌∙◌, arith, length-append}
+use Rattle.std.proofs.Common.{◌≡◌, ◌≢◌, ◌≤◌, ◌<◌, ◌⊎◌, inl, inr, ◌+◌, ◌-◌, ◌*◌, ℕ, Bool, true, cond, List, [], ◌∷◌, ◌++◌, length, take, drop, refl, sym, ap, ◌∙◌, arith, length-append}
 use Rattle.std.specs.List.{list_all}
 use Rattle.std.proofs.lemmas.Bool.{lt-ltb, le-ltb}
-use Rattle.std.proofs.lemmas.List.{append-nil, drop_at, drop_all}
+use Rattle.std.proofs.lemmas.List.{append-nil, take_at, take_all, drop_at, drop_all}
 use Rattle.strat_base.specs.Change.{Change, is_lawful}
 use Rattle.def_bytes.specs.Layout.{region_at, other_region}
 use Rattle.def_bytes.specs.Records.{records_bytes}
@@ -105,6 +105,23 @@ module _ (mem active : ℕ) (stale : Bool) (front back : Buffered) (keeps : Keep
   gate_there some at at_is =
       let full = long some in
       omega (arith, at_is, ap gate_in (taken_long whole (omega (arith, size, full.0))), ap (λ (xs : List Change). length (records_bytes xs)) (drop_at front.list back.list mem full.0))
+
+  -- what stands in each region
+  pub active_here : length front.list ≡ 0 → records_bytes back.list ≡ records_bytes (take mem whole.list)
+  active_here none =
+      let parts = short none in
+      ap records_bytes (sym (take_all mem whole.list (omega (arith, size, ap length parts.0, parts.1)) ∙ ap (λ (xs : List Change). xs ++ back.list) parts.0))
+
+  pub active_there : length front.list ≢ 0 → records_bytes front.list ≡ records_bytes (take mem whole.list)
+  active_there some = ap records_bytes (sym (take_at front.list back.list mem (long some).0))
+
+  pub later_here : length front.list ≡ 0 → records_bytes front.list ≡ records_bytes (drop mem whole.list)
+  later_here none =
+      let parts = short none in
+      ap records_bytes (parts.0 ∙ sym (drop_all mem whole.list (omega (arith, size, ap length parts.0, parts.1))))
+
+  pub later_there : length front.list ≢ 0 → records_bytes back.list ≡ records_bytes (drop mem whole.list)
+  later_there some = ap records_bytes (sym (drop_at front.list back.list mem (long some).0))
 
   -- what stands behind a full region is less than a region takes
   pub later_few : length (drop mem whole.list) < mem

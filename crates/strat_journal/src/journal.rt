@@ -1,6 +1,6 @@
 //! The journal in memory, and how a batch becomes durable.
 
-ghost use Rattle.std.specs.Prelude.{◌≡◌, ◌≤◌, ◌<◌, ℕ, ◌^◌, ◌+◌, ◌-◌, [], ◌∷◌, ◌++◌, length, map, Some, IsTrue, IfOk, OnOk, OnErr};
+ghost use Rattle.std.specs.Prelude.{◌≡◌, ◌≤◌, ◌<◌, ℕ, ◌^◌, ◌+◌, ◌-◌, [], ◌∷◌, ◌++◌, length, take, drop, map, Some, IsTrue, IfOk, OnOk, OnErr};
 ghost use Rattle.strat_base.specs.Change.{is_lawful};
 ghost use Rattle.strat_base.specs.ChangeView.{change_of};
 ghost use Rattle.def_crash.specs.Faults.{CountsFaults, ReadsAtMost};
@@ -119,6 +119,29 @@ impl Journal {
         ensures fits { length self.now.list + 2 ≤ self.now.mem + self.now.mem }
     {
         self.front.count() + self.back.count()
+    }
+
+    /// The records of the changes in the active region, one after the other, as they stand on the disk. O(1).
+    pub fn active_records(&self) -> &[u8]
+        ensures ok { result.now ≡ records_bytes (take self.now.mem self.now.list) }
+    {
+        if self.front.count() == 0 {
+            self.back.records()
+        } else {
+            self.front.records()
+        }
+    }
+
+    /// Those of the changes behind a full active region, which stand in the other one; none while the active one has
+    /// room. O(1).
+    pub fn later_records(&self) -> &[u8]
+        ensures ok { result.now ≡ records_bytes (drop self.now.mem self.now.list) }
+    {
+        if self.front.count() == 0 {
+            self.front.records()
+        } else {
+            self.back.records()
+        }
     }
 
     /// How many changes more the journal takes before the active region is full, and then before the other one has two

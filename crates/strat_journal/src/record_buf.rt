@@ -104,6 +104,13 @@ impl RecordBuf {
         self.end
     }
 
+    /// The records of the list.
+    pub(crate) fn records(&self) -> &[u8]
+        ensures ok { result.now ≡ records_bytes self.now.list }
+    {
+        &self.bytes[..self.end]
+    }
+
     /// The batch's records after the first one's gate, and the closed gate after them.
     pub(crate) fn behind_gate(&self) -> &[u8]
         requires { 0 < length self.now.batch }
