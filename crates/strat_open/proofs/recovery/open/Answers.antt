@@ -81,3 +81,8 @@ returns-in_err-shut_other-clause-cause g c =
     failed_cause c.from_residual-in_err-shut_other.result before now (p.1 ∙ ap (λ (e : AttachFault). Err e) p.2)
     (subst (λ (n : ℕ). n ≤ now) calm c.shut_other.ensures.cause.later)
     (subst (λ (n : ℕ). Rose n now) calm c.in_err-shut_other.ensures.cause.err)
+
+pub returns-in_err-shut_other-clause-same : goal.returns-in_err-shut_other-clause-same
+returns-in_err-shut_other-clause-same g c =
+    let p = err_from_is_err_and c.from_residual-in_err-shut_other.result c.from_residual-in_err-shut_other.ensures.1 in
+    rw p.1 (λ other. absurd (other p.2))
