@@ -1,5 +1,5 @@
 -- The next contents of a store, from what was promoted and written.
-use Rattle.std.proofs.Common.{◌≡◌, ◌≤◌, ◌+◌, ◌^◌, ℕ, Bool, true, false, not, cond, inl, inr, leb, ltb, ◌&&◌, List, [], ◌∷◌, ◌++◌, length, map, Contains, flat_map, Option, None, Some, IsSome, refl, sym, ap, ◌∙◌, subst, arith, true≢false}
+use Rattle.std.proofs.Common.{◌≡◌, ◌≤◌, ◌+◌, ◌^◌, ℕ, Bool, true, false, not, cond, inl, inr, leb, ltb, ◌&&◌, List, [], ◌∷◌, ◌++◌, length, map, flat_map, Option, None, Some, IsSome, refl, sym, ap, ◌∙◌, subst, arith, true≢false}
 use Rattle.std.specs.List.{sum_by}
 use Rattle.std.proofs.lemmas.Bool.{and_parts, and_from, not-true, false_from_ne_true}
 use Rattle.std.proofs.lemmas.List.Sums.{sum_by-cons}
@@ -27,7 +27,7 @@ use Rattle.def_publish.proofs.LongLemmas.{bytes_few}
 use Rattle.def_publish.proofs.NextLemmas.{array_at, arrays_are, changes_bound, entries_made, few_parts, next_lawful}
 use Rattle.def_publish.proofs.OccupiedLemmas.{free_beside, taken_beside}
 use Rattle.def_publish.proofs.PromotedLemmas.{promoted_state}
-use Rattle.def_publish.specs.Contents.{Contents, contents_state, later_part, sealed_state}
+use Rattle.def_publish.specs.Contents.{Contents, later_part, sealed_state}
 use Rattle.def_publish.specs.Next.{IsNextOf, MayBeNext, HasManifest, arrays_made}
 use Rattle.def_publish.specs.Occupied.{IsSpaceOf, UsesMore, extents_of, arrays_in}
 use Rattle.def_publish.specs.Standing.{ContentsStand, LeavesContent}
