@@ -133,7 +133,7 @@ pub fn read_store<D: Disk>(alloc: Global, disk: &mut D) -> Result<Reading, Attac
     ensures same { OnlyReads (D.view disk.old) (D.view disk.new) }
     ensures cause { HasCause fault.Device (D.faults disk.old) (D.faults disk.new) result }
     ensures reads { ReadsAtMost 1052183 (D.reads disk.old) (D.reads disk.new)
-        × IfOk result (λ r. ReadsAtMost (chain_length r.sb.length + region_blocks r.sb.mem + 3)
+        × IfOk result (λ r. ReadsAtMost (chain_length r.sb.length + 2 * region_blocks r.sb.mem + 2)
         (D.reads disk.old) (D.reads disk.new)) }
 {
     sync_first(disk)?;

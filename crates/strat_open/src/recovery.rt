@@ -177,7 +177,8 @@ fn recover_memory(
 }
 
 /// The journal of a superblock, behind what the last checkpoint left, and memory with its changes carried out. It
-/// reads each block of the active region at most once, none after its first closed gate, and one of the other region.
+/// reads each block of the active region at most once, none after its first closed gate, and one of the other region,
+/// or, if the active one is full, that one in the same way.
 /// Damaged: the block of a record that is no change, or of a change that is refused, or the other region's first where
 /// both regions hold too many. `NoMemory` also stands for a journal that goes on in the other region.
 fn read_journal<D: Disk>(
@@ -206,18 +207,19 @@ fn read_journal<D: Disk>(
         → recover_journal f (super_of sb.now) (chained_of published.now).manifest ≡ Err block }
     ensures same { OnlyReads (D.view disk.old) (D.view disk.new) }
     ensures cause { HasCause Device (D.faults disk.old) (D.faults disk.new) result }
-    ensures reads { ReadsAtMost (2 * region_blocks sb.now.mem + 1)
-        (D.reads disk.old) (D.reads disk.new)
-        × IfOk result (λ r. ReadsAtMost (region_blocks sb.now.mem + 1)
-        (D.reads disk.old) (D.reads disk.new)) }
+    ensures reads { ReadsAtMost (2 * region_blocks sb.now.mem)
+        (D.reads disk.old) (D.reads disk.new) }
 {
     let (journal, logged) = Journal::read(alloc, disk, sb)?;
+    if logged.len() > sb.mem as usize {
+        return Err(Trouble::NoMemory);
+    }
     let memory = recover_memory(alloc, sb, published, &logged)?;
     Ok((journal, memory))
 }
 
-/// The store behind a superblock in a slot: each block of its manifest's chain, those of the active journal region up
-/// to its first closed gate and one of the other region are read, each once.
+/// The store behind a superblock in a slot: each block of its manifest's chain and those of the journal are read, each
+/// once.
 fn recover_at<D: Disk>(
     alloc: Global,
     disk: &mut D,
@@ -235,11 +237,8 @@ fn recover_at<D: Disk>(
         → Exposes (D.view disk.old) f → recover_head f (super_of sb) ≡ Err block }
     ensures same { OnlyReads (D.view disk.old) (D.view disk.new) }
     ensures cause { HasCause Device (D.faults disk.old) (D.faults disk.new) result }
-    ensures reads { ReadsAtMost (chain_length sb.length - 1 + 1 + (2 * region_blocks sb.mem + 1))
-        (D.reads disk.old) (D.reads disk.new)
-        × IfOk result (λ r. ReadsAtMost
-        (chain_length sb.length - 1 + 1 + (region_blocks sb.mem + 1))
-        (D.reads disk.old) (D.reads disk.new)) }
+    ensures reads { ReadsAtMost (chain_length sb.length - 1 + 1 + 2 * region_blocks sb.mem)
+        (D.reads disk.old) (D.reads disk.new) }
 {
     let published = read_published(alloc, disk, &sb)?;
     let (journal, memory) = read_journal(alloc, disk, &sb, &published)?;
@@ -270,7 +269,7 @@ pub(crate) fn recover_store<D: Disk>(alloc: Global, disk: &mut D) -> Result<Open
     ensures same { OnlyReads (D.view disk.old) (D.view disk.new) }
     ensures cause { HasCause fault.Device (D.faults disk.old) (D.faults disk.new) result }
     ensures reads { ReadsAtMost 1052183 (D.reads disk.old) (D.reads disk.new)
-        × IfOk result (λ r. ReadsAtMost (chain_length r.sb.length + region_blocks r.sb.mem + 3)
+        × IfOk result (λ r. ReadsAtMost (chain_length r.sb.length + 2 * region_blocks r.sb.mem + 2)
         (D.reads disk.old) (D.reads disk.new)) }
 {
     let Some((slot, sb)) = newest(disk)? else {
@@ -336,7 +335,7 @@ pub fn open<D: Disk>(alloc: Global, disk: &mut D) -> Result<OpenStore, AttachFau
     ensures time { Passes (D.view disk.old) (D.view disk.new) }
     ensures cause { HasCause fault.Device (D.faults disk.old) (D.faults disk.new) result }
     ensures reads { ReadsAtMost 1052184 (D.reads disk.old) (D.reads disk.new)
-        × IfOk result (λ r. ReadsAtMost (chain_length r.sb.length + region_blocks r.sb.mem + 4)
+        × IfOk result (λ r. ReadsAtMost (chain_length r.sb.length + 2 * region_blocks r.sb.mem + 3)
         (D.reads disk.old) (D.reads disk.new)) }
 {
     sync_first(disk)?;

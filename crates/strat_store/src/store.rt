@@ -458,7 +458,7 @@ impl Store {
         ensures cause { HasCause fault.Device (D.faults disk.old) (D.faults disk.new) result }
         ensures reads { ReadsAtMost 1052184 (D.reads disk.old) (D.reads disk.new)
             × IfOk result (λ s. ReadsAtMost
-            (chain_length s.sb.length + region_blocks s.sb.mem + 4)
+            (chain_length s.sb.length + 2 * region_blocks s.sb.mem + 3)
             (D.reads disk.old) (D.reads disk.new)) }
     {
         let (cache, scratch, buffers) = take_read_buffers(alloc)?;
