@@ -1,7 +1,7 @@
 -- Memory that is ready for a publication, level 0 sealed, and memory that lets go of what was.
-use Rattle.std.proofs.Common.{◌≡◌, ◌≤◌, ℕ, true, false, inl, inr, List, [], length, drop, Option, None, Some, sym, ap, ◌∙◌, subst, arith, true≢false}
+use Rattle.std.proofs.Common.{◌≡◌, ◌≤◌, ℕ, true, inl, inr, List, [], length, drop, Option, None, Some, sym, ap, ◌∙◌, subst, arith, true≢false}
 use Rattle.std.specs.Option.{option_map}
-use Rattle.std.specs.Prelude.{filter_map, is_some}
+use Rattle.std.specs.Prelude.{is_some}
 use Rattle.std.proofs.lemmas.List.{drop_all}
 use Rattle.strat_base.specs.Change.{Change}
 use Rattle.strat_base.specs.Entries.{Entry}
@@ -11,16 +11,10 @@ use Rattle.strat_base.specs.declared.descriptors.LevelDesc.{LevelDesc}
 use Rattle.def_bytes.specs.Manifest.{Manifest}
 use Rattle.def_recovery.specs.Head.{Head, head_changes, head_marks, head_updates, head_versions}
 use Rattle.def_slice.specs.Lists.{entries_left, HoldLists}
-use Rattle.def_state.specs.Setting.{set_all}
-use Rattle.def_state.specs.State.{update_of}
 use Rattle.strat_cursor.specs.Cursors.{retired_all}
-use Rattle.strat_memory.proofs.MemoryLawLemmas.{memory_sealed, memory_unsealed, oldest_whole}
-use Rattle.strat_memory.specs.Memory.{Memory, SealedLevel, IsMemoryOf, IsReadyFrom, emptied, oldest_entries, prepared, renewed, sealed_off, unsealed}
+use Rattle.strat_memory.proofs.MemoryLawLemmas.{memory_sealed, memory_unsealed}
+use Rattle.strat_memory.specs.Memory.{Memory, SealedLevel, IsMemoryOf, IsReadyFrom, emptied, prepared, renewed, sealed_off, unsealed}
 use Rattle.strat_publish.specs.Publishing.{manifest_after}
-
--- what a promotion takes is what the journal says, where that fits a region
-pub oldest_here : (h : Head) (m : Memory) → IsMemoryOf h m → length h.journal ≤ h.sb.mem → oldest_entries m ≡ set_all (filter_map update_of h.journal)
-oldest_here h m of few = oldest_whole h m of few
 
 -- memory that lets go of what was sealed is that of a head whose journal has what came since
 pub let_go : (h new : Head) (m : Memory) → IsMemoryOf h m → is_some m.sealed ≡ true → new.journal ≡ drop h.sb.mem h.journal → length new.journal ≤ new.sb.mem → new.sb.mem ≡ h.sb.mem
@@ -52,7 +46,8 @@ ready_parents mem m k (inr is) = ap (λ (j : Memory). j.parents) is.1
 
 pub ready_manifest : (mem target : ℕ) (x : Manifest) (made : Option LevelDesc) (m k : Memory) → IsReadyFrom mem m k → manifest_after x k target made ≡ manifest_after x m target made
 ready_manifest mem target x made m k (inl is) = ap (λ (j : Memory). manifest_after x j target made) is
-ready_manifest mem target x made m k (inr is) = ap (λ (j : Memory). manifest_after x j target made) is.1
+ready_manifest mem target x made m k (inr is) =
+    ap (λ (j : Memory). manifest_after x j target made) is.1 ∙ ap (λ (o : Option SealedLevel). manifest_after x (record m { sealed = o }) target made) (sym is.0)
 
 -- it may differ in its lists alone
 ready_rest : (mem : ℕ) (m k : Memory) → IsReadyFrom mem m k → k ≡ record m { entries = k.entries; sealed = k.sealed; spare = k.spare; ready = k.ready; cursors = k.cursors }
@@ -73,11 +68,17 @@ ready_rest mem m k (inr is) =
       cursors = sym (ap (λ (j : Memory). j.cursors) is.1) i;
     })
 
--- and is still that of the head, whose journal just fills its region
-pub ready_of : (h : Head) (m k : Memory) → IsReadyFrom h.sb.mem m k → length h.journal ≡ h.sb.mem → IsMemoryOf h m → IsMemoryOf h k
+-- where nothing is sealed the journal has no more than fills its region
+unsealed_few : (mem : ℕ) (journal : List Change) (entries : List Entry) (sealed : Option SealedLevel) (spare : ℕ) → HoldLists mem journal entries (option_map (λ z. z.entries) sealed) spare → sealed ≡ None → length journal ≤ mem
+unsealed_few mem journal entries None spare lists none = lists.0
+unsealed_few mem journal entries (Some z) spare lists none = absurd (cc)
+
+-- and is still that of the head, whose journal fills its region
+pub ready_of : (h : Head) (m k : Memory) → IsReadyFrom h.sb.mem m k → h.sb.mem ≤ length h.journal → IsMemoryOf h m → IsMemoryOf h k
 ready_of h m k (inl is) full of = subst (λ (j : Memory). IsMemoryOf h j) (sym is) (prepared_of h m k.ready k.cursors.room of)
 ready_of h m k (inr is) full of =
-    subst (λ (j : Memory). IsMemoryOf h j) (sym is.1) (prepared_of h (sealed_off h.sb.mem m) None k.cursors.room (memory_sealed h m of is.0 full))
+    subst (λ (j : Memory). IsMemoryOf h j) (sym is.1) (prepared_of h (sealed_off h.sb.mem m) None k.cursors.room
+    (memory_sealed h m of is.0 (omega (arith, full, unsealed_few h.sb.mem h.journal m.entries m.sealed m.spare of.lists is.0))))
 
 -- once the journal just fills its region, and level 0 is sealed, the new level 0 has no entries
 pub behind_none : (mem : ℕ) (journal : List Change) (entries : List Entry) (sealed : Option SealedLevel) (spare : ℕ) → HoldLists mem journal entries (option_map (λ z. z.entries) sealed) spare → is_some sealed ≡ true

@@ -1,14 +1,16 @@
 -- A publication of a store: what stands before it, between its calls and after it.
-use Rattle.std.proofs.Common.{◌≡◌, ◌≤◌, ◌+◌, ◌-◌, ◌*◌, ℕ, Bool, true, false, eqb, ◌&&◌, ◌||◌, inl, inr, ◌⊎◌, List, [], ◌∷◌, ◌++◌, length, Contains, drop, flat_map, fold, map, Option, None, Some, refl, sym, ap, ◌∙◌, subst, arith, true≢false}
+use Rattle.std.proofs.Common.{◌≡◌, ◌≤◌, ◌-◌, ◌*◌, ℕ, Bool, true, false, eqb, ◌&&◌, ◌||◌, inl, inr, ◌⊎◌, List, [], ◌∷◌, ◌++◌, length, Contains, drop, take, flat_map, fold, map, Option, None, Some, refl, sym, ap, ◌∙◌, subst, arith, true≢false}
 use Rattle.std.specs.List.{list_all}
 use Rattle.std.specs.Option.{option_to_list}
-use Rattle.std.specs.Prelude.{is_some}
-use Rattle.std.proofs.lemmas.List.{drop_all}
+use Rattle.std.specs.Prelude.{filter_map, is_some}
+use Rattle.std.proofs.lemmas.List.{drop_all, length-append, take-append-drop}
+use Rattle.std.proofs.lemmas.List.Sums.{fold-append}
 use Rattle.std.proofs.lemmas.Bool.{and_parts, eqb-true, le-ltb}
 use Rattle.std.proofs.lemmas.Option.{slice_get_within, get_or_from_slice_get}
 use Rattle.strat_array.specs.Kept.{Blocks}
-use Rattle.strat_base.proofs.ListFacts.{Among, all_at, among_flat, among_in_flat, among_split, among_right, range_among}
-use Rattle.strat_base.specs.Change.{Change, Put, Delete, Clone, DropVersion}
+use Rattle.strat_base.proofs.ListFacts.{filter_map-append, Among, all_at, among_flat, among_in_flat, among_split, among_right, range_among}
+use Rattle.strat_base.specs.Change.{Change, Put, Delete, Clone, DropVersion, is_lawful}
+use Rattle.strat_base.specs.Marks.{none_dropped}
 use Rattle.strat_base.specs.Entries.{Entry, is_ascending, lead_entries}
 use Rattle.strat_base.specs.Tree.{Parents}
 use Rattle.strat_base.specs.declared.descriptors.ArrayDesc.{ArrayDesc}
@@ -31,8 +33,8 @@ use Rattle.strat_promote.proofs.LeadLemmas.{read_whole}
 use Rattle.strat_promote.specs.Job.{IsBadInput, blocks_listed}
 use Rattle.strat_promote.specs.Leads.{misfit_in}
 use Rattle.def_recovery.proofs.OpeningLemmas.{map_some}
-use Rattle.def_recovery.specs.Head.{Head, head_versions, head_updates, parent_numbers, descriptors}
-use Rattle.def_recovery.specs.Opened.{array_on, level_on}
+use Rattle.def_recovery.specs.Head.{Head, head_changes, head_versions, head_updates, parent_numbers, descriptors}
+use Rattle.def_recovery.specs.Opened.{array_on, level_on, parents_in}
 use Rattle.def_recovery.specs.Opening.{belongs}
 use Rattle.def_meaning.specs.StateTable.{table_of}
 use Rattle.def_publish.proofs.FreeLemmas.{free_stands, free_trail}
@@ -42,8 +44,8 @@ use Rattle.def_publish.specs.Contents.{Contents, contents_state}
 use Rattle.def_publish.specs.Next.{arrays_made}
 use Rattle.def_publish.specs.Standing.{AreFree, LeavesContent, ShowsTable, ContentsStand}
 use Rattle.def_state.specs.Level.{TaggedArray, Level, own_leads, least_live}
-use Rattle.def_state.specs.Sound.{IsSound, is_described, has_ascending_entries}
-use Rattle.def_state.specs.State.{State, versions_of, tree_after}
+use Rattle.def_state.specs.Sound.{IsSound, are_accepted, is_described, has_ascending_entries}
+use Rattle.def_state.specs.State.{State, marks_after, versions_of, tree_after, update_of}
 use Rattle.strat_publish.proofs.LookLawLemmas.{made_of}
 use Rattle.strat_publish.proofs.KeptLemmas.{array_named, held_behind, kept_next, named_behind}
 use Rattle.strat_publish.proofs.RetiringLemmas.{retired_room}
@@ -55,7 +57,8 @@ use Rattle.strat_memory.specs.Held.{Held, AreKept, ArePlaced, IsConsistent, Stan
 use Rattle.strat_cursor.specs.Cursors.{retired_all}
 use Rattle.strat_cursor.specs.Held.{HeldCursors}
 use Rattle.strat_cursor.specs.Looking.{AreCachedFrom, arrays_there}
-use Rattle.strat_memory.specs.Memory.{Memory, IsMemoryOf, IsReadyFrom, emptied, renewed}
+use Rattle.strat_memory.proofs.MemoryLawLemmas.{oldest_counted, parents_front}
+use Rattle.strat_memory.specs.Memory.{Memory, IsMemoryOf, IsReadyFrom, emptied, head_full, renewed}
 use Rattle.strat_publish.specs.Publishing.{is_in_front}
 use Rattle.strat_publish.specs.Settling.{held_next, contents_next, MayFollow, StandApart, WritesBeside, IsReadied, ArePublishedAfter, ArePublishedTo, arrays_taken}
 
@@ -85,7 +88,7 @@ memory_kept s m of cursors whole =
       kept = subst (λ (j : Memory). AreKept s.sb s.chained s.levels j) same here;
     }
 
-pub consistent_ready : (s : Held) (m : Memory) → IsReadyFrom s.sb.mem s.memory m → length s.log.list ≡ s.sb.mem → IsConsistent s → IsConsistent (record s { memory = m })
+pub consistent_ready : (s : Held) (m : Memory) → IsReadyFrom s.sb.mem s.memory m → s.sb.mem ≤ length s.log.list → IsConsistent s → IsConsistent (record s { memory = m })
 consistent_ready s m is full whole = memory_kept s m (ready_of (head_held s) s.memory m is full whole.memory) (ready_cursors s.sb.mem s.memory m is) whole
 
 pub stands_ready : (v : DiskView) (s : Held) (x : Contents) (m : Memory) → StandsWith v s x → StandsWith v (record s { memory = m }) x
@@ -312,16 +315,33 @@ versions_back h =
     ap (λ (ps : Parents). None ∷ map (λ p. Some p) (parent_numbers ps)) grown.1 ∙ ap (λ (ns : List ℕ). None ∷ map (λ p. Some p) ns) (numbers_of grown.0) ∙ sym grown.1
 
 -- what a store holds after a publication is consistent
-pub consistent_next : (s : Held) (target : ℕ) (sb : Super) (chained : Chained) (levels : List (Option LevelDesc)) (made : LevelFilters) → IsConsistent s → is_some s.memory.sealed ≡ true → length s.log.list ≡ s.sb.mem → MayFollow s sb chained
+pub consistent_next : (s : Held) (target : ℕ) (sb : Super) (chained : Chained) (levels : List (Option LevelDesc)) (made : LevelFilters) → IsConsistent s → is_some s.memory.sealed ≡ true → s.sb.mem ≤ length s.log.list → MayFollow s sb chained
     → ArePublishedTo target s.sb s.chained.manifest s.memory sb chained.manifest → is_lawful_manifest newest_format chained.manifest ≡ true → belongs sb chained ≡ true
     → ArePlaced chained.manifest.levels levels → StandApart target s chained → IsConsistent (held_next s target sb chained levels made)
 consistent_next s target sb chained levels made whole some full follows are spelled belonging placed apart =
     let h : Head = head_held s in
-    let new : Head = record { sb = sb; manifest = chained.manifest; journal = [] } in
+    let later : List Change = drop s.log.mem s.log.list in
+    let new : Head = record { sb = sb; manifest = chained.manifest; journal = later } in
+    let behind : later ≡ drop s.sb.mem s.log.list = ap (λ (n : ℕ). drop n s.log.list) whole.log.mem in
+    let none : later ≡ [] = behind ∙ drop_all s.sb.mem s.log.list whole.log.few in
+    let left : length later ≡ 0 = ap (λ (js : List Change). length js) none in
+    let counts = oldest_counted h s.memory whole.memory in
+    let then : parents_in chained.manifest ≡ head_versions (head_full h) =
+    ap (λ (ns : List ℕ). None ∷ map (λ p. Some p) ns) (follows.parents ∙ ap parent_numbers (parents_front h s.memory whole.memory)) ∙ versions_back (head_full h) in
     let versions : head_versions new ≡ head_versions h =
-    ap (λ (ns : List ℕ). None ∷ map (λ p. Some p) ns) (follows.parents ∙ ap parent_numbers whole.memory.parents) ∙ versions_back h in
-    let updates : head_updates new ≡ head_updates h = let one = follows.updates in let two = whole.memory.updates in omega (arith, one, two) in
-    let changes : chained.manifest.changes + 0 ≡ h.manifest.changes + length h.journal = let one = follows.changes in let two = whole.memory.changes in omega (arith, one, two) in
+    (λ i. fold tree_after (then i) (behind i)) ∙ sym (fold-append tree_after (parents_in h.manifest) (take s.sb.mem s.log.list) (drop s.sb.mem s.log.list))
+    ∙ ap (fold tree_after (parents_in h.manifest)) (take-append-drop s.sb.mem s.log.list) in
+    let updates : head_updates new ≡ head_updates h =
+    (let parts = ap (λ (js : List Change). length (filter_map update_of js)) (take-append-drop s.sb.mem s.log.list) in
+    let two = ap (λ (es : List Entry). length es) (filter_map-append update_of (take s.sb.mem s.log.list) (drop s.sb.mem s.log.list)) in
+    let sum = length-append (filter_map update_of (take s.sb.mem s.log.list)) (filter_map update_of (drop s.sb.mem s.log.list)) in
+    let here = ap (λ (js : List Change). length (filter_map update_of js)) behind in
+    omega (arith, follows.updates, counts.1, parts, two, sum, here)) in
+    let changes : head_changes new ≡ head_changes h =
+    (let parts = ap (λ (js : List Change). length js) (take-append-drop s.sb.mem s.log.list) in
+    let sum = length-append (take s.sb.mem s.log.list) (drop s.sb.mem s.log.list) in
+    let here = ap (λ (js : List Change). length js) behind in
+    omega (arith, follows.changes, counts.2, parts, sum, here)) in
     record {
       slot = omega arith;
       lawful = follows.lawful;
@@ -331,13 +351,13 @@ consistent_next s target sb chained levels made whole some full follows are spel
         mem = whole.log.mem ∙ sym follows.mem;
         active = ap other_region whole.log.active ∙ sym follows.region;
         batch = whole.log.batch;
-        few = omega arith;
-        lawful = refl;
+        few = omega (arith, left);
+        lawful = ap (list_all is_lawful) none;
       };
-      accepted = refl;
+      accepted = ap (λ (js : List Change). are_accepted sb.changes_max sb.versions_max (parents_in chained.manifest) chained.manifest.marks chained.manifest.changes js) none;
       memory =
-          let none : [] ≡ drop s.sb.mem s.log.list = sym (drop_all s.sb.mem s.log.list (omega (arith, full))) in
-          let here = let_go h new s.memory whole.memory some none (omega arith) follows.mem follows.changes_max follows.versions_max versions updates changes follows.undropped in
+          let undropped = ap (λ (js : List Change). none_dropped (fold marks_after chained.manifest.marks js)) none ∙ follows.undropped in
+          let here = let_go h new s.memory whole.memory some behind (omega (arith, left)) follows.mem follows.changes_max follows.versions_max versions updates changes undropped in
           record {
             changes_max = here.changes_max;
             versions_max = here.versions_max;
@@ -397,7 +417,7 @@ none_damaged v s x b whole stands bad =
 
 -- and what is found of a store after a publication
 pub found_next : (s t : Held) (m : Memory) (target : ℕ) (sb : Super) (chained : Chained) (levels : List (Option LevelDesc)) (made : LevelFilters) → IsReadyFrom s.sb.mem s.memory m
-    → is_some m.sealed ≡ true → length s.log.list ≡ s.sb.mem → IsConsistent s → 1 ≤ target
+    → is_some m.sealed ≡ true → s.sb.mem ≤ length s.log.list → IsConsistent s → 1 ≤ target
     → t ≡ held_next (record s { memory = m }) target sb chained levels made → ArePublishedTo target s.sb s.chained.manifest m sb chained.manifest
     → (t.slot ≡ 1 - s.slot) × ArePublishedAfter s.sb s.chained.manifest s.memory s.filters t.sb t.chained.manifest t.memory.cursors t.filters × (t.log.list ≡ [])
     × (t.memory ≡ record (emptied t.memory.spare s.memory) { ready = t.memory.ready; cursors = t.memory.cursors })
@@ -408,7 +428,7 @@ found_next s t m target sb chained levels made same some full whole low is are =
     let of = ready_of (head_held s) s.memory m same full whole.memory in (
       ap (λ (h : Held). h.slot) is,
       published_after target s.sb.mem s.sb sb t.sb s.chained.manifest chained.manifest t.chained.manifest s.memory m t.memory s.filters t.filters made low same (ap (λ (h : Held). h.sb) is) (ap (λ (h : Held). h.chained.manifest) is) memory (ap (λ (h : Held). h.filters) is) are,
-      ap (λ (h : Held). h.log.list) is,
-      emptied_next s.sb.mem gone s.memory m t.memory memory same (behind_none s.sb.mem s.log.list m.entries m.sealed m.spare of.lists some full),
+      ap (λ (h : Held). h.log.list) is ∙ ap (λ (n : ℕ). drop n s.log.list) whole.log.mem ∙ drop_all s.sb.mem s.log.list whole.log.few,
+      emptied_next s.sb.mem gone s.memory m t.memory memory same (behind_none s.sb.mem s.log.list m.entries m.sealed m.spare of.lists some (let few = whole.log.few in omega (arith, full, few))),
       λ none. emptied_first s.sb.mem gone s.memory m t.memory memory same some none,
     )

@@ -1,5 +1,5 @@
 -- A publication of a store: what is written beside it, and what then takes its place.
-use Rattle.std.proofs.Common.{◌≡◌, ◌≤◌, ◌<◌, ◌-◌, ◌^◌, ◌&&◌, ℕ, Bool, true, false, not, cond, leb, ltb, inl, inr, List, [], ◌∷◌, ◌++◌, append-nil, length, Contains, flat_map, Option, Ok, refl, sym, ap, ◌∙◌, subst, arith, true≢false}
+use Rattle.std.proofs.Common.{◌≡◌, ◌≤◌, ◌<◌, ◌-◌, ◌^◌, ◌&&◌, ℕ, Bool, true, false, not, cond, leb, ltb, inl, inr, List, [], ◌∷◌, ◌++◌, append-nil, drop, length, Contains, flat_map, Option, Ok, refl, sym, ap, ◌∙◌, subst, arith, true≢false}
 use Rattle.std.specs.List.{list_all, range_with_len}
 use Rattle.std.proofs.lemmas.Bool.{and_parts, leb-true, le-leb, lt-ltb, not-true, false_from_ne_true}
 use Rattle.std.proofs.lemmas.List.Elements.{Contains-append_right}
@@ -123,7 +123,7 @@ blames_held v s space others b own placed told = record {
 
 -- the next contents are computed where a store stands, and are those of the next superblock and manifest
 pub readied : (v w : DiskView) (s : Held) (x : Contents) (space after : SpaceView) (old_chain others : List Extent) (target : ℕ) (made : Option LevelDesc) (first size : ℕ) (chain : List Extent) (m : Manifest) (filters : LevelFilters)
-    → IsConsistent s → StandsWith v s x → length s.log.list ≡ s.sb.mem → blocks_of old_chain ≡ s.chained.blocks → ((levels : List Level) → IsSpaceOf space (contents_held s levels) others)
+    → IsConsistent s → StandsWith v s x → s.sb.mem ≤ length s.log.list → blocks_of old_chain ≡ s.chained.blocks → ((levels : List Level) → IsSpaceOf space (contents_held s levels) others)
     → ((y : Contents) (log : Log) (besides : List Extent) → MayCompute v space s.memory s.levels log y besides → y.chained.manifest ≡ s.chained.manifest → y.sb.mem ≡ s.sb.mem
     → IsComputedBy w after y s.memory log target made first size chain besides filters)
     → m ≡ manifest_after s.chained.manifest s.memory target made
@@ -135,7 +135,7 @@ readied v w s x space after old_chain others target made first size chain m filt
     let sb = super_after s.sb first size in
     let same : new ≡ contents_next s sb (record { manifest = m; blocks = blocks_of chain }) c.levels =
     ap (λ (y : Contents). contents_after y s.memory target made c.levels first size (blocks_of chain)) stands.held
-    ∙ ap (λ (k : Manifest). contents_next s sb (record { manifest = k; blocks = blocks_of chain }) c.levels) (sym m_is) in
+    ∙ (λ i. record (contents_next s sb (record { manifest = sym m_is i; blocks = blocks_of chain }) c.levels) { journal = drop (sym whole.log.mem i) s.log.list }) in
     let slot : 1 - x.slot ≡ 1 - s.slot = ap (λ (y : Contents). 1 - y.slot) stands.held in (
       record {
         levels = c.levels;
@@ -151,7 +151,7 @@ readied v w s x space after old_chain others target made first size chain m filt
     )
 
 -- where a store stands it may compute, so what no store that may compute meets it doesn't meet
-pub computes_all : (v : DiskView) (s : Held) (x : Contents) (space : SpaceView) (old_chain others : List Extent) → IsConsistent s → StandsWith v s x → length s.log.list ≡ s.sb.mem → blocks_of old_chain ≡ s.chained.blocks
+pub computes_all : (v : DiskView) (s : Held) (x : Contents) (space : SpaceView) (old_chain others : List Extent) → IsConsistent s → StandsWith v s x → s.sb.mem ≤ length s.log.list → blocks_of old_chain ≡ s.chained.blocks
     → ((levels : List Level) → IsSpaceOf space (contents_held s levels) others)
     → ((y : Contents) (log : Log) (besides : List Extent) → MayCompute v space s.memory s.levels log y besides → y.chained.manifest ≡ s.chained.manifest → y.sb.mem ≡ s.sb.mem → ⊥) → ⊥
 computes_all v s x space old_chain others whole stands full chain_is own never =

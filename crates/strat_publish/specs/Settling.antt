@@ -1,5 +1,5 @@
 -- A publication of a store: what takes the place of what the store holds.
-use Rattle.std.specs.Prelude.{◌≡◌, ◌≢◌, ◌⊎◌, ◌≤◌, ◌<◌, ◌==◌, ℕ, ◌+◌, ◌-◌, ◌^◌, ◌&&◌, nat_le, nat_lt, Bool, true, false, List, [], length, Contains, Option, IsTrue}
+use Rattle.std.specs.Prelude.{◌≡◌, ◌≢◌, ◌⊎◌, ◌≤◌, ◌<◌, ◌==◌, ℕ, ◌+◌, ◌-◌, ◌^◌, ◌&&◌, nat_le, nat_lt, Bool, true, false, List, [], drop, length, Contains, Option, IsTrue}
 use Rattle.std.specs.List.{count_by, list_all}
 use Rattle.strat_base.specs.declared.descriptors.ArrayDesc.{ArrayDesc}
 use Rattle.strat_base.specs.declared.descriptors.LevelDesc.{LevelDesc}
@@ -14,7 +14,7 @@ use Rattle.def_bytes.specs.Chained.{Chained}
 use Rattle.def_bytes.specs.Layout.{other_region, newest_format}
 use Rattle.def_bytes.specs.Manifest.{Manifest}
 use Rattle.def_bytes.specs.SuperBlock.{Super, IsLawful}
-use Rattle.strat_journal.specs.Log.{region_begun}
+use Rattle.strat_journal.specs.Log.{region_turned}
 use Rattle.strat_model.specs.declared.replies.Refusal.TheVariants as why
 use Rattle.strat_model.specs.declared.replies.Reply.{Reply}
 use Rattle.strat_model.specs.declared.replies.Reply.TheVariants as reply
@@ -32,7 +32,7 @@ use Rattle.def_state.specs.Level.{Level}
 use Rattle.def_state.specs.State.{IsPaid}
 use Rattle.strat_memory.specs.Filters.{LevelFilters, AreFiltersOf, filters_after}
 use Rattle.strat_memory.specs.Held.{Held, IsOnDisk, StandsWith, arrays_held, blocks_named, contents_held}
-use Rattle.strat_memory.specs.Memory.{Memory, renewed}
+use Rattle.strat_memory.specs.Memory.{Memory, oldest_changes, oldest_parents, oldest_updates, renewed}
 use Rattle.strat_memory.specs.Paying.{ArePaidSince}
 use Rattle.strat_publish.specs.Counting.{KeepsCount}
 use Rattle.strat_publish.specs.Publishing.{IsComputed, descs_to, manifest_after}
@@ -53,14 +53,14 @@ abbrev pub arrays_taken : ℕ → Manifest → List ArrayDesc
 arrays_taken target m = arrays_in (descs_to target m.levels)
 
 -- what a store holds after a publication of this superblock, manifest and levels: what was sealed is let go of, the journal
--- is emptied, the arrays of the levels down to a target are kept where a cursor names them, and of the filters of these
+-- has what came since, the arrays of the levels down to a target are kept where a cursor names them, and of the filters of these
 -- levels those of the arrays that were made take the place
 abbrev pub held_next : Held → ℕ → Super → Chained → List (Option LevelDesc) → LevelFilters → Held
 held_next s target sb chained levels made = record {
   slot = 1 - s.slot;
   sb = sb;
   chained = chained;
-  log = region_begun s.log;
+  log = region_turned s.log;
   memory = renewed (arrays_taken target s.chained.manifest) s.memory;
   levels = levels;
   filters = filters_after s.filters target made;
@@ -74,21 +74,21 @@ contents_next s sb chained levels = record {
   slot = 1 - s.slot;
   sb = sb;
   chained = chained;
-  journal = [];
+  journal = drop s.log.mem s.log.list;
   levels = levels;
 }
 
--- a superblock and a manifest may follow those that a store holds: the limits are the same, and all that memory counts
--- is behind the manifest
+-- a superblock and a manifest may follow those that a store holds: the limits are the same, and all that memory counted at the
+-- seal is behind the manifest
 pub record MayFollow (s : Held) (sb : Super) (chained : Chained) : Type 0 where
   pub lawful : IsLawful sb
   pub region : sb.region ≡ other_region s.sb.region
   pub mem : sb.mem ≡ s.sb.mem
   pub changes_max : sb.changes_max ≡ s.sb.changes_max
   pub versions_max : sb.versions_max ≡ s.sb.versions_max
-  pub changes : chained.manifest.changes ≡ s.memory.changes
-  pub updates : chained.manifest.updates ≡ s.memory.updates
-  pub parents : chained.manifest.parents ≡ parent_numbers s.memory.parents
+  pub changes : chained.manifest.changes ≡ oldest_changes s.memory
+  pub updates : chained.manifest.updates ≡ oldest_updates s.memory
+  pub parents : chained.manifest.parents ≡ parent_numbers (oldest_parents s.memory)
   pub undropped : IsTrue (none_dropped chained.manifest.marks)
 
 -- a disk changed in blocks alone that are free beside what a store holds, whatever its levels say, and that no array has

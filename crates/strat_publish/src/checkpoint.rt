@@ -1,4 +1,4 @@
-//! A checkpoint of a store, whole: its journal is emptied into its levels.
+//! A checkpoint of a store, whole: what fills the active region of its journal goes into its levels.
 
 ghost use Rattle.std.specs.List.{list_all};
 ghost use Rattle.std.specs.Prelude.{◌≡◌, ◌<◌, ◌≤◌, ℕ, ◌+◌, ◌-◌, ◌*◌, ◌^◌, List, [], ◌∷◌, length, min, nat_le, nat_lt, is_some, None, IfOk, OnOk, OnErr, IsErrOf, IsTrue};
@@ -118,7 +118,7 @@ fn compute_beside<D: Disk>(
     disk: &mut D,
 ) -> Result<Computed, Obstacle>
     requires kept { (cached : Blocks) → IsConsistent (held_of held.now cached) }
-    requires len { length held.now.journal.list ≡ held.now.sb.mem }
+    requires len { held.now.sb.mem ≤ length held.now.journal.list }
     ensures ok { IfOk result (λ r. (x : Contents) (cached : Blocks)
         → StandsWith (D.view disk.old) (held_of held.now cached) x
         → IsReadied (D.view disk.new) (held_of held.now cached) x
@@ -242,7 +242,7 @@ fn prepare_next<D: Disk>(
     disk: &mut D,
 ) -> Result<NextContents, Obstacle>
     requires kept { (cached : Blocks) → IsConsistent (held_of held.now cached) }
-    requires len { length held.now.journal.list ≡ held.now.sb.mem }
+    requires len { held.now.sb.mem ≤ length held.now.journal.list }
     ensures ok { IfOk result (λ next. (x : Contents) (cached : Blocks)
         → StandsWith (D.view disk.old) (held_of held.now cached) x
         → IsReadied (D.view disk.new) (held_of held.now cached) x (super_of next.sb)
@@ -397,7 +397,7 @@ fn install<D: Disk>(
 /// on its disk has one. After `Device` only recovery can tell which contents the disk holds; both mean the same table.
 pub fn publish<D: Disk>(alloc: Global, held: &mut OpenStore, disk: &mut D) -> Result<(), Obstacle>
     requires kept { ((cached : Blocks) → IsConsistent (held_of held.old cached))
-        × (length held.old.journal.list ≡ held.old.sb.mem) }
+        × (held.old.sb.mem ≤ length held.old.journal.list) }
     ensures ok { OnOk result ((x : Contents) (cached : Blocks)
         → StandsWith (D.view disk.old) (held_of held.old cached) x
         → IsPublishedAs (D.view disk.new) x (held_of held.new cached)

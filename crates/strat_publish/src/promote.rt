@@ -1,6 +1,6 @@
 //! A promotion of a sealed level 0 and of the shallow levels of a store, in one go.
 
-ghost use Rattle.std.specs.Prelude.{◌≡◌, ◌≤◌, ℕ, true, ◌+◌, ◌-◌, ◌*◌, ◌^◌, [], length, min, IfOk, OnErr, IsErrOf, Contains};
+ghost use Rattle.std.specs.Prelude.{◌≡◌, ◌≤◌, ℕ, true, ◌+◌, ◌-◌, ◌*◌, ◌^◌, List, [], length, min, IfOk, OnErr, IsErrOf, Contains};
 ghost use Rattle.strat_array.specs.Taking.{AreUsed};
 ghost use Rattle.def_crash.specs.Blocks.{TearsBlocks};
 ghost use Rattle.def_crash.specs.Faults.{HasCause};
@@ -12,13 +12,15 @@ ghost use Rattle.strat_promote.specs.Job.{IsBadInput, blocks_listed};
 ghost use Rattle.strat_promote.specs.Promotions.{FiltersStand, arrays_promoted, entries_if_any, has_ended, level_of, target_of};
 ghost use Rattle.strat_promote.specs.Spaces.{HasAmpleRoom};
 ghost use Rattle.strat_promote.specs.declared.obstacle.Obstacle.TheVariants.{Damaged, Device, Unfit};
+ghost use Rattle.strat_base.specs.declared.descriptors.Extent.{Extent};
+ghost use Rattle.strat_journal.specs.Log.{Log};
+ghost use Rattle.def_publish.specs.Contents.{Contents};
 ghost use Rattle.def_publish.specs.Next.{arrays_made};
 ghost use Rattle.def_publish.specs.Occupied.{UsesMore, extents_of};
-ghost use Rattle.def_state.specs.Sound.{IsSound};
-ghost use Rattle.def_state.specs.State.{State};
 ghost use Rattle.strat_cursor.specs.Looking.{arrays_there};
 ghost use Rattle.strat_memory.specs.Filters.{AreFiltersOn};
-ghost use Rattle.strat_publish.specs.Promoting.{MayPromote, HoldInMemory, IsPromotedTo};
+ghost use Rattle.strat_publish.specs.Promoting.{MayPromote, IsPromotedTo};
+ghost use Rattle.strat_publish.specs.Publishing.{MayCompute};
 
 use std::alloc::Global;
 use strat_base::LevelDesc;
@@ -82,8 +84,9 @@ fn take_made(alloc: Global, mut promotion: Promotion, first: u64) -> Made
     }
 }
 
-/// Promotes what is sealed, or level 0 where nothing is, and the levels down to the first that has room for all their leads. Each block of their arrays is read
-/// twice at most, and nothing is written but free blocks. After an error the blocks that were taken are free again.
+/// Promotes what is sealed, or level 0 where nothing is, and the levels down to the first that has room for all their leads.
+/// The horizon is the number of versions at the seal. Each block of their arrays is read twice at most, and nothing is
+/// written but free blocks. After an error the blocks that were taken are free again.
 /// `Damaged` names a block of an array that holds no entries, or none that come after those before it. `Unfit`: there are more
 /// leads than any store has that stands on its disk, or fewer free blocks.
 pub(crate) fn promote<D: Disk>(
@@ -97,22 +100,20 @@ pub(crate) fn promote<D: Disk>(
 ) -> Result<Made, Obstacle>
     requires kept { MayPromote memory.now levels.now next_array }
     requires fits { (4 ≤ mem) × (mem ≤ 4096) }
-    ensures ok { IfOk result (λ made. (f g : Image) (s : State) → Exposes (D.view disk.old) f
-        → Exposes (D.view disk.new) g → IsSound s → s.mem ≡ mem
-        → HoldInMemory f s memory.now levels.now
-        → AreUsed space.old (blocks_listed (arrays_there levels.now))
-        → IsPromotedTo g s next_array made.target made.level) }
-    ensures filters { IfOk result (λ made. (f g : Image) (s : State) → Exposes (D.view disk.old) f
-        → Exposes (D.view disk.new) g → IsSound s → s.mem ≡ mem
-        → HoldInMemory f s memory.now levels.now
-        → AreUsed space.old (blocks_listed (arrays_there levels.now))
-        → AreFiltersOn g (arrays_made made.level) made.filters) }
+    ensures ok { IfOk result (λ made. (x : Contents) (log : Log) (others : List Extent) (g : Image)
+        → MayCompute (D.view disk.old) space.old memory.now levels.now log x others
+        → x.sb.mem ≡ mem → x.chained.manifest.next_array ≡ next_array
+        → Exposes (D.view disk.new) g → IsPromotedTo g x made.target made.level) }
+    ensures filters { IfOk result (λ made. (x : Contents) (log : Log) (others : List Extent)
+        (g : Image) → MayCompute (D.view disk.old) space.old memory.now levels.now log x others
+        → x.sb.mem ≡ mem → x.chained.manifest.next_array ≡ next_array
+        → Exposes (D.view disk.new) g → AreFiltersOn g (arrays_made made.level) made.filters) }
     ensures fits { IfOk result (λ made. (1 ≤ made.target) × (made.target ≤ 22)
         × (made.entries ≡ min (entries_if_any made.level) (2 ^ 64 - 1)))
-        × (IsErrOf result Unfit → HasAmpleRoom space.old → (f : Image) (s : State)
-        → Exposes (D.view disk.old) f → IsSound s → s.mem ≡ mem
-        → HoldInMemory f s memory.now levels.now
-        → AreUsed space.old (blocks_listed (arrays_there levels.now)) → ⊥) }
+        × (IsErrOf result Unfit → HasAmpleRoom space.old → (x : Contents) (log : Log)
+        (others : List Extent)
+        → MayCompute (D.view disk.old) space.old memory.now levels.now log x others
+        → x.sb.mem ≡ mem → x.chained.manifest.next_array ≡ next_array → ⊥) }
     ensures room { IfOk result (λ made.
         UsesMore space.old (extents_of (arrays_made made.level)) space.new) }
     ensures used { IfOk result (λ made. used_count space.new ≡ used_count space.old
@@ -129,7 +130,7 @@ pub(crate) fn promote<D: Disk>(
         ≤ D.reads disk.old + 2 * length (blocks_listed (arrays_there levels.now)) }
 {
     let (zero, pool, tree) = memory.sealed_parts();
-    let versions = tree.count();
+    let (versions, _changes, _updates) = memory.sealed_counts();
     let mut promotion = Promotion::begin(alloc, zero, levels, tree, versions, mem, next_array)?;
     match promotion.slice(zero, levels, pool, tree, space, disk, ALL) {
         Ok(Progress::Done) => Ok(take_made(alloc, promotion, next_array)),
