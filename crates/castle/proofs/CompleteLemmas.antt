@@ -21,9 +21,10 @@ use Rattle.def_publish.specs.Contents.{contents_head}
 use Rattle.def_publish.specs.Standing.{ShowsTable}
 use Rattle.def_publish.proofs.PartsLemmas.{reads_head, state_parts}
 use Rattle.def_recovery.specs.Opening.{recover, recover_slot}
-use Rattle.strat_serve.specs.Session.{GaveUp, Served, RunOutcome, IsEarlyEnd, RefusesFor, EndHasCause, EndsWithFault, EndsFor}
+use Rattle.strat_loop.specs.Session.{GaveUp, IsEarlyEnd, RefusesFor, EndHasCause, EndsWithFault, EndsFor}
+use Rattle.strat_serve.specs.Serving.{Served, RunOutcome}
 use Rattle.castle.specs.Outcomes.{EndsAsInput, EndsAsFound, IsEarly}
-use Rattle.strat_serve.specs.World.{World}
+use Rattle.strat_loop.specs.World.{World}
 
 -- what is read cannot be two things
 two_reads : (r : Read (Option Head)) (x y : Read (Option Head)) → r ≡ x → r ≡ y → x ≡ y

@@ -14,8 +14,9 @@ use Rattle.def_recovery.specs.Opening.{recover}
 use Rattle.def_publish.specs.Standing.{ShowsTable}
 use Rattle.def_texts.specs.Texts as texts
 use Rattle.strat_open.specs.Format.{IsNewDisk, IsBlank, IsNoneOrNew, KeepsOthers}
-use Rattle.strat_serve.specs.Session.{SendsPrefix, RunOutcome, RefusesFor, EndHasCause, ExposesDamage}
-use Rattle.strat_serve.specs.World.{World, IsCalm}
+use Rattle.strat_loop.specs.Session.{SendsPrefix, RefusesFor, EndHasCause, ExposesDamage}
+use Rattle.strat_serve.specs.Serving.{RunOutcome}
+use Rattle.strat_loop.specs.World.{World, IsCalm}
 use Rattle.def_crash.specs.Faults.{Rose}
 use Rattle.def_check.specs.Checked.{checked}
 use Rattle.strat_report.specs.Checking.{EndsCheck, SaysCheck, WritesCheck}

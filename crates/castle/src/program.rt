@@ -2,7 +2,7 @@
 
 ghost use Rattle.std.specs.Prelude.{◌≡◌, map, string_bytes};
 ghost use Rattle.def_crash.specs.Moments.{Passes};
-ghost use Rattle.strat_serve.specs.World.{world};
+ghost use Rattle.strat_loop.specs.World.{world};
 ghost use Rattle.castle.specs.Arguments.{subcommand_in};
 ghost use Rattle.castle.specs.Outcomes.{Runs, LeavesAlone, text_of};
 

@@ -4,7 +4,7 @@ use Rattle.castle.specs.Arguments.{Subcommand, subcommand_seen}
 use Rattle.castle.specs.Outcomes.{IsEarly, Runs, LeavesAlone}
 use Rattle.castle.specs.declared.arguments.Subcommand.{Subcommand as Borrowed}
 use Rattle.strat_report.specs.Reporting.{levels_text}
-use Rattle.strat_serve.specs.World.{World, world}
+use Rattle.strat_loop.specs.World.{World, world}
 use Rattle.castle.proofs.CheckLemmas.{check_cause}
 use Rattle.castle.proofs.CompleteLemmas.{completes, completes_sound, gave_up_by}
 use Rattle.castle.proofs.FormattedLemmas.{formatted_ends, formatting_gave_up}
