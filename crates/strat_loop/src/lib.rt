@@ -10,4 +10,4 @@ mod serving;
 
 pub use answering::Buffers;
 pub use protocol::Protocol;
-pub use serving::{serve_by, serve_open};
+pub use serving::{open_store, serve_by, serve_open};

@@ -1,11 +1,11 @@
 //! The run of a protocol over the store of a disk.
 
-ghost use Rattle.std.specs.Prelude.{◌≡◌, ◌≢◌, ◌<◌, ◌≤◌, ◌+◌, length, take, [], IfOk, IfSome, IfNone, OnErr, false};
+ghost use Rattle.std.specs.Prelude.{◌≡◌, ◌≢◌, ◌<◌, ◌≤◌, ◌+◌, ℕ, List, Option, length, take, [], IfOk, IfErr, IfSome, IfNone, OnErr, false};
 ghost use Rattle.def_crash.specs.Faults.{CountsFaults};
 ghost use Rattle.def_crash.specs.Moments.{Passes};
 ghost use Rattle.strat_memory.specs.Held.{IsConsistent};
 ghost use Rattle.strat_loop.specs.Pending.{none_pending};
-ghost use Rattle.strat_loop.specs.Session.{Took, IsAtEnd, RefusesFor, IsEarlyEnd, EndHasCause, HasOpened};
+ghost use Rattle.strat_loop.specs.Session.{Took, IsAtEnd, GaveUp, RefusesFor, IsEarlyEnd, EndHasCause, HasOpened};
 ghost use Rattle.strat_loop.specs.Spoken.{ServedBy, SpokenOutcome};
 ghost use Rattle.strat_loop.specs.World.{world};
 
@@ -62,9 +62,9 @@ fn at_end(held: usize) -> Ended
     }
 }
 
-/// Serves frames of a protocol from a source to a sink over an open store, as `serve_by` does.
+/// Serves frames of a protocol from a source to a sink over an open store.
 #[tactic(auto, using(def_crash::proofs::MomentLemmas::passes_trans))]
-pub fn serve_open<P: Protocol, S: Source, K: Sink, D: Disk>(
+fn serve_frames<P: Protocol, S: Source, K: Sink, D: Disk>(
     protocol: &P,
     store: &mut Store,
     buffers: &mut Buffers,
@@ -121,6 +121,61 @@ pub fn serve_open<P: Protocol, S: Source, K: Sink, D: Disk>(
     }
 }
 
+/// Serves frames of a protocol from a source to a sink over an open store, as `serve_by` does, with buffers that no run has
+/// used. The disk is as the opening left it.
+pub fn serve_open<P: Protocol, S: Source, K: Sink, D: Disk>(
+    protocol: &P,
+    store: &mut Store,
+    buffers: &mut Buffers,
+    source: &mut S,
+    sink: &mut K,
+    disk: &mut D,
+    budget: u64,
+) -> Ended
+    requires none { (buffers.old.frames.held ≡ []) × (buffers.old.pending ≡ none_pending) }
+    requires fits { store.old.spent ≡ false }
+    requires kept { IsConsistent store.old }
+    ensures ok { (d : D) → HasOpened (D.view d) (D.faults d)
+        (D.view disk.old) (D.faults disk.old) store.old
+        → ServedBy P.speech budget result
+        (world (S.left source.old) (S.faults source.old) (K.held sink.old) (K.faults sink.old)
+        (D.view d) (D.faults d))
+        (world (S.left source.new) (S.faults source.new) (K.held sink.new) (K.faults sink.new)
+        (D.view disk.new) (D.faults disk.new)) }
+    ensures found { (d : D) → HasOpened (D.view d) (D.faults d)
+        (D.view disk.old) (D.faults disk.old) store.old
+        → RefusesFor result (D.view d) (D.view disk.new) }
+    ensures end { (d : D) → HasOpened (D.view d) (D.faults d)
+        (D.view disk.old) (D.faults disk.old) store.old → IsEarlyEnd result (D.view d) → ⊥ }
+    ensures time { Passes (D.view disk.old) (D.view disk.new) }
+    ensures cause { EndHasCause result
+        (world (S.left source.old) (S.faults source.old) (K.held sink.old) (K.faults sink.old)
+        (D.view disk.old) (D.faults disk.old))
+        (world (S.left source.new) (S.faults source.new) (K.held sink.new) (K.faults sink.new)
+        (D.view disk.new) (D.faults disk.new)) }
+{
+    serve_frames(protocol, store, buffers, source, sink, disk, budget)
+}
+
+/// Opens the store of a disk for a run, or says how a run ends that has none. The cost is that of `Store::attach`.
+pub fn open_store<D: Disk>(alloc: Global, disk: &mut D) -> Result<Store, Ended>
+    ensures ok { IfOk result (λ s. HasOpened (D.view disk.old) (D.faults disk.old)
+        (D.view disk.new) (D.faults disk.new) s × IsConsistent s) }
+    ensures err { IfErr result (λ how. (left held : Option (List ℕ)) (n m : ℕ) → GaveUp how
+        (world left n held m (D.view disk.old) (D.faults disk.old))
+        (world left n held m (D.view disk.new) (D.faults disk.new))) }
+    ensures found { IfErr result (λ how. RefusesFor how (D.view disk.old) (D.view disk.new)) }
+    ensures time { Passes (D.view disk.old) (D.view disk.new) }
+    ensures cause { IfErr result (λ how. (left held : Option (List ℕ)) (n m : ℕ) → EndHasCause how
+        (world left n held m (D.view disk.old) (D.faults disk.old))
+        (world left n held m (D.view disk.new) (D.faults disk.new))) }
+{
+    match Store::attach(alloc, disk) {
+        Ok(store) => Ok(store),
+        Err(fault) => Err(Ended::from(fault)),
+    }
+}
+
 /// Opens the store on a disk and serves frames of a protocol from a source to a sink, until the source ends or as many bytes
 /// were read as the budget has. It takes the memory for frames, pairs and replies before it touches the disk. It reads at
 /// most 4,096 bytes at a time, and reads on only when every whole frame before has its reply, and these went out. A reply
@@ -153,9 +208,9 @@ pub fn serve_by<P: Protocol, S: Source, K: Sink, D: Disk>(
     let Ok(mut buffers) = Buffers::new(alloc) else {
         return Ended::NoMemory;
     };
-    let mut store = match Store::attach(alloc, disk) {
+    let mut store = match open_store(alloc, disk) {
         Ok(store) => store,
-        Err(fault) => return Ended::from(fault),
+        Err(how) => return how,
     };
     serve_open(
         protocol,

@@ -6,7 +6,7 @@ use Rattle.strat_memory.specs.Held.{IsConsistent}
 use Rattle.strat_loop.specs.Progress.{Meets, ServesPending, waiting}
 use Rattle.strat_loop.specs.Session.{HasOpened}
 use Rattle.strat_loop.specs.World.{world}
-use Rattle.strat_loop.proofs.serving.serve_open.Given as goal
+use Rattle.strat_loop.proofs.serving.serve_frames.Given as goal
 
 abbrev pub invariant-loop-met : goal.invariant-loop-met
 invariant-loop-met g l = record {
