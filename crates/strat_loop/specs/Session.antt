@@ -14,9 +14,6 @@ use Rattle.strat_io.specs.Streams.{Appends}
 use Rattle.strat_model.specs.Faults.{fault_told}
 use Rattle.strat_model.specs.declared.ended.Ended.{Ended}
 use Rattle.strat_model.specs.declared.ended.Ended.TheVariants as ended
-use Rattle.strat_model.specs.declared.replies.Refusal.{Refusal}
-use Rattle.strat_model.specs.Answer.{refusal}
-use Rattle.strat_model.specs.Spelling.{IsRefusedAs}
 use Rattle.strat_model.specs.Stream.{frame, Whole, Rest, Long, ending_of, is_partial}
 use Rattle.strat_model.specs.Run.{Position, Response, Exchange, Transcript, bodies_of}
 use Rattle.strat_promote.specs.Job.{blocks_listed}
@@ -45,12 +42,6 @@ pub record SendsPrefix (before now : Option (List ℕ)) (all : List ℕ) : Type 
   pub parts : all ≡ sent ++ later
   pub some : 0 < length later
   pub appends : Appends before now sent
-
--- a body that is no command is refused for what is wrong with it
-pub record IsRefusedFor (body : List ℕ) (response : Response) : Type 0 where
-  pub cause : Refusal
-  pub refused : IsRefusedAs body response.tag cause
-  pub answer : response.answer ≡ refusal cause
 
 -- over a command a count of faults rises where it met a fault of the device, and stays elsewhere
 pub record FailsAsMet (before now : ℕ) (met : Option Fault) : Type 0 where

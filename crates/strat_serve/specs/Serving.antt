@@ -10,11 +10,12 @@ use Rattle.strat_io.specs.Streams.{Appends}
 use Rattle.strat_model.specs.Faults.{fault_told}
 use Rattle.strat_model.specs.declared.ended.Ended.{Ended}
 use Rattle.strat_model.specs.declared.ended.Ended.TheVariants as ended
+use Rattle.strat_model.specs.declared.replies.Refusal.{Refusal}
 use Rattle.strat_model.specs.declared.replies.Refusal.TheVariants as why
 use Rattle.strat_model.specs.declared.replies.Reply.TheVariants as reply
 use Rattle.strat_model.specs.Answer.{refusal}
 use Rattle.strat_model.specs.Request.{Request}
-use Rattle.strat_model.specs.Spelling.{Spells, reply_body}
+use Rattle.strat_model.specs.Spelling.{Spells, IsRefusedAs, reply_body}
 use Rattle.strat_model.specs.Stream.{frame, Splits, is_too_long}
 use Rattle.strat_model.specs.Table.{Table}
 use Rattle.strat_model.specs.Batch.{Continuation, tables_continued}
@@ -27,11 +28,17 @@ use Rattle.strat_open.specs.Following.{ChangesGateAlone, FollowsFrom}
 use Rattle.strat_memory.specs.Held.{Held, IsConsistent, IsOnDisk}
 use Rattle.strat_store.specs.Ranging.{HasPairsFor}
 use Rattle.strat_loop.specs.World.{World}
-use Rattle.strat_loop.specs.Session.{Took, SendsPrefix, IsRefusedFor, IsFoundAs, IsFoundDamaged, Begins, Session, WaitsForNone, EndsWithFault, EndsFor, AreNextIn, GaveUp}
+use Rattle.strat_loop.specs.Session.{Took, SendsPrefix, IsFoundAs, IsFoundDamaged, Begins, Session, WaitsForNone, EndsWithFault, EndsFor, AreNextIn, GaveUp}
 
 -- the reply to a frame that is too long
 abbrev pub too_long_bytes : List ℕ
 too_long_bytes = frame (reply_body 0 (refusal why.FrameTooLong))
+
+-- a body that is no command is refused for what is wrong with it
+pub record IsRefusedFor (body : List ℕ) (response : Response) : Type 0 where
+  pub cause : Refusal
+  pub refused : IsRefusedAs body response.tag cause
+  pub answer : response.answer ≡ refusal cause
 
 -- a body is a command, and the response has its tag and no more pairs than were asked for; where that tells
 -- that the device failed or that a block is damaged, it is one that reaches the disk, and where it tells of

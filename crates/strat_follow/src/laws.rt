@@ -1,0 +1,1 @@
+//! Laws of leaders and followers. Each is the contract of a function that does nothing.
