@@ -1,10 +1,11 @@
 -- The protocol of a leader: bodies are commands, and each change that is carried out is sent with its number.
-use Rattle.std.specs.Prelude.{◌≡◌, ◌⊎◌, ℕ, suc, Bool, true, List, [], ◌∷◌, ◌++◌, Option, Some}
+use Rattle.std.specs.Prelude.{◌≡◌, ◌⊎◌, ℕ, suc, Bool, true, false, List, [], ◌∷◌, ◌++◌, Option, Some}
 use Rattle.strat_base.specs.Change.{Change}
 use Rattle.strat_model.specs.declared.replies.Refusal.{Refusal}
 use Rattle.strat_model.specs.declared.replies.Refusal.TheVariants as why
 use Rattle.strat_model.specs.Answer.{accepts, refusal}
-use Rattle.strat_model.specs.Run.{Exchange}
+use Rattle.strat_model.specs.Request.{Request}
+use Rattle.strat_model.specs.Run.{Exchange, is_change}
 use Rattle.strat_model.specs.Spelling.{Spells, IsRefusedAs}
 use Rattle.def_meaning.specs.StateTable.{request_for}
 use Rattle.def_follow.specs.Numbered.{change_frame}
@@ -44,9 +45,13 @@ pub record Makes (x : Exchange) (c : Change) : Type 0 where
   pub spelled : Spells x.body x.response.tag (request_for c)
   pub carried : accepts x.response.answer.reply ≡ true
 
+-- a body was refused, or asked for no change
+abbrev pub MakesNone : Exchange → Type 0
+MakesNone x = (accepts x.response.answer.reply ≡ false)
+    ⊎ ((request : Request) × Spells x.body x.response.tag request × (is_change request ≡ false))
+
 -- these changes were carried out in a run, in this order, and no others
 abbrev pub AreMade : List Exchange → List Change → Type 0
 AreMade [] changes = changes ≡ []
-AreMade (x ∷ xs) changes =
-    (((c : Change) → Makes x c → ⊥) × AreMade xs changes)
+AreMade (x ∷ xs) changes = (MakesNone x × AreMade xs changes)
     ⊎ ((c : Change) × (rest : List Change) × Makes x c × (changes ≡ c ∷ rest) × AreMade xs rest)
