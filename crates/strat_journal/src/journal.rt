@@ -121,26 +121,28 @@ impl Journal {
         self.front.count() + self.back.count()
     }
 
-    /// The records of the changes in the active region, one after the other, as they stand on the disk. O(1).
-    pub fn active_records(&self) -> &[u8]
-        ensures ok { result.now ≡ records_bytes (take self.now.mem self.now.list) }
+    /// How many changes stand in the active region, and how many behind it in the other one. O(1).
+    pub fn counts(&self) -> (u32, u32)
+        ensures ok { (result.0 ≡ length (take self.now.mem self.now.list))
+            × (result.1 ≡ length (drop self.now.mem self.now.list)) }
     {
         if self.front.count() == 0 {
-            self.back.records()
+            (self.back.count(), 0)
         } else {
-            self.front.records()
+            (self.front.count(), self.back.count())
         }
     }
 
-    /// Those of the changes behind a full active region, which stand in the other one; none while the active one has
-    /// room. O(1).
-    pub fn later_records(&self) -> &[u8]
-        ensures ok { result.now ≡ records_bytes (drop self.now.mem self.now.list) }
+    /// The records of these changes, one after the other, as they stand on the disk: those of the active region, and those
+    /// behind it. O(1).
+    pub fn records(&self) -> (&[u8], &[u8])
+        ensures ok { (result.0.now ≡ records_bytes (take self.now.mem self.now.list))
+            × (result.1.now ≡ records_bytes (drop self.now.mem self.now.list)) }
     {
         if self.front.count() == 0 {
-            self.front.records()
+            (self.back.records(), self.front.records())
         } else {
-            self.back.records()
+            (self.front.records(), self.back.records())
         }
     }
 

@@ -27,10 +27,11 @@ use Rattle.def_state.specs.Level.{Level, IsStratified, is_dense}
 use Rattle.def_state.specs.State.{State, stored, updates_of, versions_of}
 use Rattle.strat_open.specs.Following.{FollowsFrom}
 use Rattle.strat_memory.specs.Paying.{IsPaidIn}
-use Rattle.strat_serve.specs.Session.{AreAnsweredBy, AreNextIn, Begins, RespondsTo, Session, SendsAllButBatch, AnswersAll, WaitsForNone, Served, FollowsRun, all_responses, listed_response, last_output, output, too_long_bytes, EndsWithFault, EndsFor}
+use Rattle.strat_loop.specs.Session.{AreNextIn, Begins, Session, AnswersAll, WaitsForNone, EndsWithFault, EndsFor}
+use Rattle.strat_serve.specs.Serving.{AreAnsweredBy, RespondsTo, SendsAllButBatch, Served, FollowsRun, all_responses, listed_response, last_output, output, too_long_bytes}
 use Rattle.strat_serve.specs.Tables.{AnswersAllTaken, AnswersUntilFault, AnswersUntilCut, RefusesNext, AnswersUntil, AnswersAsTable, EndsAtTables, GoesThroughTables, IsThrifty, KeepsSpace, begins_at}
-use Rattle.strat_serve.proofs.StreamLemmas.{partial_short}
-use Rattle.strat_serve.specs.World.{Streams, beside}
+use Rattle.strat_loop.proofs.StreamLemmas.{partial_short}
+use Rattle.strat_loop.specs.World.{Streams, beside}
 
 -- a rest after which a stream ends whole is none
 whole_none : (rest : List ℕ) → ending_of rest ≡ Whole → rest ≡ []

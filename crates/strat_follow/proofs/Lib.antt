@@ -1,0 +1,5 @@
+pub mod ReceiptLemmas
+pub mod CopyLemmas
+pub mod MadeLemmas
+pub mod LeadLemmas
+pub mod WalkLemmas
