@@ -1,8 +1,8 @@
 -- A whole store may promote: what it holds is known, may be read, and is no more than any store has.
-use Rattle.std.proofs.Common.{◌≡◌, ◌<◌, ◌≤◌, ◌+◌, ◌*◌, ◌^◌, ℕ, zero, suc, Bool, true, not, eqb, ltb, leb, ◌&&◌, inl, inr, List, [], ◌∷◌, append-nil, length, length-append, take, map, Contains, flat_map, fold, filter_map, get_or, Option, None, Some, refl, sym, ap, ◌∙◌, subst, arith, set, false, ◌++◌}
+use Rattle.std.proofs.Common.{◌≡◌, ◌<◌, ◌≤◌, ◌+◌, ◌*◌, ◌^◌, ℕ, zero, suc, Bool, true, not, eqb, ltb, leb, ◌&&◌, inl, inr, List, [], ◌∷◌, append-nil, length, length-append, take, drop, map, Contains, flat_map, fold, filter_map, get_or, Option, None, Some, refl, sym, ap, ◌∙◌, subst, arith, set, false, ◌++◌}
 use Rattle.std.specs.List.{list_all, range_with_len, sum, sum_by}
 use Rattle.std.proofs.lemmas.Bool.Decides.{nat_tests}
-use Rattle.std.proofs.lemmas.List.{length-map, take_all}
+use Rattle.std.proofs.lemmas.List.{length-map, take-append-drop}
 use Rattle.std.proofs.lemmas.Bool.{and_parts, ltb-true, leb-true, lt-ltb}
 use Rattle.std.proofs.lemmas.List.Sums.{sum_by-cons, sum_by-append, sum-map}
 use Rattle.strat_array.specs.Within.{AreWithin}
@@ -44,6 +44,7 @@ use Rattle.strat_cursor.specs.Looking.{arrays_there, MayBeFound, HaveOwnIds}
 use Rattle.strat_publish.specs.Promoting.{MayPromote}
 use Rattle.def_promote.proofs.PaidLemmas.{updates_few}
 use Rattle.strat_memory.proofs.MemoryLemmas.{left_few}
+use Rattle.strat_publish.proofs.PartsLemmas.{accepted_front}
 use Rattle.strat_base.specs.Marks.{Marks}
 use Rattle.def_state.proofs.MarkLemmas.{there_known, open_there, accepted_drop}
 use Rattle.def_bytes.specs.Layout.{newest_format}
@@ -195,9 +196,9 @@ whole_promotes s whole =
     let limit = whole.lawful.changes_most in
     let updates = leb-true m.updates m.changes (pass_at (manifest_tests newest_format m) 1 whole.spelled) in
     let led = leb-true (sum_by (λ (a : ArrayDesc). a.leads) (descriptors m)) m.updates (pass_at tests 5 whole.belonging) in
-    let whole_front : front ≡ s.log.list = take_all s.sb.mem s.log.list whole.log.few in
-    let taken : are_accepted s.sb.changes_max s.sb.versions_max (parents_in m) m.marks m.changes front ≡ true =
-    ap (λ (js : List Change). are_accepted s.sb.changes_max s.sb.versions_max (parents_in m) m.marks m.changes js) whole_front ∙ whole.accepted in
+    let parted : are_accepted s.sb.changes_max s.sb.versions_max (parents_in m) m.marks m.changes (front ++ drop s.sb.mem s.log.list) ≡ true =
+    ap (λ (js : List Change). are_accepted s.sb.changes_max s.sb.versions_max (parents_in m) m.marks m.changes js) (take-append-drop s.sb.mem s.log.list) ∙ whole.accepted in
+    let taken = accepted_front s.sb.changes_max s.sb.versions_max front (drop s.sb.mem s.log.list) (parents_in m) m.marks m.changes parted in
     let accepted = accepted_few s.sb.changes_max s.sb.versions_max (parents_in m) m.marks m.changes front taken changes in
     let oldest = oldest_front (head_held s) s.memory whole.memory in
     let entries = ap (λ (es : List Entry). length es) oldest in
