@@ -33,13 +33,12 @@ use Rattle.def_publish.specs.Standing.{ContentsStand, ReadsAs}
 use Rattle.def_state.specs.Level.{Level}
 use Rattle.def_state.specs.Sound.{IsSound, is_tree, is_tree_from}
 use Rattle.def_state.specs.State.{marks_after, marks_of, versions_of}
-use Rattle.strat_memory.proofs.MemoryLawLemmas.{oldest_counted, parents_front}
 use Rattle.strat_memory.specs.Memory.{Memory, IsMemoryOf, oldest_parents}
 use Rattle.strat_publish.specs.Publishing.{IsComputed, IsWrittenBeside, contents_after, descs_to, descs_behind}
 use Rattle.def_bytes.specs.Layout.{newest_format}
 use Rattle.strat_base.specs.Marks.{Marks, none_dropped}
 use Rattle.strat_base.specs.Tree.{Parents}
-use Rattle.strat_publish.proofs.SealedLemmas.{undropped_front}
+use Rattle.strat_publish.proofs.SealedLemmas.{oldest_counts, parents_then, undropped_front}
 use Rattle.def_state.proofs.SoundLemmas.{ordered, sound_tree, sound_pruned}
 use Rattle.def_promote.proofs.LevelsLemmas.{tree_test}
 
@@ -141,7 +140,7 @@ marks_clear x m of sound =
     let formed = (sealed_ordered x (ordered (contents_state x) sound)).formed in
     let many : length marks ≡ suc (length (parent_numbers (oldest_parents m))) =
     (sound_pruned (sealed_state x) formed).len ∙ rooted_all versions (tree_test versions (sound_tree (sealed_state x) formed))
-    ∙ ap (λ (ps : Parents). suc (length (parent_numbers ps))) (sym (parents_front (contents_head x) m of)) in
+    ∙ ap (λ (ps : Parents). suc (length (parent_numbers ps))) (sym (parents_then (contents_head x) m of)) in
     sym (clear_marks marks (undropped_front (contents_head x) m of) ∙ ap (λ (n : ℕ). replicate n false) many)
 
 -- the next manifest makes the next contents
@@ -159,9 +158,9 @@ after_next old m target made levels first size blocks of sound rising = record {
     format = refl;
     marks = marks_clear old m of sound;
     compacted = refl;
-    parents = ap parent_numbers (parents_front (contents_head old) m of);
-    updates = (oldest_counted (contents_head old) m of).1;
-    changes = (oldest_counted (contents_head old) m of).2;
+    parents = ap parent_numbers (parents_then (contents_head old) m of);
+    updates = (oldest_counts (contents_head old) m of).1;
+    changes = (oldest_counts (contents_head old) m of).2;
     journal = refl;
   };
   written = refl;

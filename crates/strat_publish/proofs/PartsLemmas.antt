@@ -8,7 +8,7 @@ use Rattle.strat_cursor.specs.Held.{no_cursors}
 use Rattle.def_state.proofs.UndroppedLemmas.{none_after}
 use Rattle.def_state.specs.Sound.{are_accepted, is_accepted}
 use Rattle.def_state.specs.State.{marks_after, tree_after}
-use Rattle.strat_memory.proofs.MemoryLawLemmas.{accepted_same}
+use Rattle.strat_publish.proofs.SealedLemmas.{accepted_as}
 use Rattle.strat_memory.specs.Memory.{Memory}
 
 module _ (cm vm : ℕ) where
@@ -34,7 +34,7 @@ module _ (cm vm : ℕ) where
   any_marks : (parents : Parents) (a b : Marks) (n : ℕ) (c : Change) → none_dropped a ≡ true → none_dropped b ≡ true → is_accepted cm vm parents b n c ≡ is_accepted cm vm parents a n c
   any_marks parents a b n c none other =
       let m : Memory = record { changes_max = cm; versions_max = vm; parents = parents; updates = 0; changes = n; entries = []; sealed = None; spare = 0; ready = None; cursors = no_cursors } in
-      accepted_same m b c other ∙ sym (accepted_same m a c none)
+      accepted_as m b c other ∙ sym (accepted_as m a c none)
 
   pub accepted_with : (journal : List Change) (parents : Parents) (a b : Marks) (n : ℕ) → none_dropped a ≡ true → none_dropped b ≡ true → are_accepted cm vm parents a n journal ≡ true → are_accepted cm vm parents b n journal ≡ true
   accepted_with [] parents a b n none other all = refl

@@ -52,7 +52,7 @@ use Rattle.strat_publish.proofs.LookLawLemmas.{made_of}
 use Rattle.strat_publish.proofs.PartsLemmas.{accepted_back, accepted_with}
 use Rattle.strat_publish.proofs.KeptLemmas.{array_named, held_behind, kept_next, named_behind}
 use Rattle.strat_publish.proofs.RetiringLemmas.{retired_room}
-use Rattle.strat_publish.proofs.SealedLemmas.{undropped_front, emptied_first, emptied_next, let_go, ready_cursors, ready_manifest, ready_of, ready_parents}
+use Rattle.strat_publish.proofs.SealedLemmas.{oldest_counts, parents_then, undropped_front, emptied_first, emptied_next, let_go, ready_cursors, ready_manifest, ready_of, ready_parents}
 use Rattle.strat_publish.proofs.SettlingLemmas.{listed_arrays, named_there}
 use Rattle.strat_publish.specs.Outcomes.{IsDamagedIn, IsPublishedAs}
 use Rattle.strat_memory.specs.Filters.{LevelFilters, filters_after}
@@ -60,7 +60,6 @@ use Rattle.strat_memory.specs.Held.{Held, AreKept, ArePlaced, IsConsistent, Stan
 use Rattle.strat_cursor.specs.Cursors.{retired_all}
 use Rattle.strat_cursor.specs.Held.{HeldCursors}
 use Rattle.strat_cursor.specs.Looking.{AreCachedFrom, arrays_there}
-use Rattle.strat_memory.proofs.MemoryLawLemmas.{oldest_counted, parents_front}
 use Rattle.strat_memory.specs.Memory.{Memory, IsMemoryOf, IsReadyFrom, emptied, head_full, renewed, unsealed}
 use Rattle.strat_publish.specs.Publishing.{is_in_front}
 use Rattle.strat_publish.specs.Settling.{held_next, contents_next, MayFollow, StandApart, WritesBeside, IsReadied, ArePublishedAfter, ArePublishedTo, arrays_taken}
@@ -331,9 +330,9 @@ consistent_next s target sb chained levels made whole some full follows are spel
     let m : Manifest = s.chained.manifest in
     let joined : list_all is_lawful (front ++ drop s.sb.mem s.log.list) ≡ true = ap (list_all is_lawful) (take-append-drop s.sb.mem s.log.list) ∙ whole.log.lawful in
     let fits = and_parts (list_all is_lawful front) (list_all is_lawful (drop s.sb.mem s.log.list)) (sym (list_all-append is_lawful front (drop s.sb.mem s.log.list)) ∙ joined) in
-    let counts = oldest_counted h s.memory whole.memory in
+    let counts = oldest_counts h s.memory whole.memory in
     let then : parents_in chained.manifest ≡ head_versions (head_full h) =
-    ap (λ (ns : List ℕ). None ∷ map (λ p. Some p) ns) (follows.parents ∙ ap parent_numbers (parents_front h s.memory whole.memory)) ∙ versions_back (head_full h) in
+    ap (λ (ns : List ℕ). None ∷ map (λ p. Some p) ns) (follows.parents ∙ ap parent_numbers (parents_then h s.memory whole.memory)) ∙ versions_back (head_full h) in
     let versions : head_versions new ≡ head_versions h =
     (λ i. fold tree_after (then i) (behind i)) ∙ sym (fold-append tree_after (parents_in h.manifest) (take s.sb.mem s.log.list) (drop s.sb.mem s.log.list))
     ∙ ap (fold tree_after (parents_in h.manifest)) (take-append-drop s.sb.mem s.log.list) in
