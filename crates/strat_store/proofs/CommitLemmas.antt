@@ -77,7 +77,7 @@ module _ (old new : DiskView) (s : Held) (whole : IsConsistent (held_joined s)) 
     behind : (f g : Image) → Exposes old f → Exposes new g → KeepsTaken (is_in_front s.sb.mem) f g
     behind f g told now =
         subst (λ (n : ℕ). KeepsTaken (is_in_front n) f g) whole.log.mem
-        (appended_behind old new s.log whole.log.lawful (omega (arith, whole.log.few, whole.log.mem, length-append s.log.list s.log.batch)) (omega (arith, whole.log.active, whole.lawful.region_most)) holds f g told now)
+        (appended_behind old new s.log whole.log.lawful some (omega (arith, whole.log.few, whole.log.mem, length-append s.log.list s.log.batch)) (omega (arith, whole.log.active, whole.lawful.region_most)) holds f g told now)
 
     agree : (f g : Image) → Exposes old f → Exposes new g → AgreeOn (blocks_listed (arrays_held s.memory s.levels)) f g
     agree = front_keeps old new (held_joined s) whole behind

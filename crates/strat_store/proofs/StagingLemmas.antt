@@ -276,12 +276,6 @@ place_room log place =
     let parts = and_parts (ltb (length log.batch) 16) (ltb (length log.list + length log.batch) log.mem) place in
     (ltb-true (length log.batch) 16 parts.0, ltb-true (length log.list + length log.batch) log.mem parts.1)
 
-pub place_is : (list batch mem : ℕ) → ltb batch (mem - list) ≡ ltb (list + batch) mem
-place_is list batch mem = elim (cases_lt (list + batch) mem) [
-  | inl low ↦ lt-ltb batch (mem - list) (omega (arith, low)) ∙ sym (lt-ltb (list + batch) mem low)
-  | inr high ↦ le-ltb batch (mem - list) (omega (arith, high)) ∙ sym (le-ltb (list + batch) mem high)
-]
-
 -- a change that is staged is the step of the table
 pub staged_at : (v : DiskView) (s : Held) (x : Contents) (rows : List Cursor) (request : Request) (c : Change) → IsStaged s → StandsAt v s x rows → change_wanted request ≡ Some c → may_stage s request ≡ true
     → KeepsRows s.memory (memory_after s.memory c) → IsStagedAt v s x rows request (with_staged s c)
