@@ -17,3 +17,4 @@ pub mod SealedLemmas
 pub mod SettledLemmas
 pub mod CountingLemmas
 pub mod LaidLemmas
+pub mod PartsLemmas

@@ -2,8 +2,6 @@
 use Rattle.std.proofs.Common.{◌≡◌, ◌≤◌, ◌<◌, ℕ, suc, Bool, true, false, cond, leb, ltb, inl, inr, List, [], ◌∷◌, ◌++◌, length, map, filter, fold, drop, Option, Some, refl, sym, ap, ◌∙◌, arith, not, eqb, replicate, None}
 use Rattle.std.specs.Option.{option_to_list}
 use Rattle.std.proofs.Math.Seq.{drop-append_seam}
-use Rattle.std.proofs.lemmas.List.{take-append-drop}
-use Rattle.std.proofs.lemmas.List.Sums.{fold-append}
 use Rattle.std.proofs.lemmas.Bool.{and_parts, cases_lt, lt-leb, le-leb, lt-ltb, le-ltb, ltb-true, not-true, eqb-true}
 use Rattle.strat_base.specs.declared.descriptors.Extent.{Extent}
 use Rattle.strat_base.specs.declared.descriptors.LevelDesc.{LevelDesc}
@@ -35,15 +33,12 @@ use Rattle.def_publish.specs.Standing.{ContentsStand, ReadsAs}
 use Rattle.def_state.specs.Level.{Level}
 use Rattle.def_state.specs.Sound.{IsSound, is_tree, is_tree_from}
 use Rattle.def_state.specs.State.{marks_after, marks_of, versions_of}
-use Rattle.strat_memory.proofs.MemoryLawLemmas.{oldest_counted, parents_front}
-use Rattle.strat_memory.proofs.MemoryLemmas.{clear_from}
 use Rattle.strat_memory.specs.Memory.{Memory, IsMemoryOf, oldest_parents}
 use Rattle.strat_publish.specs.Publishing.{IsComputed, IsWrittenBeside, contents_after, descs_to, descs_behind}
 use Rattle.def_bytes.specs.Layout.{newest_format}
-use Rattle.strat_base.proofs.MarkLemmas.{living_at}
-use Rattle.strat_base.specs.Marks.{Marks, is_dropped, none_dropped}
+use Rattle.strat_base.specs.Marks.{Marks, none_dropped}
 use Rattle.strat_base.specs.Tree.{Parents}
-use Rattle.def_state.proofs.MarkLemmas.{living_was}
+use Rattle.strat_publish.proofs.SealedLemmas.{oldest_counts, parents_then, undropped_front}
 use Rattle.def_state.proofs.SoundLemmas.{ordered, sound_tree, sound_pruned}
 use Rattle.def_promote.proofs.LevelsLemmas.{tree_test}
 
@@ -138,14 +133,6 @@ rooted_all (Some p ∷ parents) tree =
     absurd (omega (arith, ltb-true p 0 (and_parts (ltb p 0) (is_tree_from 1 parents) rest).0))
 
 -- where none of them was dropped their marks are clear, also those that there were when level 0 was sealed
-undropped_then : (x : Contents) (m : Memory) → IsMemoryOf (contents_head x) m → none_dropped (marks_of (sealed_state x)) ≡ true
-undropped_then x m of =
-    let marks : Marks = x.chained.manifest.marks in
-    let all : marks_of (contents_state x) ≡ fold marks_after (marks_of (sealed_state x)) (later_part x) =
-    ap (fold marks_after marks) (sym (take-append-drop x.sb.mem x.journal)) ∙ fold-append marks_after marks (sealed_part x) (later_part x) in
-    clear_from (marks_of (sealed_state x)) (λ v.
-    living_was (later_part x) (marks_of (sealed_state x)) v (ap (λ (ms : Marks). is_dropped ms v) (sym all) ∙ living_at (marks_of (contents_state x)) of.undropped v))
-
 marks_clear : (x : Contents) (m : Memory) → IsMemoryOf (contents_head x) m → IsSound (contents_state x) → replicate (suc (length (parent_numbers (oldest_parents m)))) false ≡ marks_of (sealed_state x)
 marks_clear x m of sound =
     let marks : Marks = marks_of (sealed_state x) in
@@ -153,8 +140,8 @@ marks_clear x m of sound =
     let formed = (sealed_ordered x (ordered (contents_state x) sound)).formed in
     let many : length marks ≡ suc (length (parent_numbers (oldest_parents m))) =
     (sound_pruned (sealed_state x) formed).len ∙ rooted_all versions (tree_test versions (sound_tree (sealed_state x) formed))
-    ∙ ap (λ (ps : Parents). suc (length (parent_numbers ps))) (sym (parents_front (contents_head x) m of)) in
-    sym (clear_marks marks (undropped_then x m of) ∙ ap (λ (n : ℕ). replicate n false) many)
+    ∙ ap (λ (ps : Parents). suc (length (parent_numbers ps))) (sym (parents_then (contents_head x) m of)) in
+    sym (clear_marks marks (undropped_front (contents_head x) m of) ∙ ap (λ (n : ℕ). replicate n false) many)
 
 -- the next manifest makes the next contents
 pub after_next : (old : Contents) (m : Memory) (target : ℕ) (made : Option LevelDesc) (levels : List Level) (first size : ℕ) (blocks : List ℕ) → IsMemoryOf (contents_head old) m → IsSound (contents_state old)
@@ -171,9 +158,9 @@ after_next old m target made levels first size blocks of sound rising = record {
     format = refl;
     marks = marks_clear old m of sound;
     compacted = refl;
-    parents = ap parent_numbers (parents_front (contents_head old) m of);
-    updates = (oldest_counted (contents_head old) m of).1;
-    changes = (oldest_counted (contents_head old) m of).2;
+    parents = ap parent_numbers (parents_then (contents_head old) m of);
+    updates = (oldest_counts (contents_head old) m of).1;
+    changes = (oldest_counts (contents_head old) m of).2;
     journal = refl;
   };
   written = refl;

@@ -47,7 +47,7 @@ use Rattle.def_publish.specs.Occupied.{UsesMore, extents_of}
 use Rattle.def_publish.specs.Standing.{ReadsAs}
 use Rattle.def_state.specs.State.{versions_of}
 use Rattle.strat_cursor.specs.Looking.{arrays_there}
-use Rattle.strat_memory.proofs.MemoryLawLemmas.{oldest_counted, oldest_front, versions_front}
+use Rattle.strat_publish.proofs.SealedLemmas.{oldest_counts, oldest_listed, versions_then}
 use Rattle.strat_memory.specs.Memory.{Memory, oldest_entries, oldest_versions}
 use Rattle.strat_publish.specs.Promoting.{MayPromote, IsPromotedTo}
 use Rattle.strat_publish.specs.Publishing.{MayCompute}
@@ -136,7 +136,7 @@ module _ (m : Memory) (levels : List (Option LevelDesc)) (mem id versions : ℕ)
     reads = may.stands.reads f may.stands.left
 
     many : oldest_versions m ≡ length (versions_of (sealed_state x))
-    many = (oldest_counted (contents_head x) m may.memory).0
+    many = (oldest_counts (contents_head x) m may.memory).0
 
     begun_here : IsBegun list levels x.sb.mem (length (versions_of (sealed_state x))) x.chained.manifest.next_array p
     begun_here =
@@ -145,7 +145,7 @@ module _ (m : Memory) (levels : List (Option LevelDesc)) (mem id versions : ℕ)
 
     begun_of : IsBegunOf x (oldest_entries m) levels p
     begun_of =
-        is_begun_of x (oldest_entries m) levels list p may.full (oldest_front (contents_head x) m may.memory) may.placed.listed_are may.placed.numbered sized begun_here
+        is_begun_of x (oldest_entries m) levels list p may.full (oldest_listed (contents_head x) m may.memory) may.placed.listed_are may.placed.numbered sized begun_here
         (subst (λ (n : ℕ). sum (n ∷ map (λ k. leads_if_any (level_numbered levels k)) (range_with_len 1 22)) ≤ 2 ^ 24) (sym sized) promotes.few)
 
     may_read : MayRead (oldest_entries m) levels (length (versions_of (sealed_state x))) x.chained.manifest.next_array
@@ -164,7 +164,7 @@ module _ (m : Memory) (levels : List (Option LevelDesc)) (mem id versions : ℕ)
       zero = entries_are;
       levels_are = refl;
       parents = λ u lt.
-          let front = versions_front (contents_head x) m may.memory in
+          let front = versions_then (contents_head x) m may.memory in
           parent_front (versions_of (sealed_state x)) front.0 u lt ∙ ap (λ (ps : Parents). parent_of ps u) (sym (parents_are ∙ front.1));
     }
 

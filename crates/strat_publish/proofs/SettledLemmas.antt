@@ -1,9 +1,10 @@
 -- A publication of a store: what stands before it, between its calls and after it.
-use Rattle.std.proofs.Common.{◌≡◌, ◌≤◌, ◌-◌, ◌*◌, ℕ, Bool, true, false, eqb, ◌&&◌, ◌||◌, inl, inr, ◌⊎◌, List, [], ◌∷◌, ◌++◌, length, Contains, drop, take, flat_map, fold, map, Option, None, Some, refl, sym, ap, ◌∙◌, subst, arith, true≢false}
+use Rattle.std.proofs.Common.{◌≡◌, ◌≤◌, ◌-◌, ◌*◌, ℕ, Bool, true, false, eqb, ◌&&◌, ◌||◌, inl, inr, ◌⊎◌, List, [], ◌∷◌, ◌++◌, length, Contains, ◌+◌, drop, take, flat_map, fold, map, Option, None, Some, refl, sym, ap, ◌∙◌, subst, arith, true≢false}
 use Rattle.std.specs.List.{list_all}
 use Rattle.std.specs.Option.{option_to_list}
 use Rattle.std.specs.Prelude.{filter_map, is_some}
-use Rattle.std.proofs.lemmas.List.{drop_all, length-append, take-append-drop}
+use Rattle.std.proofs.lemmas.List.{length-append, length-drop, take-append-drop}
+use Rattle.std.proofs.lemmas.List.Folds.{list_all-append}
 use Rattle.std.proofs.lemmas.List.Sums.{fold-append}
 use Rattle.std.proofs.lemmas.Bool.{and_parts, eqb-true, le-ltb}
 use Rattle.std.proofs.lemmas.Option.{slice_get_within, get_or_from_slice_get}
@@ -46,10 +47,12 @@ use Rattle.def_publish.specs.Standing.{AreFree, LeavesContent, ShowsTable, Conte
 use Rattle.def_state.specs.Level.{TaggedArray, Level, own_leads, least_live}
 use Rattle.def_state.specs.Sound.{IsSound, are_accepted, is_described, has_ascending_entries}
 use Rattle.def_state.specs.State.{State, marks_after, versions_of, tree_after, update_of}
+use Rattle.def_state.proofs.UndroppedLemmas.{none_after_all}
 use Rattle.strat_publish.proofs.LookLawLemmas.{made_of}
+use Rattle.strat_publish.proofs.PartsLemmas.{accepted_back, accepted_with}
 use Rattle.strat_publish.proofs.KeptLemmas.{array_named, held_behind, kept_next, named_behind}
 use Rattle.strat_publish.proofs.RetiringLemmas.{retired_room}
-use Rattle.strat_publish.proofs.SealedLemmas.{behind_none, emptied_first, emptied_next, let_go, ready_cursors, ready_manifest, ready_of, ready_parents}
+use Rattle.strat_publish.proofs.SealedLemmas.{oldest_counts, parents_then, undropped_front, emptied_first, emptied_next, let_go, ready_cursors, ready_manifest, ready_of, ready_parents}
 use Rattle.strat_publish.proofs.SettlingLemmas.{listed_arrays, named_there}
 use Rattle.strat_publish.specs.Outcomes.{IsDamagedIn, IsPublishedAs}
 use Rattle.strat_memory.specs.Filters.{LevelFilters, filters_after}
@@ -57,8 +60,7 @@ use Rattle.strat_memory.specs.Held.{Held, AreKept, ArePlaced, IsConsistent, Stan
 use Rattle.strat_cursor.specs.Cursors.{retired_all}
 use Rattle.strat_cursor.specs.Held.{HeldCursors}
 use Rattle.strat_cursor.specs.Looking.{AreCachedFrom, arrays_there}
-use Rattle.strat_memory.proofs.MemoryLawLemmas.{oldest_counted, parents_front}
-use Rattle.strat_memory.specs.Memory.{Memory, IsMemoryOf, IsReadyFrom, emptied, head_full, renewed}
+use Rattle.strat_memory.specs.Memory.{Memory, IsMemoryOf, IsReadyFrom, emptied, head_full, renewed, unsealed}
 use Rattle.strat_publish.specs.Publishing.{is_in_front}
 use Rattle.strat_publish.specs.Settling.{held_next, contents_next, MayFollow, StandApart, WritesBeside, IsReadied, ArePublishedAfter, ArePublishedTo, arrays_taken}
 
@@ -323,11 +325,14 @@ consistent_next s target sb chained levels made whole some full follows are spel
     let later : List Change = drop s.log.mem s.log.list in
     let new : Head = record { sb = sb; manifest = chained.manifest; journal = later } in
     let behind : later ≡ drop s.sb.mem s.log.list = ap (λ (n : ℕ). drop n s.log.list) whole.log.mem in
-    let none : later ≡ [] = behind ∙ drop_all s.sb.mem s.log.list whole.log.few in
-    let left : length later ≡ 0 = ap (λ (js : List Change). length js) none in
-    let counts = oldest_counted h s.memory whole.memory in
+    let left : length later ≡ length s.log.list - s.sb.mem = ap (λ (js : List Change). length js) behind ∙ length-drop s.sb.mem s.log.list in
+    let front : List Change = take s.sb.mem s.log.list in
+    let m : Manifest = s.chained.manifest in
+    let joined : list_all is_lawful (front ++ drop s.sb.mem s.log.list) ≡ true = ap (list_all is_lawful) (take-append-drop s.sb.mem s.log.list) ∙ whole.log.lawful in
+    let fits = and_parts (list_all is_lawful front) (list_all is_lawful (drop s.sb.mem s.log.list)) (sym (list_all-append is_lawful front (drop s.sb.mem s.log.list)) ∙ joined) in
+    let counts = oldest_counts h s.memory whole.memory in
     let then : parents_in chained.manifest ≡ head_versions (head_full h) =
-    ap (λ (ns : List ℕ). None ∷ map (λ p. Some p) ns) (follows.parents ∙ ap parent_numbers (parents_front h s.memory whole.memory)) ∙ versions_back (head_full h) in
+    ap (λ (ns : List ℕ). None ∷ map (λ p. Some p) ns) (follows.parents ∙ ap parent_numbers (parents_then h s.memory whole.memory)) ∙ versions_back (head_full h) in
     let versions : head_versions new ≡ head_versions h =
     (λ i. fold tree_after (then i) (behind i)) ∙ sym (fold-append tree_after (parents_in h.manifest) (take s.sb.mem s.log.list) (drop s.sb.mem s.log.list))
     ∙ ap (fold tree_after (parents_in h.manifest)) (take-append-drop s.sb.mem s.log.list) in
@@ -342,6 +347,15 @@ consistent_next s target sb chained levels made whole some full follows are spel
     let sum = length-append (take s.sb.mem s.log.list) (drop s.sb.mem s.log.list) in
     let here = ap (λ (js : List Change). length js) behind in
     omega (arith, follows.changes, counts.2, parts, sum, here)) in
+    let came : are_accepted s.sb.changes_max s.sb.versions_max (parents_in m) m.marks m.changes (front ++ drop s.sb.mem s.log.list) ≡ true =
+    ap (λ (js : List Change). are_accepted s.sb.changes_max s.sb.versions_max (parents_in m) m.marks m.changes js) (take-append-drop s.sb.mem s.log.list) ∙ whole.accepted in
+    let since = accepted_back s.sb.changes_max s.sb.versions_max front (drop s.sb.mem s.log.list) (parents_in m) m.marks m.changes came in
+    let marked : none_dropped (fold marks_after m.marks front) ≡ true = undropped_front h s.memory whole.memory in
+    let here = accepted_with s.sb.changes_max s.sb.versions_max (drop s.sb.mem s.log.list) (head_versions (head_full h)) (fold marks_after m.marks front) chained.manifest.marks (m.changes + length front)
+    marked follows.undropped since in
+    let many : chained.manifest.changes ≡ m.changes + length front = follows.changes ∙ counts.2 in
+    let accepted : are_accepted sb.changes_max sb.versions_max (parents_in chained.manifest) chained.manifest.marks chained.manifest.changes later ≡ true =
+    (λ i. are_accepted (follows.changes_max i) (follows.versions_max i) (then i) chained.manifest.marks (many i) (behind i)) ∙ here in
     record {
       slot = omega arith;
       lawful = follows.lawful;
@@ -351,13 +365,13 @@ consistent_next s target sb chained levels made whole some full follows are spel
         mem = whole.log.mem ∙ sym follows.mem;
         active = ap other_region whole.log.active ∙ sym follows.region;
         batch = whole.log.batch;
-        few = omega (arith, left);
-        lawful = ap (list_all is_lawful) none;
+        few = let most = whole.log.few in omega (arith, left, most, follows.mem);
+        lawful = ap (list_all is_lawful) behind ∙ fits.1;
       };
-      accepted = ap (λ (js : List Change). are_accepted sb.changes_max sb.versions_max (parents_in chained.manifest) chained.manifest.marks chained.manifest.changes js) none;
+      accepted = accepted;
       memory =
-          let undropped = ap (λ (js : List Change). none_dropped (fold marks_after chained.manifest.marks js)) none ∙ follows.undropped in
-          let here = let_go h new s.memory whole.memory some behind (omega (arith, left)) follows.mem follows.changes_max follows.versions_max versions updates changes undropped in
+          let undropped = none_after_all sb.changes_max sb.versions_max (parents_in chained.manifest) chained.manifest.marks chained.manifest.changes later follows.undropped accepted in
+          let here = let_go h new s.memory whole.memory some behind (let most = whole.log.few in omega (arith, left, most, follows.mem)) follows.mem follows.changes_max follows.versions_max versions updates changes undropped in
           record {
             changes_max = here.changes_max;
             versions_max = here.versions_max;
@@ -419,16 +433,16 @@ none_damaged v s x b whole stands bad =
 pub found_next : (s t : Held) (m : Memory) (target : ℕ) (sb : Super) (chained : Chained) (levels : List (Option LevelDesc)) (made : LevelFilters) → IsReadyFrom s.sb.mem s.memory m
     → is_some m.sealed ≡ true → s.sb.mem ≤ length s.log.list → IsConsistent s → 1 ≤ target
     → t ≡ held_next (record s { memory = m }) target sb chained levels made → ArePublishedTo target s.sb s.chained.manifest m sb chained.manifest
-    → (t.slot ≡ 1 - s.slot) × ArePublishedAfter s.sb s.chained.manifest s.memory s.filters t.sb t.chained.manifest t.memory.cursors t.filters × (t.log.list ≡ [])
-    × (t.memory ≡ record (emptied t.memory.spare s.memory) { ready = t.memory.ready; cursors = t.memory.cursors })
+    → (t.slot ≡ 1 - s.slot) × ArePublishedAfter s.sb s.chained.manifest s.memory s.filters t.sb t.chained.manifest t.memory.cursors t.filters × (t.log.list ≡ drop s.sb.mem s.log.list)
+    × (t.memory ≡ record (unsealed s.memory) { entries = t.memory.entries; spare = t.memory.spare; ready = t.memory.ready; cursors = t.memory.cursors })
     × (s.memory.sealed ≡ None → t.memory ≡ record (emptied s.sb.mem s.memory) { cursors = t.memory.cursors })
 found_next s t m target sb chained levels made same some full whole low is are =
     let gone : List ArrayDesc = arrays_taken target s.chained.manifest in
     let memory : t.memory ≡ renewed gone m = ap (λ (h : Held). h.memory) is in
-    let of = ready_of (head_held s) s.memory m same full whole.memory in (
+    (
       ap (λ (h : Held). h.slot) is,
       published_after target s.sb.mem s.sb sb t.sb s.chained.manifest chained.manifest t.chained.manifest s.memory m t.memory s.filters t.filters made low same (ap (λ (h : Held). h.sb) is) (ap (λ (h : Held). h.chained.manifest) is) memory (ap (λ (h : Held). h.filters) is) are,
-      ap (λ (h : Held). h.log.list) is ∙ ap (λ (n : ℕ). drop n s.log.list) whole.log.mem ∙ drop_all s.sb.mem s.log.list whole.log.few,
-      emptied_next s.sb.mem gone s.memory m t.memory memory same (behind_none s.sb.mem s.log.list m.entries m.sealed m.spare of.lists some (let few = whole.log.few in omega (arith, full, few))),
+      ap (λ (h : Held). h.log.list) is ∙ ap (λ (n : ℕ). drop n s.log.list) whole.log.mem,
+      emptied_next s.sb.mem gone s.memory m t.memory memory same,
       λ none. emptied_first s.sb.mem gone s.memory m t.memory memory same some none,
     )

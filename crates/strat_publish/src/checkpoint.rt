@@ -1,7 +1,7 @@
 //! A checkpoint of a store, whole: what fills the active region of its journal goes into its levels.
 
 ghost use Rattle.std.specs.List.{list_all};
-ghost use Rattle.std.specs.Prelude.{◌≡◌, ◌<◌, ◌≤◌, ℕ, ◌+◌, ◌-◌, ◌*◌, ◌^◌, List, [], ◌∷◌, length, min, nat_le, nat_lt, is_some, None, IfOk, OnOk, OnErr, IsErrOf, IsTrue};
+ghost use Rattle.std.specs.Prelude.{◌≡◌, ◌<◌, ◌≤◌, ℕ, ◌+◌, ◌-◌, ◌*◌, ◌^◌, List, [], ◌∷◌, length, drop, min, nat_le, nat_lt, is_some, None, IfOk, OnOk, OnErr, IsErrOf, IsTrue};
 ghost use Rattle.strat_array.specs.Kept.{Blocks};
 ghost use Rattle.def_crash.specs.Blocks.{TearsBlocks, AgreeOn};
 ghost use Rattle.def_crash.specs.Faults.{CountsFaults, HasCause};
@@ -30,7 +30,7 @@ ghost use Rattle.strat_memory.specs.Filters.{filters_after};
 ghost use Rattle.strat_memory.specs.Held.{IsConsistent, IsOnDisk, StandsWith, arrays_held, contents_held};
 ghost use Rattle.strat_cursor.specs.Cursors.{retired_all};
 ghost use Rattle.strat_cursor.specs.Looking.{arrays_there};
-ghost use Rattle.strat_memory.specs.Memory.{emptied, IsReadyFrom};
+ghost use Rattle.strat_memory.specs.Memory.{emptied, IsReadyFrom, unsealed};
 ghost use Rattle.strat_memory.specs.Paying.{ArePaidSince};
 ghost use Rattle.strat_publish.specs.Counting.{CountsWritten};
 ghost use Rattle.strat_publish.specs.Publishing.{IsComputed, LaysSuperblock, WritesManifest, descs_to, is_in_front, manifest_after};
@@ -386,8 +386,8 @@ fn install<D: Disk>(
 }
 
 /// Makes a checkpoint: level 0 is sealed, if it isn't, what is sealed and the shallow levels become one new level, a new
-/// manifest names it, and a new superblock makes that the store's. The journal is empty then, and nothing is sealed. It
-/// reads each block of the merged arrays twice at most, writes each block of the new arrays and of the manifest once, and
+/// manifest names it, and a new superblock makes that the store's. The journal has then what was behind the full region, and
+/// nothing is sealed. It reads each block of the merged arrays twice at most, writes each block of the new arrays and of the manifest once, and
 /// syncs five times at most.
 ///
 /// All memory is taken before the superblock is laid: without it the store is as it was, but that level 0 may be sealed.
@@ -407,9 +407,13 @@ pub fn publish<D: Disk>(alloc: Global, held: &mut OpenStore, disk: &mut D) -> Re
         × ArePublishedAfter (super_of held.old.sb) (manifest_of held.old.published.manifest)
         held.old.memory held.old.filters (super_of held.new.sb)
         (manifest_of held.new.published.manifest) held.new.memory.cursors held.new.filters
-        × (held.new.journal.list ≡ [])
-        × (held.new.memory ≡ record (emptied held.new.memory.spare held.old.memory)
-        { ready = held.new.memory.ready; cursors = held.new.memory.cursors })
+        × (held.new.journal.list ≡ drop held.old.sb.mem held.old.journal.list)
+        × (held.new.memory ≡ record (unsealed held.old.memory) {
+          entries = held.new.memory.entries;
+          spare = held.new.memory.spare;
+          ready = held.new.memory.ready;
+          cursors = held.new.memory.cursors;
+        })
         × (held.old.memory.sealed ≡ None
         → held.new.memory ≡ record (emptied held.old.sb.mem held.old.memory)
         { cursors = held.new.memory.cursors })) }
