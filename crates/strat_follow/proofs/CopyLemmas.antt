@@ -1,5 +1,5 @@
 -- A follower whose frames hold the changes of a log keeps to that log.
-use Rattle.std.proofs.Common.{◌≡◌, ◌≤◌, ◌<◌, ◌⊎◌, ◌+◌, ◌-◌, ℕ, zero, suc, Bool, true, false, eqb, List, [], ◌∷◌, ◌++◌, Option, Some, None, length, take, map, refl, sym, ap, ◌∙◌, subst, inl, inr, append-nil, append_assoc, arith}
+use Rattle.std.proofs.Common.{◌≡◌, ◌≤◌, ◌<◌, ◌+◌, ℕ, zero, suc, Bool, true, false, eqb, List, [], ◌∷◌, ◌++◌, Option, Some, None, length, take, map, refl, sym, ap, ◌∙◌, subst, inl, inr, append-nil, arith}
 use Rattle.std.specs.List.{AllByRecursion, flat_map}
 use Rattle.std.specs.Prelude.{IfSome, option_map}
 use Rattle.std.proofs.lemmas.Bool.{cases_lt}
@@ -10,7 +10,7 @@ use Rattle.strat_base.specs.declared.failures.Fault.TheVariants as fault
 use Rattle.def_crash.specs.Faults.{Rose}
 use Rattle.def_crash.specs.Image.{Image}
 use Rattle.def_crash.specs.Moments.{DiskView, Exposes, Images, Since}
-use Rattle.def_crash.specs.Trail.{At, Trail}
+use Rattle.def_crash.specs.Trail.{At}
 use Rattle.def_crash.proofs.MomentLemmas.{at_told}
 use Rattle.def_crash.proofs.TrailLemmas.{at_below, at_either}
 use Rattle.strat_io.specs.Streams.{Appends}
@@ -22,7 +22,7 @@ use Rattle.strat_model.specs.Answer.{Answer, refusal}
 use Rattle.strat_model.specs.Batch.{tables_before, tables_behind, tables_continued}
 use Rattle.strat_model.specs.Faults.{fault_told}
 use Rattle.strat_model.specs.Run.{Exchange, Interruption, Position, Response, Transcript, bodies_of, of_interruption}
-use Rattle.strat_model.specs.Stream.{is_partial, is_too_long, Splits}
+use Rattle.strat_model.specs.Stream.{is_too_long, Splits}
 use Rattle.strat_model.specs.Table.{Table, bare}
 use Rattle.def_publish.specs.Standing.{LeavesContent, ShowsTable}
 use Rattle.def_follow.specs.Following as kept
@@ -33,12 +33,12 @@ use Rattle.def_follow.specs.OnDisk.{EachOfLog, ShowsOfLog}
 use Rattle.def_follow.proofs.DiskLemmas.{trail_of_log}
 use Rattle.def_follow.proofs.FollowLemmas.{broken_off, place_is, received}
 use Rattle.def_follow.proofs.LogLemmas.{change_counts}
-use Rattle.strat_open.specs.Following.{FollowsFrom, IsUnchanged, LeavesOpening}
+use Rattle.strat_open.specs.Following.{IsUnchanged, LeavesOpening}
 use Rattle.strat_loop.specs.Session.{EndsWithFault, GaveUp, SendsPrefix, Took}
-use Rattle.strat_loop.specs.Speech.{Said, Speech, IsSpokenBatch, IsSpokenRun, IsSpokenTranscript, SaysFault, response_of, said_bytes}
-use Rattle.strat_loop.specs.Spoken.{FollowsSpokenRun, SendsSaid, ServedBy, Sitting, SpokenOutcome, all_said, last_said, listed_said, output_of}
+use Rattle.strat_loop.specs.Speech.{Said, Speech, IsSpokenBatch, IsSpokenRun, SaysFault, response_of, said_bytes}
+use Rattle.strat_loop.specs.Spoken.{FollowsSpokenRun, SendsSaid, Sitting, SpokenOutcome, all_said, last_said, listed_said, output_of}
 use Rattle.strat_loop.specs.World.{World}
-use Rattle.strat_follow.specs.Copying.{CopiesLog, CopiesLogs, KeepsToLog, MayRefuse, SendsOrFails, ShowsTaken}
+use Rattle.strat_follow.specs.Copying.{CopiesLogs, KeepsToLog, MayRefuse, SendsOrFails, ShowsTaken}
 use Rattle.strat_follow.specs.Follows.{follows}
 use Rattle.strat_follow.proofs.ReceiptLemmas.{received_so, broken_so}
 
@@ -215,19 +215,19 @@ module _ (changes_max versions_max : ℕ) (log : List Change) (is : IsLog change
     abbrev mapped : List Exchange → List (List ℕ)
     mapped xs = map (λ (x : Exchange). x.body) xs
 
-    taken_next : AllByRecursion InLog (bodies_of run ++ mapped more)
+    abbrev taken_next : AllByRecursion InLog (bodies_of run ++ mapped more)
     taken_next = subst (AllByRecursion InLog) r.next (all_taken InLog (length (bodies_of run) + length more) s.bodies there)
 
-    own : AllByRecursion InLog (mapped run.exchanges ++ of_interruption (λ h. h.body) run.interruption)
+    abbrev own : AllByRecursion InLog (mapped run.exchanges ++ of_interruption (λ h. h.body) run.interruption)
     own = all_left InLog (bodies_of run) (mapped more) taken_next
 
-    start_of : Of r.start.table
+    abbrev start_of : Of r.start.table
     start_of = subst Of (sym r.table) of
 
-    front : RunOf r.start run.exchanges s.answers run.after
+    abbrev front : RunOf r.start run.exchanges s.answers run.after
     front = run_of_log r.mem r.start run.exchanges s.answers run.after r.is.run (all_left InLog (mapped run.exchanges) (of_interruption (λ h. h.body) run.interruption) own) start_of
 
-    tail : TailOf run.after run.interruption s.broken r.continued.end
+    abbrev tail : TailOf run.after run.interruption s.broken r.continued.end
     tail = tail_of_log r.mem run.after run.interruption s.broken more r.continued.end r.is.interrupted r.broken_is r.continued.batch r.device
         (all_right InLog (mapped run.exchanges) (of_interruption (λ h. h.body) run.interruption) own) (all_right InLog (bodies_of run) (mapped more) taken_next) front.of_log
 
@@ -247,6 +247,7 @@ module _ (changes_max versions_max : ℕ) (log : List Change) (is : IsLog change
     receipts = front.receipts ++ tail.receipts
 
     pub sent_is : output_of follows s ≡ flat_map receipt_frame receipts
+    unfolding receipts
     sent_is =
         (λ i. said_bytes (all_said s) ++ last_none follows refl s.broken (eqb (length s.answers) (length s.bodies)) (is_too_long s.rest) i)
         ∙ append-nil (said_bytes (all_said s))
@@ -255,6 +256,7 @@ module _ (changes_max versions_max : ℕ) (log : List Change) (is : IsLog change
         ∙ sym (flat_map-append receipt_frame front.receipts tail.receipts)
 
     pub free : AllByRecursion (λ (x : Receipt). (cause : Refusal) → x.fate ≡ kept.Refused cause → MayRefuse before now cause) receipts
+    unfolding receipts
     free = all_both (λ (x : Receipt). (cause : Refusal) → x.fate ≡ kept.Refused cause → MayRefuse before now cause) front.receipts tail.receipts
         (all_mapped (Settled n) (λ (x : Receipt). (cause : Refusal) → x.fate ≡ kept.Refused cause → MayRefuse before now cause) front.receipts (λ x settled cause e. inl (settled.0 cause e)) front.settled)
         (all_mapped (IsForDevice s.broken) (λ (x : Receipt). (cause : Refusal) → x.fate ≡ kept.Refused cause → MayRefuse before now cause) tail.receipts (λ x device cause e. inr (same_cause x why.DeviceFault cause device.0 e, rose device.1)) tail.fates)
@@ -267,6 +269,7 @@ module _ (changes_max versions_max : ℕ) (log : List Change) (is : IsLog change
 
     -- a table of the log with as many changes has what was taken
     holds_at : (u : Table) (b : Behind n u) → AllByRecursion (λ (x : Receipt). x.fate ≡ kept.Taken → x.number < b.0.place) receipts
+    unfolding receipts
     holds_at u b =
         let place = place_is changes_max versions_max log is u b.0 in
         all_both (λ (x : Receipt). x.fate ≡ kept.Taken → x.number < b.0.place) front.receipts tail.receipts

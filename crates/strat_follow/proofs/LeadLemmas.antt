@@ -1,8 +1,7 @@
 -- A leader over a disk that shows a table.
-use Rattle.std.proofs.Common.{◌≡◌, ◌≤◌, ◌<◌, ◌⊎◌, ◌+◌, ℕ, suc, Bool, true, false, eqb, List, [], ◌∷◌, ◌++◌, Option, Some, None, length, take, map, refl, sym, ap, ◌∙◌, subst, inl, inr, append-nil, append_assoc, arith}
+use Rattle.std.proofs.Common.{◌≡◌, ◌⊎◌, ◌+◌, ℕ, false, eqb, List, [], ◌∷◌, ◌++◌, Option, Some, None, length, refl, sym, ap, ◌∙◌, subst, inl, inr, append-nil, append_assoc, arith}
 use Rattle.std.specs.Prelude.{IfSome, Ok, option_map}
 use Rattle.std.proofs.lemmas.List.Concat.{flat_map-append}
-use Rattle.strat_base.specs.Change.{Change}
 use Rattle.def_crash.specs.Faults.{Rose}
 use Rattle.def_crash.specs.Image.{Image}
 use Rattle.def_crash.specs.Moments.{DiskView, Exposes}
@@ -10,17 +9,16 @@ use Rattle.def_bytes.specs.Damage.{Read}
 use Rattle.strat_io.specs.Streams.{Appends}
 use Rattle.strat_model.specs.declared.ended.Ended.{Ended}
 use Rattle.strat_model.specs.declared.ended.Ended.TheVariants as ended
-use Rattle.strat_model.specs.Answer.{Answer, accepts, refusal}
+use Rattle.strat_model.specs.Answer.{Answer, accepts}
 use Rattle.strat_model.specs.Run.{Interruption, IsFault, Position, Response, Transcript}
 use Rattle.strat_model.specs.Stream.{is_too_long}
 use Rattle.strat_model.specs.Table.{Table, bare}
 use Rattle.def_recovery.specs.Head.{Head}
 use Rattle.def_recovery.specs.Opening.{recover}
-use Rattle.def_meaning.specs.StateTable.{table_of}
 use Rattle.def_publish.specs.Contents.{contents_head}
 use Rattle.def_publish.specs.Standing.{ShowsTable}
 use Rattle.def_publish.proofs.PartsLemmas.{reads_head, state_parts}
-use Rattle.def_state.specs.State.{State, changes_of}
+use Rattle.def_state.specs.State.{changes_of}
 use Rattle.def_follow.specs.Log.{AreTakenFrom, table_after}
 use Rattle.strat_store.specs.Applying.{change_wanted}
 use Rattle.strat_open.specs.Following.{FollowsFrom}
@@ -209,3 +207,26 @@ module _ (budget : ℕ) (how : Ended) (before now : World) (f : Image) (t : Tabl
 -- so it is with each table that the disk may show
 pub leads_tables : (budget : ℕ) (how : Ended) (before now : World) → LeadOutcome budget how before now → LeadsTables budget how before now
 leads_tables budget how before now outcome f t exposed shows = leads_table budget how before now f t exposed shows outcome
+
+-- a run that found no memory before it touched anything gave up
+pub no_memory : (before : World) → GaveUp ended.NoMemory before before
+no_memory before = record {
+  ends = tt;
+  source = refl;
+  sink = refl;
+  kept = λ other. (refl, record { each = λ c since. let now : since.at ≡ before.disk.moment = omega (arith, since.from, since.till) in subst (λ (m : ℕ). before.disk.images_at m c) now since.left });
+  failed = λ is. absurd (let x : ended.NoMemory ≡ ended.Device = is in cc);
+  damaged = λ block is. absurd (let x : ended.NoMemory ≡ ended.Damaged block = is in cc);
+}
+
+-- what ended a run behind a part of it in which nothing failed is its cause
+pub caused_after : (how : Ended) (before mid now : World) → mid.source_faults ≡ before.source_faults → mid.sink_faults ≡ before.sink_faults → mid.disk_faults ≡ before.disk_faults
+    → EndHasCause how mid now → EndHasCause how before now
+caused_after how before mid now source sink disk cause = record {
+  source = λ e. subst (λ (n : ℕ). Rose n now.source_faults) source (cause.source e);
+  sink = λ e. subst (λ (n : ℕ). Rose n now.sink_faults) sink (cause.sink e);
+  device = λ e. subst (λ (n : ℕ). Rose n now.disk_faults) disk (cause.device e);
+  source_same = λ other. cause.source_same other ∙ source;
+  sink_same = λ other. cause.sink_same other ∙ sink;
+  disk_same = λ other and. cause.disk_same other and ∙ disk;
+}

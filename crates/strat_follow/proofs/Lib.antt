@@ -3,3 +3,6 @@ pub mod CopyLemmas
 pub mod MadeLemmas
 pub mod LeadLemmas
 pub mod WalkLemmas
+pub mod FrameLemmas
+pub mod ReadingLemmas
+pub mod TurnLemmas

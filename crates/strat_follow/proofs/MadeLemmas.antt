@@ -1,5 +1,5 @@
 -- What a leader's run writes are the frames of the changes that it carried out, which are the next ones of a log.
-use Rattle.std.proofs.Common.{◌≡◌, ◌≤◌, ◌<◌, ◌⊎◌, ◌+◌, ℕ, zero, suc, ◌==◌, Bool, true, false, true≢false, not, List, [], ◌∷◌, ◌++◌, Option, Some, None, length, find, refl, sym, ap, ◌∙◌, subst, inl, inr, arith, append-nil, append_assoc, length-append}
+use Rattle.std.proofs.Common.{◌≡◌, ◌⊎◌, ◌+◌, ℕ, suc, ◌==◌, Bool, true, false, not, List, [], ◌∷◌, ◌++◌, Option, Some, None, length, find, refl, sym, ap, ◌∙◌, subst, inl, inr, arith, append_assoc}
 use Rattle.std.specs.List.{list_any}
 use Rattle.std.specs.Option.{option_map_or}
 use Rattle.std.proofs.lemmas.Bool.{cases_Bool}
@@ -7,7 +7,7 @@ use Rattle.strat_base.specs.Change.{Change}
 use Rattle.strat_base.specs.Change as change
 use Rattle.strat_base.specs.declared.limits.TheConstants.{CURSORS_MAX}
 use Rattle.strat_model.specs.declared.replies.Refusal.TheVariants as why
-use Rattle.strat_model.specs.Answer.{Answer, accepts, refusal}
+use Rattle.strat_model.specs.Answer.{Answer, accepts}
 use Rattle.strat_model.specs.Request.{Request, Put, Delete, Get, Clone, Scan, Info, OpenCursor, NextPairs, CloseCursor, Stat, DropVersion}
 use Rattle.strat_model.specs.Run.{Exchange, IsAfter, Position, Response, is_change}
 use Rattle.strat_model.specs.Spelling.{Spells}
@@ -24,7 +24,7 @@ use Rattle.strat_loop.specs.Speech.{Said, Says, IsSpokenRun, response_of, said_b
 use Rattle.strat_follow.specs.Leads.{AreMade, Makes, MakesNone, change_frames, frame_made, leads}
 
 -- a command that asks for no change is none, and leaves what outlasts a run
-Quiet : Table → Request → Type 0
+abbrev Quiet : Table → Request → Type 0
 Quiet t q = (is_change q ≡ false) × (bare (step t q).table ≡ bare t)
 
 quiet : (t : Table) (q : Request) → change_wanted q ≡ None → Quiet t q
@@ -67,7 +67,7 @@ asks_it (CloseCursor n) c e = absurd (let f : ◌≡◌ {A = Option Change} None
 asks_it Stat c e = absurd (let f : ◌≡◌ {A = Option Change} None (Some c) = e in cc)
 
 -- nothing is sent for what was refused, nor for what asks for no change
-denied_frame : (n : ℕ) (o : Option Change) (b : Bool) → b ≡ false → frame_made n b o ≡ []
+pub denied_frame : (n : ℕ) (o : Option Change) (b : Bool) → b ≡ false → frame_made n b o ≡ []
 denied_frame n None b e = ap (λ (x : Bool). frame_made n x None) e
 denied_frame n (Some c) b e = ap (λ (x : Bool). frame_made n x (Some c)) e
 

@@ -1,5 +1,5 @@
 -- What a follower says to a body is a receipt, and the table goes on as that tells.
-use Rattle.std.proofs.Common.{◌≡◌, ◌≤◌, ◌<◌, ◌⊎◌, ◌+◌, ℕ, Bool, true, false, true≢false, if◌then◌else◌, List, [], ◌∷◌, ◌++◌, map, refl, sym, ap, ◌∙◌, subst, inl, inr, arith}
+use Rattle.std.proofs.Common.{◌≡◌, ◌≤◌, ◌+◌, ℕ, Bool, true, true≢false, if◌then◌else◌, List, [], ◌∷◌, ◌++◌, map, refl, sym, ap, ◌∙◌, subst, inl, inr}
 use Rattle.std.specs.List.{flat_map}
 use Rattle.std.proofs.lemmas.Bool.{cases_Bool}
 use Rattle.strat_base.specs.Change.{Change}
@@ -14,8 +14,6 @@ use Rattle.strat_model.specs.Table.{Table}
 use Rattle.def_meaning.specs.StateTable.{request_for}
 use Rattle.def_follow.specs.Following as kept
 use Rattle.def_follow.specs.Following.{Delivery, Receipt, Receives, IsBrokenOff, IsFollowing, fate_for, receipt_frame}
-use Rattle.def_follow.specs.Log.{IsTakenAt}
-use Rattle.def_follow.specs.Numbered.{Numbered, SpellsNumbered}
 use Rattle.def_follow.proofs.LogLemmas.{change_counts}
 use Rattle.strat_loop.specs.Speech.{IsSpokenRun, Said, Says, SaysFault, said_bytes}
 use Rattle.strat_follow.specs.Follows.{AsksNext, IsPassedBy, PassesBy, follows, receipt_after}

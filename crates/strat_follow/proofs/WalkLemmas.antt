@@ -1,9 +1,9 @@
 -- A walk over the records of changes.
-use Rattle.std.proofs.Common.{◌≡◌, ◌≤◌, ◌<◌, ◌+◌, ◌-◌, ℕ, zero, suc, true, List, [], ◌∷◌, ◌++◌, Option, Some, None, length, take, drop, refl, sym, ap, ◌∙◌, subst, append-nil, append_assoc, length-append, length-drop, arith}
-use Rattle.std.specs.Prelude.{slice_get, option_map}
+use Rattle.std.proofs.Common.{◌≡◌, ◌≤◌, ◌<◌, ◌+◌, ℕ, zero, suc, true, List, [], ◌∷◌, ◌++◌, Option, Some, None, length, take, drop, refl, sym, ap, ◌∙◌, subst, append-nil, append_assoc, length-append, length-drop, arith}
+use Rattle.std.specs.Prelude.{IfSome, option_map}
 use Rattle.std.specs.List.{list_all}
 use Rattle.std.proofs.lemmas.Bool.{and_parts}
-use Rattle.std.proofs.lemmas.List.{drop-drop, drop_at, drop_all, take_all}
+use Rattle.std.proofs.lemmas.List.{drop-drop, drop_at, take_all}
 use Rattle.strat_base.specs.Change.{BeginsWithChange, Change, change_at, change_bytes, change_in, is_lawful}
 use Rattle.strat_base.specs.ChangeView.{change_of}
 use Rattle.strat_base.specs.Finds.{Finds}
@@ -18,8 +18,13 @@ use Rattle.strat_follow.proofs.LeadLemmas.{appends_then}
 use Rattle.strat_follow.proofs.MadeLemmas.{frames_then}
 
 -- a change that stands at the front of what is behind an offset ends within the bytes
-pub ends_within : (bytes : List ℕ) (at : ℕ) (c : Change) → at ≤ length bytes → BeginsWithChange (drop at bytes) c → at + length (change_bytes c) ≤ length bytes
+ends_within : (bytes : List ℕ) (at : ℕ) (c : Change) → at ≤ length bytes → BeginsWithChange (drop at bytes) c → at + length (change_bytes c) ≤ length bytes
 ends_within bytes at c within begins = omega (arith, within, length-drop at bytes, ap length begins.split, length-append (change_bytes c) begins.rest)
+
+pub record_within : (bytes : List ℕ) (at : ℕ) (r : Option (Borrowed × ℕ)) → at ≤ length bytes → IfSome r (λ x. BeginsWithChange (drop at bytes) (change_of x.0)) → IfSome r (λ x. x.1 ≡ at + length (change_bytes (change_of x.0)))
+    → IfSome r (λ x. x.1 ≤ length bytes)
+record_within bytes at None within starts ends = tt
+record_within bytes at (Some x) within starts ends = omega (arith, ends, ends_within bytes at (change_of x.0) within starts)
 
 -- behind the last record there is none
 pub none_behind : (bytes : List ℕ) (c : Change) (rest : List Change) → drop (length bytes) bytes ≡ records_bytes (c ∷ rest) → ⊥
@@ -58,8 +63,8 @@ pub record IsWalked (bytes : List ℕ) (list : List Change) (first i at : ℕ) (
 -- a list has an element at a place, and the others behind it
 record HasAt (list : List Change) (i : ℕ) : Type 0 where
   one : Change
-  is : drop i list ≡ one ∷ drop (i + 1) list
-  more : take (i + 1) list ≡ take i list ++ one ∷ []
+  is : drop i list ≡ one ∷ drop (suc i) list
+  more : take (suc i) list ≡ take i list ++ one ∷ []
   lawful : is_lawful one ≡ true
   front : length (take i list) ≡ i
 
@@ -80,10 +85,10 @@ module _ (bytes : List ℕ) (list : List Change) (first count : ℕ) (are : AreP
   -- where there is one more, it is found
   pub walk_finds : (i at : ℕ) (now : Option (List ℕ)) (result : Option (Borrowed × ℕ)) → IsWalked bytes list first i at before now → i < count
       → ((c : Change) (rest : List Change) → drop at bytes ≡ records_bytes (c ∷ rest) → is_lawful c ≡ true → FindsRecord bytes result c rest)
-      → (c : Change) × (drop i list ≡ c ∷ drop (i + 1) list) × FindsRecord bytes result c (drop (i + 1) list)
+      → (c : Change) × (drop i list ≡ c ∷ drop (suc i) list) × FindsRecord bytes result c (drop (suc i) list)
   walk_finds i at now result walked within finds =
       let has = has_at list i are.lawful (omega (arith, within, are.number)) in
-      (has.one, has.is, finds has.one (drop (i + 1) list) (walked.split ∙ ap records_bytes has.is) has.lawful)
+      (has.one, has.is, finds has.one (drop (suc i) list) (walked.split ∙ ap records_bytes has.is) has.lawful)
 
   -- one more was sent
   pub walk_more : (i at : ℕ) (mid now : Option (List ℕ)) (r : Borrowed × ℕ) → IsWalked bytes list first i at before mid → i < count
@@ -91,14 +96,15 @@ module _ (bytes : List ℕ) (list : List Change) (first count : ℕ) (are : AreP
       → Appends mid now (change_frames (first + i) (change_of r.0 ∷ [])) → IsWalked bytes list first (i + 1) r.1 before now
   walk_more i at mid now r walked within finds sent =
       let has = has_at list i are.lawful (omega (arith, within, are.number)) in
-      let found = finds has.one (drop (i + 1) list) (walked.split ∙ ap records_bytes has.is) has.lawful in
-      let frames : change_frames first (take (i + 1) list) ≡ change_frames first (take i list) ++ change_frames (first + i) (change_of r.0 ∷ []) =
+      let found = finds has.one (drop (suc i) list) (walked.split ∙ ap records_bytes has.is) has.lawful in
+      let frames : change_frames first (take (suc i) list) ≡ change_frames first (take i list) ++ change_frames (first + i) (change_of r.0 ∷ []) =
       ap (change_frames first) has.more ∙ frames_then first (take i list) (has.one ∷ [])
       ∙ (λ k. change_frames first (take i list) ++ change_frames (first + has.front k) (sym found.0 k ∷ [])) in
-      record {
+      let next : suc i ≡ i + 1 = omega arith in
+      subst (λ (n : ℕ). IsWalked bytes list first n r.1 before now) next (record {
         split = found.1;
         sent = subst (Appends before now) (sym frames) (appends_then before mid now (change_frames first (take i list)) (change_frames (first + i) (change_of r.0 ∷ [])) walked.sent sent);
-      }
+      })
 
   -- or a part of it, and the others were not
   pub walk_cut : (i at : ℕ) (mid now : Option (List ℕ)) (r : Borrowed × ℕ) → IsWalked bytes list first i at before mid → i < count
@@ -106,16 +112,16 @@ module _ (bytes : List ℕ) (list : List Change) (first count : ℕ) (are : AreP
       → SendsPrefix mid now (change_frames (first + i) (change_of r.0 ∷ [])) → SendsPrefix before now (change_frames first list)
   walk_cut i at mid now r walked within finds cut =
       let has = has_at list i are.lawful (omega (arith, within, are.number)) in
-      let found = finds has.one (drop (i + 1) list) (walked.split ∙ ap records_bytes has.is) has.lawful in
-      let frames : change_frames first (take (i + 1) list) ≡ change_frames first (take i list) ++ change_frames (first + i) (change_of r.0 ∷ []) =
+      let found = finds has.one (drop (suc i) list) (walked.split ∙ ap records_bytes has.is) has.lawful in
+      let frames : change_frames first (take (suc i) list) ≡ change_frames first (take i list) ++ change_frames (first + i) (change_of r.0 ∷ []) =
       ap (change_frames first) has.more ∙ frames_then first (take i list) (has.one ∷ [])
       ∙ (λ k. change_frames first (take i list) ++ change_frames (first + has.front k) (sym found.0 k ∷ [])) in
-      let later : List ℕ = change_frames (first + length (take (i + 1) list)) (drop (i + 1) list) in
+      let later : List ℕ = change_frames (first + length (take (suc i) list)) (drop (suc i) list) in
       record {
         sent = change_frames first (take i list) ++ cut.sent;
         later = cut.later ++ later;
         parts =
-            ap (change_frames first) (sym (split_at list (i + 1))) ∙ frames_then first (take (i + 1) list) (drop (i + 1) list)
+            ap (change_frames first) (sym (split_at list (suc i))) ∙ frames_then first (take (suc i) list) (drop (suc i) list)
             ∙ ap (λ (x : List ℕ). x ++ later) (frames ∙ ap (λ (x : List ℕ). change_frames first (take i list) ++ x) cut.parts)
             ∙ regroup (change_frames first (take i list)) cut.sent cut.later later;
         some = omega (arith, cut.some, length-append cut.later later);

@@ -1,5 +1,5 @@
 -- What a leader writes, and what it leaves.
-use Rattle.std.specs.Prelude.{◌≡◌, ◌⊎◌, ℕ, ◌+◌, List, ◌++◌, length, take, Option, Some, Ok}
+use Rattle.std.specs.Prelude.{◌≡◌, ◌⊎◌, ℕ, ◌+◌, List, [], ◌∷◌, ◌++◌, length, take, Option, Some, Ok}
 use Rattle.strat_base.specs.Change.{Change}
 use Rattle.def_crash.specs.Image.{Image}
 use Rattle.def_crash.specs.Moments.{Exposes}
@@ -16,7 +16,7 @@ use Rattle.def_recovery.specs.Opening.{recover}
 use Rattle.def_publish.specs.Standing.{ShowsTable}
 use Rattle.def_follow.specs.Log.{AreTakenFrom, table_after}
 use Rattle.strat_open.specs.Following.{ChangesGateAlone, FollowsFrom}
-use Rattle.strat_loop.specs.Session.{AreNextIn, Begins, EndsFor, GaveUp, SendsPrefix, Took}
+use Rattle.strat_loop.specs.Session.{AreNextIn, Begins, GaveUp, SendsPrefix, Took}
 use Rattle.strat_loop.specs.Speech.{Said, IsSpokenTranscript, SpokenContinuation}
 use Rattle.strat_loop.specs.Spoken.{ServedBy}
 use Rattle.strat_loop.specs.World.{World}

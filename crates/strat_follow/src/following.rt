@@ -15,9 +15,10 @@ ghost use Rattle.strat_follow.specs.Follows.{AsksNext, IsPassedBy, follows};
 ghost use Rattle.strat_follow.specs.Turns.{fate_of};
 
 use crate::frames::write_receipt;
+use crate::numbers::turn;
 use crate::reading::{command_for, number_of, read_numbered};
 use crate::receipts::Fate;
-use crate::turns::{Turn, turn};
+use crate::turns::Turn;
 use std::alloc::Global;
 use strat_base::PairBuf;
 use strat_disk::Disk;

@@ -60,8 +60,9 @@ fn change_text<'a>(change: &Change<'_>, into: &'a mut [u8; CHANGE_MAX]) -> &'a [
     ensures ok { result.now ≡ change_bytes (change_of change.now) }
     ensures len { length result.now ≤ 1287 }
 {
-    let end = put_change(change, into, 0);
-    &into[..end]
+    let size = change_size(change);
+    put_change(change, into, 0);
+    &into[..size]
 }
 
 /// Writes the frame of a change with its number, in place of what the buffer holds.

@@ -185,6 +185,7 @@ fn send_journal<K: Sink>(store: &Store, sink: &mut K, out: &mut OutBuf) -> Resul
 /// once it is durable. Before it reads anything it sends the changes of the journal: those of the last run that may not have
 /// been sent are among them. A body that is no command, or asks for no change, gets nothing. The cost is that of `serve_by`,
 /// and one write for each change of the journal.
+#[tactic(auto, using(def_crash::proofs::MomentLemmas::passes_trans))]
 pub fn lead<S: Source, K: Sink, D: Disk>(
     alloc: Global,
     source: &mut S,

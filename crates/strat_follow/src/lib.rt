@@ -6,10 +6,12 @@ mod following;
 mod frames;
 pub mod laws;
 mod leading;
+mod numbers;
 mod reading;
 mod receipts;
 mod turns;
 
 pub use following::{Follower, follow};
 pub use leading::{Leader, lead};
-pub use turns::{Turn, turn};
+pub use numbers::turn;
+pub use turns::Turn;

@@ -1,9 +1,6 @@
-//! Whether a change that comes with its number is next.
+//! Whose turn it may be.
 
-ghost use Rattle.std.specs.Prelude.{◌≡◌};
-ghost use Rattle.strat_follow.specs.Turns.{turn_of};
-
-/// Whose turn it is.
+/// Whether a change that comes with its number is next.
 #[derive(Clone, Copy, Debug, PartialEq, Eq)]
 pub enum Turn {
     /// The change is the next one.
@@ -12,14 +9,4 @@ pub enum Turn {
     Old,
     /// Others stand before it.
     Gap,
-}
-
-/// Whether a change with this number is the next one of a store that took so many changes.
-pub fn turn(next: u32, number: u32) -> Turn
-    ensures { result ≡ turn_of next number }
-{
-    if number == next {
-        return Turn::Take;
-    }
-    if number < next { Turn::Old } else { Turn::Gap }
 }

@@ -1,4 +1,4 @@
-use Rattle.std.proofs.Common.{◌≡◌, ◌≢◌, ℕ, eqb, true, false, refl, arith}
+use Rattle.std.proofs.Common.{◌≡◌, eqb, true, false, refl, arith}
 use Rattle.std.proofs.lemmas.Bool.{lt-ltb, le-ltb}
 use Rattle.std.proofs.lemmas.Bool.Decides.{nat_tests}
 use Rattle.strat_follow.proofs.laws.numbers_say_whose_turn_it_is.Goals as goal
