@@ -3,6 +3,7 @@ use Rattle.std.proofs.Common.{◌≡◌, ◌≤◌, ◌<◌, ◌+◌, ℕ, zero,
 use Rattle.std.specs.Prelude.{IfSome, option_map}
 use Rattle.std.specs.List.{list_all}
 use Rattle.std.proofs.lemmas.Bool.{and_parts}
+use Rattle.std.proofs.lemmas.List.Folds.{list_all-append}
 use Rattle.std.proofs.lemmas.List.{drop-drop, drop_at, take_all}
 use Rattle.strat_base.specs.Change.{BeginsWithChange, Change, change_at, change_bytes, change_in, is_lawful}
 use Rattle.strat_base.specs.ChangeView.{change_of}
@@ -140,3 +141,42 @@ module _ (bytes : List ℕ) (list : List Change) (first count : ℕ) (are : AreP
   -- and at the end all were
   pub walk_ends : (at : ℕ) (now : Option (List ℕ)) → IsWalked bytes list first count at before now → Appends before now (change_frames first list)
   walk_ends at now walked = subst (λ (l : List Change). Appends before now (change_frames first l)) (take_all count list (omega (arith, are.number))) walked.sent
+
+-- the records of a journal, region by region
+module _ (list : List Change) (mem first : ℕ) (before mid now : Option (List ℕ)) where
+  abbrev front : List Change
+  front = take mem list
+
+  abbrev behind : List Change
+  behind = drop mem list
+
+  whole : change_frames first front ++ change_frames (first + length front) behind ≡ change_frames first list
+  whole = sym (frames_then first front behind) ∙ ap (change_frames first) (take-append-drop mem list)
+
+  pub both_sent : Appends before mid (change_frames first front) → Appends mid now (change_frames (first + length front) behind) → Appends before now (change_frames first list)
+  both_sent one other = subst (Appends before now) whole (appends_then before mid now (change_frames first front) (change_frames (first + length front) behind) one other)
+
+  -- the sink failed at those of the first region, or of the second
+  pub front_cut : SendsPrefix before now (change_frames first front) → SendsPrefix before now (change_frames first list)
+  front_cut cut = record {
+    sent = cut.sent;
+    later = cut.later ++ change_frames (first + length front) behind;
+    parts = sym whole ∙ ap (λ (x : List ℕ). x ++ change_frames (first + length front) behind) cut.parts ∙ append_assoc cut.sent cut.later (change_frames (first + length front) behind);
+    some = omega (arith, cut.some, length-append cut.later (change_frames (first + length front) behind));
+    appends = cut.appends;
+  }
+
+  pub behind_cut : Appends before mid (change_frames first front) → SendsPrefix mid now (change_frames (first + length front) behind) → SendsPrefix before now (change_frames first list)
+  behind_cut one cut = record {
+    sent = change_frames first front ++ cut.sent;
+    later = cut.later;
+    parts = sym whole ∙ ap (λ (x : List ℕ). change_frames first front ++ x) cut.parts ∙ sym (append_assoc (change_frames first front) cut.sent cut.later);
+    some = cut.some;
+    appends = appends_then before mid now (change_frames first front) cut.sent one cut.appends;
+  }
+
+  pub size_of_both : length front + length behind ≡ length list
+  size_of_both = omega (arith, length-append front behind, ap length (take-append-drop mem list))
+
+  pub lawful_both : list_all is_lawful list ≡ true → (list_all is_lawful front ≡ true) × (list_all is_lawful behind ≡ true)
+  lawful_both all = and_parts (list_all is_lawful front) (list_all is_lawful behind) (sym (list_all-append is_lawful front behind) ∙ ap (list_all is_lawful) (take-append-drop mem list) ∙ all)

@@ -175,9 +175,11 @@ fn send_journal<K: Sink>(store: &Store, sink: &mut K, out: &mut OutBuf) -> Resul
         (journal_frames (head_held store.now))) }
     ensures cause { CountsFaults (K.faults sink.old) (K.faults sink.new) result }
 {
-    let count = store.journal_changes();
-    let first = store.changes() - count;
-    send_records(store.journal_records(), first, count, sink, out)?;
+    let (active, later) = store.journal_counts();
+    let first = store.changes() - (active + later);
+    let (front, behind) = store.journal_records();
+    send_records(front, first, active, sink, out)?;
+    send_records(behind, first + active, later, sink, out)?;
     Ok(())
 }
 

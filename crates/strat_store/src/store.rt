@@ -1,6 +1,6 @@
 //! An open store: what it holds in memory of a disk, and how it carries out commands.
 
-ghost use Rattle.std.specs.Prelude.{◌≡◌, ◌≢◌, ◌<◌, ◌≤◌, ◌+◌, ◌*◌, ℕ, List, [], length, Some, None, Ok, Err, IfOk, IfErr, IsErrOf, OnErr, OnOk, is_ok, true, false, slice_get};
+ghost use Rattle.std.specs.Prelude.{◌≡◌, ◌≢◌, ◌<◌, ◌≤◌, ◌+◌, ◌*◌, ℕ, List, [], length, take, drop, Some, None, Ok, Err, IfOk, IfErr, IsErrOf, OnErr, OnOk, is_ok, true, false, slice_get};
 ghost use Rattle.strat_array.specs.Kept.{Blocks};
 ghost use Rattle.strat_base.specs.Change.{Change as TheChange};
 ghost use Rattle.strat_base.specs.ChangeView.{change_of};
