@@ -1,5 +1,5 @@
 -- The contents that a promotion and the next manifest make.
-use Rattle.std.proofs.Common.{◌≡◌, ◌≤◌, ◌<◌, ℕ, suc, Bool, true, false, cond, leb, ltb, inl, inr, List, [], ◌∷◌, ◌++◌, length, map, filter, fold, drop, Option, Some, refl, sym, ap, ◌∙◌, arith, not, eqb, replicate, None}
+use Rattle.std.proofs.Common.{◌≡◌, ◌≤◌, ◌<◌, ℕ, suc, Bool, true, false, cond, leb, ltb, inl, inr, List, [], ◌∷◌, ◌++◌, length, map, filter, drop, Option, Some, refl, sym, ap, ◌∙◌, arith, not, eqb, replicate, None}
 use Rattle.std.specs.Option.{option_to_list}
 use Rattle.std.proofs.Math.Seq.{drop-append_seam}
 use Rattle.std.proofs.lemmas.Bool.{and_parts, cases_lt, lt-leb, le-leb, lt-ltb, le-ltb, ltb-true, not-true, eqb-true}
@@ -25,14 +25,14 @@ use Rattle.def_publish.proofs.PromotedLemmas.{sealed_ordered}
 use Rattle.def_slice.proofs.LastLemmas.{last_promotes}
 use Rattle.def_publish.proofs.OccupiedLemmas.{array_blocks_used, taken_beside, free_beside}
 use Rattle.def_publish.specs.Appending.{IsLogOf}
-use Rattle.def_publish.specs.Contents.{Contents, contents_head, contents_state, later_part, sealed_part, sealed_state}
+use Rattle.def_publish.specs.Contents.{Contents, contents_head, contents_state, later_part, sealed_state}
 use Rattle.strat_promote.specs.Replacing.{LeavesTheSame}
 use Rattle.def_publish.specs.Next.{AreNewArrays, IsNextOf, IsPromotion, MayBeNext, arrays_made}
 use Rattle.def_publish.specs.Occupied.{IsSpaceOf, extents_of}
 use Rattle.def_publish.specs.Standing.{ContentsStand, ReadsAs}
 use Rattle.def_state.specs.Level.{Level}
 use Rattle.def_state.specs.Sound.{IsSound, is_tree, is_tree_from}
-use Rattle.def_state.specs.State.{marks_after, marks_of, versions_of}
+use Rattle.def_state.specs.State.{marks_of, versions_of}
 use Rattle.strat_memory.specs.Memory.{Memory, IsMemoryOf, oldest_parents}
 use Rattle.strat_publish.specs.Publishing.{IsComputed, IsWrittenBeside, contents_after, descs_to, descs_behind}
 use Rattle.def_bytes.specs.Layout.{newest_format}

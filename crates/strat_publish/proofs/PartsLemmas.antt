@@ -1,5 +1,5 @@
 -- Changes in two parts, those up to a seal and those that came since: both are accepted in turn.
-use Rattle.std.proofs.Common.{◌≡◌, ◌+◌, ℕ, suc, Bool, true, ◌&&◌, List, [], ◌∷◌, ◌++◌, length, fold, None, refl, sym, ap, ◌∙◌, arith}
+use Rattle.std.proofs.Common.{◌≡◌, ◌+◌, ℕ, suc, true, List, [], ◌∷◌, ◌++◌, length, fold, None, refl, sym, ap, ◌∙◌, arith}
 use Rattle.std.proofs.lemmas.Bool.{and_parts, and_from}
 use Rattle.strat_base.specs.Change.{Change}
 use Rattle.strat_base.specs.Marks.{Marks, none_dropped}

@@ -1,5 +1,5 @@
 -- Memory that is ready for a publication, level 0 sealed, and memory that lets go of what was.
-use Rattle.std.proofs.Common.{◌≡◌, ◌≤◌, ℕ, true, inl, inr, List, [], length, drop, take, fold, not, ◌++◌, Option, None, Some, sym, ap, ◌∙◌, subst, arith, true≢false}
+use Rattle.std.proofs.Common.{◌≡◌, ◌≤◌, ℕ, true, inl, inr, List, length, drop, take, fold, not, ◌++◌, Option, None, Some, sym, ap, ◌∙◌, subst, arith, true≢false}
 use Rattle.std.specs.Option.{option_map}
 use Rattle.std.specs.Prelude.{is_some}
 use Rattle.std.proofs.lemmas.List.{take-append-drop}

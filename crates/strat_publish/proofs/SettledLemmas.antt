@@ -438,8 +438,7 @@ pub found_next : (s t : Held) (m : Memory) (target : ℕ) (sb : Super) (chained 
     × (s.memory.sealed ≡ None → t.memory ≡ record (emptied s.sb.mem s.memory) { cursors = t.memory.cursors })
 found_next s t m target sb chained levels made same some full whole low is are =
     let gone : List ArrayDesc = arrays_taken target s.chained.manifest in
-    let memory : t.memory ≡ renewed gone m = ap (λ (h : Held). h.memory) is in
-    (
+    let memory : t.memory ≡ renewed gone m = ap (λ (h : Held). h.memory) is in (
       ap (λ (h : Held). h.slot) is,
       published_after target s.sb.mem s.sb sb t.sb s.chained.manifest chained.manifest t.chained.manifest s.memory m t.memory s.filters t.filters made low same (ap (λ (h : Held). h.sb) is) (ap (λ (h : Held). h.chained.manifest) is) memory (ap (λ (h : Held). h.filters) is) are,
       ap (λ (h : Held). h.log.list) is ∙ ap (λ (n : ℕ). drop n s.log.list) whole.log.mem,
