@@ -42,7 +42,8 @@ pub fn a_following_run_keeps_to_its_log<D: Viewed>()
     ensures ok { (path : List ℕ) (status changes versions : ℕ) (x y : Streams) (d e : D)
         (f : Image) (log : List Change)
         → Runs (Some (Follow path)) 1099511627776 status (beside x (D.view d)) (beside y (D.view e))
-        → Exposes (D.view d) f → IsLog changes versions log → EachOfLog changes versions log (D.view d)
+        → Exposes (D.view d) f → IsLog changes versions log
+        → EachOfLog changes versions log (D.view d)
         → (how : Ended) × (status ≡ status_of how)
         × (c : CopiesLog changes versions log how (beside x (D.view d)) (beside y (D.view e)))
         × Took x.left y.left c.taken × Splits c.taken c.bodies c.rest

@@ -13,9 +13,9 @@ turn_of next number =
     if number == next then turn.Take else if nat_lt number next then turn.Old else turn.Gap
 
 -- what became of a body, as it is told
-abbrev pub fate_of : Told → Fate
-fate_of told.Taken = kept.Taken
-fate_of told.Old = kept.Old
-fate_of told.Gap = kept.Gap
-fate_of told.Malformed = kept.Malformed
-fate_of (told.Refused cause) = kept.Refused cause
+abbrev pub fate_seen : Told → Fate
+fate_seen told.Taken = kept.Taken
+fate_seen told.Old = kept.Old
+fate_seen told.Gap = kept.Gap
+fate_seen told.Malformed = kept.Malformed
+fate_seen (told.Refused cause) = kept.Refused cause

@@ -12,7 +12,7 @@ ghost use Rattle.strat_loop.specs.Spoken.{SpokenOutcome};
 ghost use Rattle.strat_loop.specs.World.{world};
 ghost use Rattle.strat_follow.specs.Copying.{CopiesLogs};
 ghost use Rattle.strat_follow.specs.Follows.{AsksNext, IsPassedBy, follows};
-ghost use Rattle.strat_follow.specs.Turns.{fate_of};
+ghost use Rattle.strat_follow.specs.Turns.{fate_seen};
 
 use crate::frames::write_receipt;
 use crate::numbers::turn;
@@ -29,7 +29,7 @@ use strat_model::{Command, Ended, Refusal, Reply};
 
 /// What becomes of a change that was next, by the reply to it.
 fn fate_for(reply: &Reply) -> Fate
-    ensures { fate_of result ≡ fate_for reply.now }
+    ensures { fate_seen result ≡ fate_for reply.now }
 {
     match *reply {
         Reply::Refused(cause) => Fate::Refused(cause),
@@ -125,7 +125,7 @@ pub fn follow<S: Source, K: Sink, D: Disk>(
         (D.view disk.old) (D.faults disk.old))
         (world (S.left source.new) (S.faults source.new) (K.held sink.new) (K.faults sink.new)
         (D.view disk.new) (D.faults disk.new)) }
-    ensures images { CopiesLogs result
+    ensures kept { CopiesLogs result
         (world (S.left source.old) (S.faults source.old) (K.held sink.old) (K.faults sink.old)
         (D.view disk.old) (D.faults disk.old))
         (world (S.left source.new) (S.faults source.new) (K.held sink.new) (K.faults sink.new)

@@ -5,7 +5,7 @@ ghost use Rattle.strat_base.specs.Change.{is_lawful, change_bytes};
 ghost use Rattle.strat_base.specs.ChangeView.{change_of};
 ghost use Rattle.def_follow.specs.Following.{cause_byte, fate_byte, receipt_frame};
 ghost use Rattle.def_follow.specs.Numbered.{change_frame};
-ghost use Rattle.strat_follow.specs.Turns.{fate_of};
+ghost use Rattle.strat_follow.specs.Turns.{fate_seen};
 
 use crate::receipts::Fate;
 use strat_base::{Change, change_size, put_change};
@@ -16,7 +16,7 @@ const CHANGE_MAX: usize = 1287;
 
 /// The byte that says what became of a body.
 fn fate_byte(fate: Fate) -> u8
-    ensures { result ≡ fate_byte (fate_of fate) }
+    ensures { result ≡ fate_byte (fate_seen fate) }
 {
     match fate {
         Fate::Taken => 0,
@@ -29,7 +29,7 @@ fn fate_byte(fate: Fate) -> u8
 
 /// The byte that says why a change was refused, and 0 if none was.
 fn cause_byte(fate: Fate) -> u8
-    ensures { result ≡ cause_byte (fate_of fate) }
+    ensures { result ≡ cause_byte (fate_seen fate) }
 {
     match fate {
         Fate::Refused(cause) => refusal_status(cause),
@@ -41,7 +41,7 @@ fn cause_byte(fate: Fate) -> u8
 pub(crate) fn write_receipt(number: u32, fate: Fate, next: u32, out: &mut OutBuf)
     ensures ok { out.new ≡ receipt_frame (record {
       number = number;
-      fate = fate_of fate;
+      fate = fate_seen fate;
       next = next;
     }) }
     ensures len { length out.new ≡ 14 }

@@ -200,7 +200,7 @@ pub fn lead<S: Source, K: Sink, D: Disk>(
         (D.view disk.old) (D.faults disk.old))
         (world (S.left source.new) (S.faults source.new) (K.held sink.new) (K.faults sink.new)
         (D.view disk.new) (D.faults disk.new)) }
-    ensures trail { LeadsTables budget result
+    ensures kept { LeadsTables budget result
         (world (S.left source.old) (S.faults source.old) (K.held sink.old) (K.faults sink.old)
         (D.view disk.old) (D.faults disk.old))
         (world (S.left source.new) (S.faults source.new) (K.held sink.new) (K.faults sink.new)

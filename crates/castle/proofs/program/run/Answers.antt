@@ -162,7 +162,7 @@ returns-in-Some-Lead-clause-ok g c =
       c.status-in-Some-Lead.ensures,
       record {
         outcome = c.lead.ensures.ok;
-        leads = c.lead.ensures.trail;
+        leads = c.lead.ensures.kept;
         refuses = c.lead.ensures.found;
         cause = c.lead.ensures.cause;
         complete = λ calm f exposed. completes 1099511627776 c.lead.result before now f outcome c.lead.ensures.found c.lead.ensures.cause calm.source calm.sink calm.disk exposed;
@@ -188,7 +188,7 @@ returns-in-Some-Follow-clause-ok g c =
       c.status-in-Some-Follow.ensures,
       record {
         outcome = c.follow.ensures.ok;
-        copies = c.follow.ensures.images;
+        copies = c.follow.ensures.kept;
         refuses = c.follow.ensures.found;
         cause = c.follow.ensures.cause;
         complete = λ calm f exposed. completes 1099511627776 c.follow.result before now f outcome c.follow.ensures.found c.follow.ensures.cause calm.source calm.sink calm.disk exposed;

@@ -14,16 +14,16 @@ use Rattle.strat_follow.proofs.leading.lead.Goals.{After-serve_open, In_default-
 abbrev shown : (g : Over) → g.row.S.Denot → g.row.K.Denot → g.row.D.Denot → World
 shown g source sink disk = world (g.S.Source.left source) (g.S.Source.faults source) (g.K.Sink.held sink) (g.K.Sink.faults sink) (g.D.Disk.view disk) (g.D.Disk.faults disk)
 
-pub returns-in_default-clause-trail : goal.returns-in_default-clause-trail
-returns-in_default-clause-trail g c =
+pub returns-in_default-clause-kept : goal.returns-in_default-clause-kept
+returns-in_default-clause-kept g c =
     let before = shown g c.args.source.now c.args.sink.now c.args.disk.now in
     leads_tables c.args.budget ended.NoMemory before before (inl (no_memory before))
 
 pub returns-in-Err-clause-ok : goal.returns-in-Err-clause-ok
 returns-in-Err-clause-ok g c = inl (c.in-Err.ensures.err (g.S.Source.left c.args.source.now) (g.K.Sink.held c.args.sink.now) (g.S.Source.faults c.args.source.now) (g.K.Sink.faults c.args.sink.now))
 
-pub returns-in-Err-clause-trail : goal.returns-in-Err-clause-trail
-returns-in-Err-clause-trail g c =
+pub returns-in-Err-clause-kept : goal.returns-in-Err-clause-kept
+returns-in-Err-clause-kept g c =
     leads_tables c.args.budget c.in-Err.how (shown g c.args.source.now c.args.sink.now c.args.disk.now) (shown g c.args.source.now c.args.sink.now c.open_store.new.disk)
     (inl (c.in-Err.ensures.err (g.S.Source.left c.args.source.now) (g.K.Sink.held c.args.sink.now) (g.S.Source.faults c.args.source.now) (g.K.Sink.faults c.args.sink.now)))
 
@@ -45,10 +45,10 @@ stopped g c =
 pub returns-in_default-send_journal-clause-ok : goal.returns-in_default-send_journal-clause-ok
 returns-in_default-send_journal-clause-ok g c = inr (inl (stopped g (goal.at.returns-in_default-send_journal-clause-ok g c).In_default-send_journal))
 
-pub returns-in_default-send_journal-clause-trail : goal.returns-in_default-send_journal-clause-trail
-returns-in_default-send_journal-clause-trail g c =
+pub returns-in_default-send_journal-clause-kept : goal.returns-in_default-send_journal-clause-kept
+returns-in_default-send_journal-clause-kept g c =
     leads_tables c.args.budget ended.Sink (shown g c.args.source.now c.args.sink.now c.args.disk.now) (shown g c.args.source.now c.send_journal.new.sink c.open_store.new.disk)
-    (inr (inl (stopped g (goal.at.returns-in_default-send_journal-clause-trail g c).In_default-send_journal)))
+    (inr (inl (stopped g (goal.at.returns-in_default-send_journal-clause-kept g c).In_default-send_journal)))
 
 -- what was served after the opening
 led : (g : Over) (c : After-serve_open g) → LeadsOn c.args.budget c.serve_open.result (shown g c.args.source.now c.args.sink.now c.args.disk.now)
@@ -69,10 +69,10 @@ led g c =
 pub returns-clause-ok : goal.returns-clause-ok
 returns-clause-ok g c = inr (inr (led g (goal.at.returns-clause-ok g c).After-serve_open))
 
-pub returns-clause-trail : goal.returns-clause-trail
-returns-clause-trail g c =
+pub returns-clause-kept : goal.returns-clause-kept
+returns-clause-kept g c =
     leads_tables c.args.budget c.serve_open.result (shown g c.args.source.now c.args.sink.now c.args.disk.now) (shown g c.serve_open.new.source c.serve_open.new.sink c.serve_open.new.disk)
-    (inr (inr (led g (goal.at.returns-clause-trail g c).After-serve_open)))
+    (inr (inr (led g (goal.at.returns-clause-kept g c).After-serve_open)))
 
 pub returns-clause-found : goal.returns-clause-found
 returns-clause-found g c = c.serve_open.ensures.found c.args.disk.now c.in-Ok-open_store.ensures.ok.0
