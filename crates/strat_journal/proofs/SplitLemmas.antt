@@ -7,7 +7,7 @@ use Rattle.strat_base.specs.Change.{Change, is_lawful}
 use Rattle.def_bytes.specs.Layout.{region_at, other_region}
 use Rattle.def_bytes.specs.Records.{records_bytes}
 use Rattle.strat_journal.specs.Buffered.{Buffered, KeepsBoth, no_records, AreOfBoth}
-use Rattle.strat_journal.specs.Log.{Log, MayAppend, taking, gate_in, gate_of, room_of, region_turned}
+use Rattle.strat_journal.specs.Log.{Log, HasRoomToAppend, taking, gate_in, gate_of, room_of, region_turned}
 use Rattle.strat_journal.proofs.TakingLemmas.{taken_short, taken_long}
 
 -- a list of no length
@@ -88,7 +88,7 @@ module _ (mem active : ℕ) (stale : Bool) (front back : Buffered) (keeps : Keep
     | inr full ↦ ap (λ (l : Log). l.list) (taken_long whole (omega (arith, size, full.0))) ∙ drop_at front.list back.list mem full.0
   ]
 
-  pub may_append : list_all is_lawful back.list ≡ true → list_all is_lawful back.batch ≡ true → length back.list + length back.batch ≤ back.mem → MayAppend whole
+  pub may_append : list_all is_lawful back.list ≡ true → list_all is_lawful back.batch ≡ true → length back.list + length back.batch ≤ back.mem → HasRoomToAppend whole
   may_append list_fits batch_fits few = record {
     list_fits = ap (list_all is_lawful) taken ∙ list_fits;
     batch_fits = batch_fits;

@@ -9,7 +9,7 @@ use Rattle.std.specs.List.{list_all}
 use Rattle.strat_base.specs.Change.{is_lawful}
 use Rattle.def_bytes.specs.Records.{records_bytes}
 use Rattle.strat_gate.specs.Raising.{BehindOrRaised}
-use Rattle.strat_journal.specs.Log.{Log, Stands, GivesAllOrNone, MayAppend, batch_joined, batch_region, behind_log, taking, gate_in, gate_of}
+use Rattle.strat_journal.specs.Log.{Log, Stands, GivesAllOrNone, HasRoomToAppend, batch_joined, batch_region, behind_log, taking, gate_in, gate_of}
 use Rattle.strat_journal.proofs.AppendLemmas.{Ready, any_given, all_given}
 use Rattle.strat_journal.proofs.BehindLemmas.{any_behind, all_behind}
 use Rattle.strat_journal.proofs.LaidLemmas.{length-records_bytes, region_takes}
@@ -40,7 +40,7 @@ high part ready rest split = omega (
 )
 
 -- an append, over the views of the disk before and after it
-module _ (log : Log) (may : MayAppend log) (some : 0 < length log.batch) (rest : List ℕ) (split : 0xa7 ∷ rest ≡ records_bytes log.batch ++ 0 ∷ []) where
+module _ (log : Log) (may : HasRoomToAppend log) (some : 0 < length log.batch) (rest : List ℕ) (split : 0xa7 ∷ rest ≡ records_bytes log.batch ++ 0 ∷ []) where
   ready_short : length log.list < log.mem → Ready log
   ready_short short = let same = taken_short log short in record {
     list_fits = ap (λ (l : Log). list_all is_lawful l.list) (sym same) ∙ may.list_fits;

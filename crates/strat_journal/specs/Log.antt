@@ -104,7 +104,7 @@ pub record HoldsBatch (old new : DiskView) (log : Log) : Type 0 where
   pub settled : IsDurable new
 
 -- a journal that may take its batch: the changes are lawful, and find room where they go
-pub record MayAppend (log : Log) : Type 0 where
+pub record HasRoomToAppend (log : Log) : Type 0 where
   pub list_fits : list_all is_lawful (taking log).list ≡ true
   pub batch_fits : list_all is_lawful log.batch ≡ true
   pub few : length (taking log).list + length log.batch ≤ log.mem

@@ -11,7 +11,7 @@ ghost use Rattle.def_bytes.specs.Records.{records_bytes};
 ghost use Rattle.def_crash.specs.Moments.{Exposes, Since, Passes, TearsOnly, IsDurable};
 ghost use Rattle.strat_journal.specs.Buffered.{AreOfBoth};
 ghost use Rattle.strat_journal.specs.RegionReader.{AreRecords};
-ghost use Rattle.strat_journal.specs.Log.{Stands, GivesAllOrNone, GivesLater, HoldsBatch, KeepsShortJournal, MayAppend, batch_joined, batch_region, gate_of, room_of, region_turned, with_list, empty_log, IsRegionShut};
+ghost use Rattle.strat_journal.specs.Log.{Stands, GivesAllOrNone, GivesLater, HoldsBatch, KeepsShortJournal, HasRoomToAppend, batch_joined, batch_region, gate_of, room_of, region_turned, with_list, empty_log, IsRegionShut};
 
 use crate::closing::close_region;
 use crate::read::RegionRecords;
@@ -191,8 +191,8 @@ impl Journal {
     /// The offset of the gate of the batch's first record.
     fn gate(&self) -> u64
         ensures ok { result ≡ gate_of self.now }
-        ensures fits { MayAppend self.now }
-        ensures len { result < 2 ^ 24 }
+        ensures room { HasRoomToAppend self.now }
+        ensures fits { result < 2 ^ 24 }
     {
         let region = if self.front.count() == 0 {
             self.active
