@@ -14,3 +14,4 @@ pub mod RenewingLemmas
 pub mod LeavingLemmas
 pub mod StagingLemmas
 pub mod CommitLemmas
+pub mod ExportLemmas
