@@ -1,0 +1,4 @@
+pub mod FramingLemmas
+pub mod PageLemmas
+pub mod RunLemmas
+pub mod ExportLemmas
