@@ -2,3 +2,4 @@ pub mod FramingLemmas
 pub mod PageLemmas
 pub mod RunLemmas
 pub mod ExportLemmas
+pub mod DenseLemmas

@@ -1,8 +1,13 @@
-//! Laws of what an export writes. Each is the contract of a function that does nothing.
+//! Laws of what an export reads and writes. Each is the contract of a function that does nothing.
 
-ghost use Rattle.std.specs.Prelude.{◌≡◌, ◌≤◌, ℕ, List, length, map};
+ghost use Rattle.std.specs.Prelude.{◌≡◌, ◌≤◌, ◌<◌, ◌*◌, ℕ, List, length, map, Contains, Some};
 ghost use Rattle.strat_bulk.specs.Runs.{AreLawful, IsRunByTable};
 ghost use Rattle.def_bulk.specs.Exporting.{put_bodies, sole_version};
+ghost use Rattle.def_state.specs.Level.{Level, TaggedArray};
+ghost use Rattle.def_state.specs.Live.{live};
+ghost use Rattle.def_state.specs.LookUp.{array_asked, of_state};
+ghost use Rattle.def_state.specs.Sound.{IsSound};
+ghost use Rattle.def_state.specs.State.{State, versions_of};
 ghost use Rattle.strat_model.specs.Kept.{IsMap};
 ghost use Rattle.strat_model.specs.Pairs.{Pairs};
 ghost use Rattle.strat_model.specs.Run.{Exchange, IsRun, Position};
@@ -25,3 +30,12 @@ pub fn an_export_is_served_again()
     bodies_have_one_command();
     an_export_gives_its_map();
 }
+
+/// Of each level an export reads the array that is asked at its version. In a sound state that has at most three entries for
+/// each that is live at the version.
+pub fn an_array_that_is_read_is_a_third_live()
+    ensures ok { (s : State) (level : Level) (a : TaggedArray) (v : ℕ) → IsSound s
+        → Contains s.levels level → v < length (versions_of s)
+        → array_asked of_state (versions_of s) level v ≡ Some a
+        → length a.content ≤ 3 * length (live (versions_of s) a.content v) }
+{}
