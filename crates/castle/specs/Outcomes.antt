@@ -20,7 +20,8 @@ use Rattle.def_crash.specs.Faults.{Rose}
 use Rattle.def_check.specs.Checked.{checked}
 use Rattle.strat_report.specs.Checking.{EndsCheck, SaysCheck, WritesCheck}
 use Rattle.strat_report.specs.Reporting.{levels_text, WritesReport, IsComplete}
-use Rattle.castle.specs.Arguments.{Subcommand, Serve, Format, Levels, Check, Workload}
+use Rattle.castle.specs.Arguments.{Subcommand, Serve, Format, Levels, Check, Workload, Export}
+use Rattle.castle.specs.Exporting.{ExportsVersion}
 use Rattle.castle.specs.Working.{EndsWorkload, LeavesWorkload, SendsSummary}
 
 -- a run ended as its input does, or at the budget, or before it began for want of memory
@@ -130,6 +131,8 @@ Runs (Some (Check path)) budget status before now =
     (how : Ended) × (status ≡ status_of how) × ChecksStore how before now
 Runs (Some (Workload path seed count)) budget status before now =
     (how : Ended) × (status ≡ status_of how) × RunsWorkload seed count how before now
+Runs (Some (Export path version)) budget status before now =
+    (how : Ended) × (status ≡ status_of how) × ExportsVersion version how before now
 
 -- a run on this disk ended before it read or wrote anything but the disk: with no store, out of
 -- memory, or with a damaged block where recovery finds one
@@ -152,12 +155,14 @@ LeavesAlone (Some (Check path)) before status source sink disk =
     source × ((status ≡ 2) ⊎ (status ≡ 5) ⊎ (status ≡ 8) → sink)
 LeavesAlone (Some (Workload path seed count)) before status source sink disk =
     source × ((status ≡ 2) ⊎ (status ≡ 5) ⊎ (status ≡ 8) → sink)
+LeavesAlone (Some (Export path version)) before status source sink disk =
+    source × ((status ≡ 2) ⊎ (status ≡ 8) ⊎ (status ≡ 12) → sink)
 
 -- the forms of the program's arguments
 abbrev pub usage_text : List ℕ
 usage_text =
     codes "usage: castle format FILE M C V, serve FILE, levels FILE, check FILE, "
-    ++ codes "workload FILE SEED COUNT"
+    ++ codes "workload FILE SEED COUNT, export FILE VERSION"
 
 -- what a status means
 abbrev pub text_of : ℕ → List ℕ

@@ -3,6 +3,8 @@
 
 mod any_image;
 mod arguments;
+mod export_laws;
+mod exporting;
 mod formatting;
 mod headline;
 mod laws;

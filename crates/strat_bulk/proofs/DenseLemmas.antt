@@ -1,5 +1,5 @@
 -- An array that is read at a version is a third live at it.
-use Rattle.std.proofs.Common.{◌≡◌, ◌≤◌, ◌<◌, ◌*◌, ◌&&◌, ℕ, Bool, true, false, not, cond, eqb, leb, ltb, inl, inr, List, [], ◌∷◌, length, filter, find, Option, Some, refl, sym, ap, ◌∙◌, subst, arith, true≢false}
+use Rattle.std.proofs.Common.{◌≡◌, ◌≤◌, ◌<◌, ◌*◌, ◌&&◌, ℕ, Bool, true, false, not, cond, eqb, leb, ltb, inl, inr, List, [], ◌∷◌, length, filter, Some, refl, sym, ap, subst, arith}
 use Rattle.std.specs.List.{Contains, list_any}
 use Rattle.std.proofs.lemmas.Bool.{cases_eq, eqb-true, leb-true}
 use Rattle.def_recovery.proofs.BadLemmas.{contained_at}

@@ -1,5 +1,5 @@
 -- A run over the puts of a map.
-use Rattle.std.proofs.Common.{◌≡◌, ◌≤◌, ◌<◌, ◌+◌, ◌^◌, ℕ, suc, leb, true, inl, inr, List, [], ◌∷◌, length, map, Option, Some, None, refl, sym, ap, ◌∙◌, subst, arith}
+use Rattle.std.proofs.Common.{◌≡◌, ◌≤◌, ◌<◌, ◌+◌, ◌^◌, ℕ, suc, leb, true, inl, inr, List, [], ◌∷◌, length, map, ap, ◌∙◌, arith}
 use Rattle.std.proofs.lemmas.Bool.{and_parts, leb-true}
 use Rattle.strat_base.specs.Sizes.{is_key, is_value}
 use Rattle.def_bulk.specs.Exporting.{put_bodies, puts_of}
@@ -7,7 +7,7 @@ use Rattle.def_follow.specs.Log.{after_change, table_after}
 use Rattle.strat_base.specs.Change as change
 use Rattle.strat_model.specs.Pairs.{Pair, Pairs}
 use Rattle.strat_model.specs.Request.{Request, Put}
-use Rattle.strat_model.specs.Run.{AnswersByTable, Exchange, IsRun, Position}
+use Rattle.strat_model.specs.Run.{Exchange, IsRun, Position}
 use Rattle.strat_model.specs.Spelling.{HasForm, command_body}
 use Rattle.strat_model.specs.Step.{step}
 use Rattle.strat_model.specs.Table.{Table}

@@ -120,12 +120,5 @@ pub(crate) fn write_version<K: Sink, D: Disk>(
         Ok(walk) => walk,
         Err(fault) => return Ended::from(fault),
     };
-    write_pages(
-        &mut walk,
-        sink,
-        disk,
-        &mut cache,
-        &mut page,
-        &mut frames,
-    )
+    write_pages(&mut walk, sink, disk, &mut cache, &mut page, &mut frames)
 }

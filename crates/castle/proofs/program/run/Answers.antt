@@ -149,3 +149,20 @@ returns-in-Some-Workload-clause-same g c =
     let named = c.in-Some-Workload.ensures ∙ ap (λ (j : Borrowed). Some (subcommand_seen j)) c.in-Some-Workload.field-0-is in
     subst (λ (s : Option Subcommand). LeavesAlone s (g.D.Disk.view c.args.disk.now) c.status-in-Some-Workload.result (c.args.source.now ≡ c.args.source.now) (c.run_workload.new.sink ≡ c.args.sink.now) (c.run_workload.new.disk ≡ c.args.disk.now)) (sym named)
     (refl, λ is. c.run_workload.ensures.same (silent_by c.run_workload.result (subst (λ (n : ℕ). (n ≡ 2) ⊎ (n ≡ 5) ⊎ (n ≡ 8)) c.status-in-Some-Workload.ensures is)))
+
+pub returns-in-Some-Export-clause-ok : goal.returns-in-Some-Export-clause-ok
+returns-in-Some-Export-clause-ok g c =
+    let before = shown g c.args.source.now c.args.sink.now c.args.disk.now in
+    let now = shown g c.args.source.now c.export_version.new.sink c.export_version.new.disk in
+    let named = c.in-Some-Export.ensures ∙ ap (λ (j : Borrowed). Some (subcommand_seen j)) c.in-Some-Export.field-0-is in
+    subst (λ (s : Option Subcommand). Runs s 1099511627776 c.status-in-Some-Export.result before now) (sym named) (
+      c.export_version.result,
+      c.status-in-Some-Export.ensures,
+      c.export_version.ensures.ok before.left before.source_faults,
+    )
+
+pub returns-in-Some-Export-clause-same : goal.returns-in-Some-Export-clause-same
+returns-in-Some-Export-clause-same g c =
+    let named = c.in-Some-Export.ensures ∙ ap (λ (j : Borrowed). Some (subcommand_seen j)) c.in-Some-Export.field-0-is in
+    subst (λ (s : Option Subcommand). LeavesAlone s (g.D.Disk.view c.args.disk.now) c.status-in-Some-Export.result (c.args.source.now ≡ c.args.source.now) (c.export_version.new.sink ≡ c.args.sink.now) (c.export_version.new.disk ≡ c.args.disk.now)) (sym named)
+    (refl, λ is. c.export_version.ensures.same (subst (λ (n : ℕ). (n ≡ 2) ⊎ (n ≡ 8) ⊎ (n ≡ 12)) c.status-in-Some-Export.ensures is))

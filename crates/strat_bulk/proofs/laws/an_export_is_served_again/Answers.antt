@@ -1,4 +1,4 @@
-use Rattle.std.proofs.Common.{◌≡◌, ap, subst, ◌∙◌, arith}
+use Rattle.std.proofs.Common.{ap, ◌∙◌, arith}
 use Rattle.def_bulk.specs.Exporting.{puts_of}
 use Rattle.def_follow.specs.Log.{table_after}
 use Rattle.strat_model.specs.Table.{Table}

@@ -1,4 +1,4 @@
-use Rattle.std.proofs.Common.{◌≡◌, [], sym, subst, ◌∙◌}
+use Rattle.std.proofs.Common.{[], sym, subst, ◌∙◌}
 use Rattle.def_crash.proofs.MomentLemmas.{reads_trans}
 use Rattle.strat_cursor.specs.Views.{arrays_read}
 use Rattle.strat_model.specs.Pairs.{Pairs}

@@ -1,11 +1,4 @@
-use Rattle.std.proofs.Common.{◌≡◌, ◌≤◌, ◌+◌, ◌%◌, ◌*◌, ◌++◌, ℕ, suc, List, [], ◌∷◌, length, take, ap, sym, subst, ◌∙◌, arith}
-use Rattle.std.specs.List.{flat_map}
-use Rattle.std.proofs.lemmas.List.{take_more}
-use Rattle.strat_model.specs.Pairs.{Pair, Pairs}
-use Rattle.strat_model.specs.Request.{Put}
-use Rattle.strat_model.specs.Spelling.{command_body}
-use Rattle.strat_model.specs.Stream.{frame}
-use Rattle.def_bulk.specs.Exporting.{put_bodies}
+use Rattle.std.proofs.Common.{◌≡◌, ◌+◌, ◌%◌, ℕ, suc, ap, sym, ◌∙◌, arith}
 use Rattle.strat_bulk.proofs.FramingLemmas.{page_more}
 use Rattle.strat_bulk.proofs.framing.PutFrames.frame_page.Goals as goal
 

@@ -1,4 +1,4 @@
-use Rattle.std.proofs.Common.{◌≡◌, ◌≤◌, ◌++◌, ℕ, List, length, ap, sym, subst, ◌∙◌, arith}
+use Rattle.std.proofs.Common.{◌≤◌, ◌++◌, ℕ, List, length, ap, sym, subst, ◌∙◌, arith}
 use Rattle.strat_model.specs.Request.{Put}
 use Rattle.strat_bulk.specs.Framing.{Framed}
 use Rattle.strat_bulk.proofs.FramingLemmas.{next_tag, put_len, tagged}
