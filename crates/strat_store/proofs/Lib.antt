@@ -14,4 +14,3 @@ pub mod RenewingLemmas
 pub mod LeavingLemmas
 pub mod StagingLemmas
 pub mod CommitLemmas
-pub mod ExportLemmas

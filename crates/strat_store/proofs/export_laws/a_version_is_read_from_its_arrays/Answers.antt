@@ -1,4 +1,4 @@
-use Rattle.strat_store.proofs.ExportLemmas.{read_sound, read_whole}
+use Rattle.strat_store.proofs.RangingLemmas.{read_sound, read_whole}
 use Rattle.strat_store.proofs.export_laws.a_version_is_read_from_its_arrays.Goals as goal
 
 pub returns-clause-ok : goal.returns-clause-ok

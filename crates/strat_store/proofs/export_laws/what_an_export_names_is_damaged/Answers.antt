@@ -1,4 +1,4 @@
-use Rattle.strat_store.proofs.ExportLemmas.{named_damaged}
+use Rattle.strat_store.proofs.RangingLemmas.{named_damaged}
 use Rattle.strat_store.proofs.export_laws.what_an_export_names_is_damaged.Goals as goal
 
 pub returns : goal.returns

@@ -1,7 +1,7 @@
 use Rattle.std.proofs.Common.{sym, subst}
 use Rattle.strat_memory.specs.Held.{IsConsistent}
 use Rattle.strat_store.specs.StoreFields.{store_held}
-use Rattle.strat_store.proofs.ExportLemmas.{picked_kept}
+use Rattle.strat_store.proofs.RangingLemmas.{picked_kept}
 use Rattle.strat_store.proofs.store.Store.picked.Goals as goal
 
 pub returns-clause-kept : goal.returns-clause-kept
