@@ -46,7 +46,6 @@ pub fn export_pairs<K: Sink, D: Disk>(
         → AreTold result told (pairs_at (table_of (contents_state x)) version)) }
     ensures none { (result ≡ ended.UnknownVersion)
         ↔ (is_known store.now.memory.parents version ≡ false) }
-    ensures err { IsUnbegun result → (sink.new ≡ sink.old) × (disk.new ≡ disk.old) }
     ensures end { EndsExport result }
     ensures found { (x : Contents) → StandsWith (D.view disk.old) store.now x
         → ¬ Rose (D.faults disk.old) (D.faults disk.new)
@@ -54,7 +53,8 @@ pub fn export_pairs<K: Sink, D: Disk>(
     ensures damaged { (b : ℕ) → result ≡ ended.Damaged b
         → NamesNoBlock (D.view disk.old).content
         (arrays_asked store.now.memory.parents store.now.levels version) b }
-    ensures same { OnlyReads (D.view disk.old) (D.view disk.new) }
+    ensures same { OnlyReads (D.view disk.old) (D.view disk.new)
+        × (IsUnbegun result → (sink.new ≡ sink.old) × (disk.new ≡ disk.old)) }
     ensures cause { ExportHasCause result (D.faults disk.old) (D.faults disk.new)
         (K.faults sink.old) (K.faults sink.new) }
     ensures reads { ReadsAtMost
