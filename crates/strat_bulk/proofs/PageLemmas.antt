@@ -11,7 +11,7 @@ use Rattle.strat_base.specs.declared.descriptors.ArrayDesc.{ArrayDesc}
 use Rattle.strat_base.specs.declared.failures.Fault.{Fault}
 use Rattle.strat_base.specs.declared.failures.Fault.TheVariants as fault
 use Rattle.strat_cursor.specs.Looking.{AreCachedFrom}
-use Rattle.strat_cursor.specs.Walking.{GivesPage, HasLeft}
+use Rattle.strat_cursor.specs.Walking.{GivesPage, HasPairsLeft}
 use Rattle.strat_cursor.specs.declared.walk.Walk.{Walk}
 use Rattle.strat_io.specs.Streams.{Appends}
 use Rattle.strat_model.specs.Pairs.{Pairs}
@@ -37,7 +37,7 @@ pub record PagesSoFar (content : Option Image) (held now : Option (List ℕ)) (f
   pub told : Pairs
   pub wrote : Appends held now (exported told)
   pub next : (1 + length told) % 4294967296 ≡ tag
-  pub left : (f : Image) (m : Pairs) → content ≡ Some f → HasLeft f c first m → (rest : Pairs) × (m ≡ told ++ rest) × HasLeft f d walk rest
+  pub left : (f : Image) (m : Pairs) → content ≡ Some f → HasPairsLeft f c first m → (rest : Pairs) × (m ≡ told ++ rest) × HasPairsLeft f d walk rest
 
 -- none yet
 pub none_written : (content : Option Image) (held : Option (List ℕ)) (walk : Walk) (c : Blocks) (tag : ℕ) → tag ≡ 1 → PagesSoFar content held held walk walk c c tag
@@ -79,14 +79,14 @@ module _ (content : Option Image) (held now : Option (List ℕ)) (first walk : W
   both page = frames_then 1 so_far.told page
 
   -- no page more
-  pub stopped : (e : Fault) → (told : Pairs) × WritesPairs (broken_by e) held now told × ((f : Image) (m : Pairs) → content ≡ Some f → HasLeft f c first m → AreTold (broken_by e) told m)
+  pub stopped : (e : Fault) → (told : Pairs) × WritesPairs (broken_by e) held now told × ((f : Image) (m : Pairs) → content ≡ Some f → HasPairsLeft f c first m → AreTold (broken_by e) told m)
   stopped fault.Device = (so_far.told, so_far.wrote, λ f m exposed has. let left = so_far.left f m exposed has in (left.0, left.1))
   stopped (fault.Damaged b) = (so_far.told, so_far.wrote, λ f m exposed has. let left = so_far.left f m exposed has in (left.0, left.1))
 
   module _ (page : Pairs) where
     -- a page was written, and others follow
     pub page_written : (new : Option (List ℕ)) (next : Walk) (e : Blocks) (after : ℕ) → Appends now new (flat_map frame (put_bodies (1 + length so_far.told) page)) → ((1 + length so_far.told) + length page) % 4294967296 ≡ after
-        → ((f : Image) (m : Pairs) → content ≡ Some f → HasLeft f d walk m → GivesPage f e next m page true) → PagesSoFar content held new first next c e after
+        → ((f : Image) (m : Pairs) → content ≡ Some f → HasPairsLeft f d walk m → GivesPage f e next m page true) → PagesSoFar content held new first next c e after
     page_written new next e after wrote tags gives = record {
       told = so_far.told ++ page;
       wrote = subst (λ (bytes : List ℕ). Appends held new bytes) (sym (both page)) (appends_then held now new (exported so_far.told) (flat_map frame (put_bodies (1 + length so_far.told) page)) so_far.wrote wrote);
@@ -102,8 +102,8 @@ module _ (content : Option Image) (held now : Option (List ℕ)) (first walk : W
 
     -- the last one was
     pub all_written : (new : Option (List ℕ)) (next : Walk) (e : Blocks) → Appends now new (flat_map frame (put_bodies (1 + length so_far.told) page))
-        → ((f : Image) (m : Pairs) → content ≡ Some f → HasLeft f d walk m → GivesPage f e next m page false)
-        → (told : Pairs) × Appends held new (exported told) × ((f : Image) (m : Pairs) → content ≡ Some f → HasLeft f c first m → told ≡ m)
+        → ((f : Image) (m : Pairs) → content ≡ Some f → HasPairsLeft f d walk m → GivesPage f e next m page false)
+        → (told : Pairs) × Appends held new (exported told) × ((f : Image) (m : Pairs) → content ≡ Some f → HasPairsLeft f c first m → told ≡ m)
     all_written new next e wrote gives = (
       so_far.told ++ page,
       subst (λ (bytes : List ℕ). Appends held new bytes) (sym (both page)) (appends_then held now new (exported so_far.told) (flat_map frame (put_bodies (1 + length so_far.told) page)) so_far.wrote wrote),
@@ -112,8 +112,8 @@ module _ (content : Option Image) (held now : Option (List ℕ)) (first walk : W
 
     -- the sink failed at it
     pub cut : (new : Option (List ℕ)) (next : Walk) (e : Blocks) (more : Bool) (n : ℕ) → n < length (flat_map frame (put_bodies (1 + length so_far.told) page)) → Appends now new (take n (flat_map frame (put_bodies (1 + length so_far.told) page)))
-        → ((f : Image) (m : Pairs) → content ≡ Some f → HasLeft f d walk m → GivesPage f e next m page more)
-        → (told : Pairs) × WritesPairs ended.Sink held new told × ((f : Image) (m : Pairs) → content ≡ Some f → HasLeft f c first m → AreTold ended.Sink told m)
+        → ((f : Image) (m : Pairs) → content ≡ Some f → HasPairsLeft f d walk m → GivesPage f e next m page more)
+        → (told : Pairs) × WritesPairs ended.Sink held new told × ((f : Image) (m : Pairs) → content ≡ Some f → HasPairsLeft f c first m → AreTold ended.Sink told m)
     cut new next e more n less wrote gives =
         let front = exported so_far.told in
         let bytes = flat_map frame (put_bodies (1 + length so_far.told) page) in

@@ -6,7 +6,7 @@ ghost use Rattle.def_crash.specs.Faults.{ReadsAtMost, Rose};
 ghost use Rattle.def_crash.specs.Moments.{OnlyReads};
 ghost use Rattle.def_meaning.specs.StateTable.{table_of};
 ghost use Rattle.def_publish.specs.Contents.{Contents, contents_state};
-ghost use Rattle.strat_cursor.specs.Looking.{NamesNoBlock, arrays_asked, blocks_in};
+ghost use Rattle.strat_cursor.specs.Looking.{NamesNoBlock, arrays_asked, blocks_of_arrays};
 ghost use Rattle.strat_memory.specs.Held.{IsConsistent, StandsWith};
 ghost use Rattle.strat_model.specs.Pairs.{Pairs};
 ghost use Rattle.strat_model.specs.Step.{pairs_at};
@@ -58,7 +58,7 @@ pub fn export_pairs<K: Sink, D: Disk>(
     ensures cause { ExportHasCause result (D.faults disk.old) (D.faults disk.new)
         (K.faults sink.old) (K.faults sink.new) }
     ensures reads { ReadsAtMost
-        (blocks_in (arrays_asked store.now.memory.parents store.now.levels version))
+        (blocks_of_arrays (arrays_asked store.now.memory.parents store.now.levels version))
         (D.reads disk.old) (D.reads disk.new) }
 {
     if !store.known(version) {

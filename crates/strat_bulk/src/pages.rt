@@ -4,10 +4,10 @@ ghost use Rattle.std.specs.Prelude.{◌≡◌, ◌<◌, ℕ, [], length, IfOk};
 ghost use Rattle.def_crash.specs.Faults.{ReadsAtMost};
 ghost use Rattle.def_crash.specs.Image.{Image};
 ghost use Rattle.def_crash.specs.Moments.{Exposes, OnlyReads};
-ghost use Rattle.strat_cursor.specs.Looking.{AreInOrder, HaveOwnIds, NamesNoBlock, blocks_in};
+ghost use Rattle.strat_cursor.specs.Looking.{AreInOrder, HaveOwnIds, NamesNoBlock, blocks_of_arrays};
 ghost use Rattle.strat_cursor.specs.Ranges.{IsMapSeen};
 ghost use Rattle.strat_cursor.specs.Views.{ViewStands, arrays_read, zeros_in};
-ghost use Rattle.strat_cursor.specs.Walking.{IsWalk, HasLeft, arrays_walked, reads_walked};
+ghost use Rattle.strat_cursor.specs.Walking.{IsWalk, HasPairsLeft, arrays_walked, reads_walked};
 ghost use Rattle.strat_model.specs.Pairs.{Pairs};
 ghost use Rattle.strat_model.specs.declared.ended.Ended.TheVariants as ended;
 ghost use Rattle.strat_bulk.specs.Ending.{WritesPairs, AreTold, EndsWalk, ExportHasCause};
@@ -61,7 +61,7 @@ fn write_pages<K: Sink, D: Disk>(
     requires none { frames.old.tag ≡ 1 }
     ensures ok { (told : Pairs) × WritesPairs result (K.held sink.old) (K.held sink.new) told
         × ((f : Image) (m : Pairs) → Exposes (D.view disk.old) f
-        → HasLeft f cache.old walk.old m → AreTold result told m) }
+        → HasPairsLeft f cache.old walk.old m → AreTold result told m) }
     ensures end { EndsWalk result }
     ensures damaged { (b : ℕ) → result ≡ ended.Damaged b
         → NamesNoBlock (D.view disk.old).content (arrays_walked walk.old) b }
@@ -107,7 +107,7 @@ pub(crate) fn write_version<K: Sink, D: Disk>(
     ensures same { OnlyReads (D.view disk.old) (D.view disk.new) }
     ensures cause { ExportHasCause result (D.faults disk.old) (D.faults disk.new)
         (K.faults sink.old) (K.faults sink.new) }
-    ensures reads { ReadsAtMost (blocks_in (arrays_read view.now version))
+    ensures reads { ReadsAtMost (blocks_of_arrays (arrays_read view.now version))
         (D.reads disk.old) (D.reads disk.new) }
 {
     let Room {

@@ -10,7 +10,7 @@ use Rattle.def_bytes.specs.Arrays.{blocks_of}
 use Rattle.def_recovery.proofs.BadLemmas.{contained_at}
 use Rattle.strat_cursor.proofs.PinLemmas.{among_contained}
 use Rattle.strat_cursor.specs.Cursors.{CursorOver, arrays_named, arrays_of_number}
-use Rattle.strat_cursor.specs.Looking.{HaveFewBlocks, ReadsArrays, blocks_in, reads_of_arrays}
+use Rattle.strat_cursor.specs.Looking.{HaveFewBlocks, ReadsArrays, blocks_of_arrays, reads_of_arrays}
 use Rattle.strat_cursor.specs.Sources.{arrays_at, reads_of_source, reads_to_seek}
 use Rattle.strat_cursor.specs.declared.sources.Source.{Source}
 use Rattle.strat_cursor.specs.declared.sources.Source.TheVariants as source
@@ -35,11 +35,11 @@ reads_of_sources lo n (s ∷ sources) = omega (arith, sum_by-cons (reads_of_sour
     by (source.Array a) rest = omega (arith, rest, few lo)
 
 -- without a search sources read the blocks of their arrays at most
-pub reads_of_blocks : (sources : List Source) → sum_by (reads_of_source 0) sources ≡ blocks_in (flat_map arrays_at sources)
+pub reads_of_blocks : (sources : List Source) → sum_by (reads_of_source 0) sources ≡ blocks_of_arrays (flat_map arrays_at sources)
 reads_of_blocks [] = omega arith
 reads_of_blocks (s ∷ sources) = sum_by-cons (reads_of_source 0) s sources ∙ by s (reads_of_blocks sources)
   where
-    by : (t : Source) → sum_by (reads_of_source 0) sources ≡ blocks_in (flat_map arrays_at sources) → reads_of_source 0 t + sum_by (reads_of_source 0) sources ≡ blocks_in (arrays_at t ++ flat_map arrays_at sources)
+    by : (t : Source) → sum_by (reads_of_source 0) sources ≡ blocks_of_arrays (flat_map arrays_at sources) → reads_of_source 0 t + sum_by (reads_of_source 0) sources ≡ blocks_of_arrays (arrays_at t ++ flat_map arrays_at sources)
     by source.None rest = omega (arith, rest)
     by (source.Zero list) rest = omega (arith, rest)
     by (source.Array a) rest = omega (arith, rest)
@@ -50,10 +50,10 @@ under_power zero = omega arith
 under_power (suc n) = let less = under_power n in rw (pow-suc 2 n) (omega arith)
 
 -- arrays have fewer blocks than some power of two
-pub few_blocks : (arrays : List ArrayDesc) → HaveFewBlocks (blocks_in arrays) arrays
-few_blocks arrays a there = let own = go arrays (contained_at a arrays there.0 there.1 there.2) in omega (arith, own, under_power (blocks_in arrays))
+pub few_blocks : (arrays : List ArrayDesc) → HaveFewBlocks (blocks_of_arrays arrays) arrays
+few_blocks arrays a there = let own = go arrays (contained_at a arrays there.0 there.1 there.2) in omega (arith, own, under_power (blocks_of_arrays arrays))
   where
-    go : (rest : List ArrayDesc) → Among a rest → length (blocks_of a.extents) ≤ blocks_in rest
+    go : (rest : List ArrayDesc) → Among a rest → length (blocks_of a.extents) ≤ blocks_of_arrays rest
     go [] among = absurd among
     go (b ∷ rest) (inl here) = let same = ap (λ (x : ArrayDesc). length (blocks_of x.extents)) here in omega (arith, same)
     go (b ∷ rest) (inr among) = omega (arith, go rest among)

@@ -10,7 +10,7 @@ use Rattle.strat_cursor.specs.Emitting.{AreUpTo}
 use Rattle.strat_cursor.specs.Looking.{HaveOwnIds}
 use Rattle.strat_cursor.specs.Ranges.{IsMapSeen, IsPageOf}
 use Rattle.strat_cursor.specs.Views.{zeros_in}
-use Rattle.strat_cursor.specs.Walking.{GivesPage, HasLeft, arrays_walked, sources_walked}
+use Rattle.strat_cursor.specs.Walking.{GivesPage, HasPairsLeft, arrays_walked, sources_walked}
 use Rattle.strat_cursor.specs.declared.walk.Walk.{Walk}
 use Rattle.strat_cursor.proofs.FirstLemmas.{from_start}
 use Rattle.strat_cursor.proofs.RangeLemmas.{range_all}

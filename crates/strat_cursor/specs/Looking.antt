@@ -117,6 +117,6 @@ ReadsArrays arrays before now =
     (n : ℕ) → HaveFewBlocks n arrays → ReadsAtMost (reads_of_arrays n arrays) before now
 
 -- how many blocks arrays have
-abbrev pub blocks_in : List ArrayDesc → ℕ
-blocks_in [] = 0
-blocks_in (a ∷ arrays) = length (blocks_of a.extents) + blocks_in arrays
+abbrev pub blocks_of_arrays : List ArrayDesc → ℕ
+blocks_of_arrays [] = 0
+blocks_of_arrays (a ∷ arrays) = length (blocks_of a.extents) + blocks_of_arrays arrays

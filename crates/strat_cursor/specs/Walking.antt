@@ -44,7 +44,7 @@ abbrev pub reads_walked : Walk → ℕ
 reads_walked w = sum_over reads_left (sources_walked w) w.positions.items
 
 -- in an image a walk has these pairs left: of the map that look-ups find at its version those after the last one told
-pub record HasLeft (f : Image) (c : Blocks) (w : Walk) (left : Pairs) : Type 0 where
+pub record HasPairsLeft (f : Image) (c : Blocks) (w : Walk) (left : Pairs) : Type 0 where
   pub map : Pairs
   pub own : HaveOwnIds (arrays_walked w)
   pub seen : IsMapSeen f w.view.now.tree.now.parents (zeros_in w.view.now) (arrays_walked w)
@@ -56,4 +56,4 @@ pub record HasLeft (f : Image) (c : Blocks) (w : Walk) (left : Pairs) : Type 0 w
 -- of what a walk had left these pairs were told: all, or it has the others left now
 abbrev pub GivesPage : Image → Blocks → Walk → Pairs → Pairs → Bool → Type 0
 GivesPage f c w left told false = told ≡ left
-GivesPage f c w left told true = (rest : Pairs) × (left ≡ told ++ rest) × HasLeft f c w rest
+GivesPage f c w left told true = (rest : Pairs) × (left ≡ told ++ rest) × HasPairsLeft f c w rest

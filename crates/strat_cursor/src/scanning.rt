@@ -126,7 +126,8 @@ pub(crate) fn tell_all<D: Disk>(
         × (more ≡ true → StandUpTo f cache.new query.now lo last.new.items positions.new
         × (out.old ++ range_after m lo query.now.hi.now last.old.items
         ≡ out.new ++ range_after m lo query.now.hi.now last.new.items))) }
-    ensures kept { IfOk result (λ more. (more ≡ true → IsUnderWay query.now positions.new winners.new)
+    ensures kept { IfOk result (λ more. (more ≡ true
+        → IsUnderWay query.now positions.new winners.new)
         × (steps_ahead query.now positions.new + length out.new
         ≤ steps_ahead query.now positions.old + length out.old)
         × (D.reads disk.new + reads_ahead query.now positions.new

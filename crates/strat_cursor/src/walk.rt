@@ -6,10 +6,10 @@ ghost use Rattle.def_crash.specs.Faults.{HasCause, ReadsAtMost};
 ghost use Rattle.def_crash.specs.Image.{Image};
 ghost use Rattle.def_crash.specs.Moments.{Exposes};
 ghost use Rattle.strat_model.specs.Pairs.{Pairs};
-ghost use Rattle.strat_cursor.specs.Looking.{LooksThrough, NamesNoBlock, blocks_in};
+ghost use Rattle.strat_cursor.specs.Looking.{LooksThrough, NamesNoBlock, blocks_of_arrays};
 ghost use Rattle.strat_cursor.specs.Ranges.{FillsPage, IsMapSeen};
 ghost use Rattle.strat_cursor.specs.Views.{ViewStands, IsReadable, arrays_read, zeros_in};
-ghost use Rattle.strat_cursor.specs.Walking.{IsWalk, HasLeft, GivesPage, arrays_walked, reads_walked, steps_walked};
+ghost use Rattle.strat_cursor.specs.Walking.{IsWalk, HasPairsLeft, GivesPage, arrays_walked, reads_walked, steps_walked};
 
 use crate::picking::{Sources, pick};
 use crate::query::Query;
@@ -47,7 +47,7 @@ impl<'a> Walk<'a> {
         ensures ok { IfOk result (λ w. (f : Image) (next : ℕ) (m : Pairs)
             → Exposes (D.view disk.old) f → IsReadable f next view.now version cache.old
             → IsMapSeen f view.now.tree.now.parents (zeros_in view.now)
-            (arrays_read view.now version) version m → HasLeft f cache.new w m) }
+            (arrays_read view.now version) version m → HasPairsLeft f cache.new w m) }
         ensures kept { IfOk result (λ w. IsWalk w
             × (arrays_walked w ≡ arrays_read view.now version)) }
         ensures same { LooksThrough (D.view disk.old) (D.view disk.new)
@@ -55,10 +55,10 @@ impl<'a> Walk<'a> {
         ensures damaged { (b : ℕ) → IsErrOf result (Damaged b)
             → NamesNoBlock (D.view disk.old).content (arrays_read view.now version) b }
         ensures cause { HasCause Device (D.faults disk.old) (D.faults disk.new) result }
-        ensures reads { ReadsAtMost (blocks_in (arrays_read view.now version))
+        ensures reads { ReadsAtMost (blocks_of_arrays (arrays_read view.now version))
             (D.reads disk.old) (D.reads disk.new) }
         ensures room { IfOk result (λ w. D.reads disk.new + reads_walked w
-            ≤ D.reads disk.old + blocks_in (arrays_read view.now version)) }
+            ≤ D.reads disk.old + blocks_of_arrays (arrays_read view.now version)) }
     {
         let sources = pick(view, version);
         let ScanBuffers {
@@ -99,7 +99,7 @@ impl<'a> Walk<'a> {
     ) -> Result<bool, Fault>
         requires kept { IsWalk self.old }
         ensures ok { IfOk result (λ more. (f : Image) (m : Pairs) → Exposes (D.view disk.old) f
-            → HasLeft f cache.old self.old m → GivesPage f cache.new self.new m out.new more) }
+            → HasPairsLeft f cache.old self.old m → GivesPage f cache.new self.new m out.new more) }
         ensures kept { IfOk result (λ more. more ≡ true → IsWalk self.new) }
         ensures end { IfOk result (λ more. more ≡ true
             → steps_walked self.new < steps_walked self.old) }

@@ -2,7 +2,7 @@ use Rattle.std.proofs.Common.{◌≡◌, Bool, List, ℕ, sym, subst, ◌∙◌,
 use Rattle.std.specs.Prelude.{Some}
 use Rattle.def_crash.proofs.MomentLemmas.{reads_trans}
 use Rattle.def_crash.specs.Image.{Image}
-use Rattle.strat_cursor.specs.Walking.{GivesPage, HasLeft}
+use Rattle.strat_cursor.specs.Walking.{GivesPage, HasPairsLeft}
 use Rattle.strat_io.specs.Streams.{Appends}
 use Rattle.strat_model.specs.Pairs.{Pairs}
 use Rattle.strat_model.specs.declared.ended.Ended.{Ended}
@@ -15,7 +15,7 @@ returns-in-Err-clause-ok g c =
     let v = g.D.Disk.view c.args.disk.now in
     let before = g.K.Sink.held c.args.sink.now in
     let now = g.K.Sink.held c.loop-more.sink in
-    subst (λ (how : Ended). (told : Pairs) × WritesPairs how before now told × ((f : Image) (m : Pairs) → v.content ≡ Some f → HasLeft f c.args.cache.now c.args.walk.now m → AreTold how told m)) (sym c.from.ensures)
+    subst (λ (how : Ended). (told : Pairs) × WritesPairs how before now told × ((f : Image) (m : Pairs) → v.content ≡ Some f → HasPairsLeft f c.args.cache.now c.args.walk.now m → AreTold how told m)) (sym c.from.ensures)
     (stopped v.content before now c.args.walk.now c.loop-more.walk c.args.cache.now c.loop-more.cache c.loop-more.frames.tag c.loop-more.invariant.so_far c.in-Err.fault)
 
 pub returns-in-Err-clause-same : goal.returns-in-Err-clause-same

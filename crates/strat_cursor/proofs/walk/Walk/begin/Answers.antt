@@ -3,7 +3,7 @@ use Rattle.std.specs.Vec.{with_items}
 use Rattle.std.proofs.lemmas.List.{with_items_is}
 use Rattle.def_crash.specs.Faults.{ReadsAtMost}
 use Rattle.strat_cursor.specs.Emitting.{AreUpTo}
-use Rattle.strat_cursor.specs.Looking.{blocks_in}
+use Rattle.strat_cursor.specs.Looking.{blocks_of_arrays}
 use Rattle.strat_cursor.specs.Views.{arrays_read}
 use Rattle.strat_cursor.specs.declared.scan_buffers.SourcePosition.{SourcePosition}
 use Rattle.strat_cursor.proofs.ReadLemmas.{few_blocks, reads_of_blocks}
@@ -13,14 +13,14 @@ use Rattle.strat_cursor.proofs.walk.Walk.begin.Goals as goal
 pub returns-in_err-begin_contest-clause-reads : goal.returns-in_err-begin_contest-clause-reads
 returns-in_err-begin_contest-clause-reads g c =
     let arrays = arrays_read c.args.view.now c.args.version in
-    let most = reads_of_blocks (take c.pick-sources.result.count c.pick-sources.result.places) ∙ ap blocks_in c.pick-sources.ensures.ok.arrays in
-    subst (λ (n : ℕ). ReadsAtMost n (g.D.Disk.reads c.args.disk.now) (g.D.Disk.reads c.begin_contest.new.disk)) most (c.begin_contest.ensures.reads (blocks_in arrays) (few_blocks arrays))
+    let most = reads_of_blocks (take c.pick-sources.result.count c.pick-sources.result.places) ∙ ap blocks_of_arrays c.pick-sources.ensures.ok.arrays in
+    subst (λ (n : ℕ). ReadsAtMost n (g.D.Disk.reads c.args.disk.now) (g.D.Disk.reads c.begin_contest.new.disk)) most (c.begin_contest.ensures.reads (blocks_of_arrays arrays) (few_blocks arrays))
 
 pub returns-clause-reads : goal.returns-clause-reads
 returns-clause-reads g c =
     let arrays = arrays_read c.args.view.now c.args.version in
-    let most = reads_of_blocks (take c.pick-sources.result.count c.pick-sources.result.places) ∙ ap blocks_in c.pick-sources.ensures.ok.arrays in
-    subst (λ (n : ℕ). ReadsAtMost n (g.D.Disk.reads c.args.disk.now) (g.D.Disk.reads c.begin_contest.new.disk)) most (c.begin_contest.ensures.reads (blocks_in arrays) (few_blocks arrays))
+    let most = reads_of_blocks (take c.pick-sources.result.count c.pick-sources.result.places) ∙ ap blocks_of_arrays c.pick-sources.ensures.ok.arrays in
+    subst (λ (n : ℕ). ReadsAtMost n (g.D.Disk.reads c.args.disk.now) (g.D.Disk.reads c.begin_contest.new.disk)) most (c.begin_contest.ensures.reads (blocks_of_arrays arrays) (few_blocks arrays))
 
 pub returns-clause-ok : goal.returns-clause-ok
 returns-clause-ok g c = λ f next m exposed may seen.
@@ -41,8 +41,8 @@ returns-clause-ok g c = λ f next m exposed may seen.
 pub returns-clause-room : goal.returns-clause-room
 returns-clause-room g c =
     let arrays = arrays_read c.args.view.now c.args.version in
-    let most = reads_of_blocks (take c.pick-sources.result.count c.pick-sources.result.places) ∙ ap blocks_in c.pick-sources.ensures.ok.arrays in
+    let most = reads_of_blocks (take c.pick-sources.result.count c.pick-sources.result.places) ∙ ap blocks_of_arrays c.pick-sources.ensures.ok.arrays in
     let len = c.begin_contest.ensures.len.0 in
     let positions_is : (with_items c.truncate.new.self c.begin_contest.new.positions).items ≡ c.begin_contest.new.positions =
     with_items_is c.truncate.new.self c.begin_contest.new.positions (len ∙ c.deref_mut.ensures.len) in
-    rw positions_is (omega (arith, c.in_ok-begin_contest.ensures.room (blocks_in arrays) (few_blocks arrays), most))
+    rw positions_is (omega (arith, c.in_ok-begin_contest.ensures.room (blocks_of_arrays arrays) (few_blocks arrays), most))
