@@ -43,7 +43,7 @@ _castle() {
             return
         fi
     elif [ "$at" -eq 1 ]; then
-        COMPREPLY=($(compgen -W "format serve levels check workload lead follow --overwrite --build --help --version" -- "$word"))
+        COMPREPLY=($(compgen -W "format serve levels check workload lead follow export --overwrite --build --help --version" -- "$word"))
         return
     fi
     if [ "$at" -eq 2 ]; then

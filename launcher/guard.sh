@@ -21,7 +21,7 @@ forget_lock() {
 
 # The program's own line. It stands here too, so that nothing has to be built to say it.
 usage() {
-    refuse 1 "usage: castle format FILE M C V, serve FILE, levels FILE, check FILE, workload FILE SEED COUNT, lead FILE, follow FILE"
+    refuse 1 "usage: castle format FILE M C V, serve FILE, levels FILE, check FILE, workload FILE SEED COUNT, lead FILE, follow FILE, export FILE VERSION"
 }
 
 show_help() {
@@ -36,6 +36,7 @@ castle keeps dictionaries whose versions form a tree, in one file.
     castle workload FILE SEED COUNT   makes a store of COUNT drawn changes, and prints a summary
     castle lead FILE                  serves a store, and sends its changes in place of replies
     castle follow FILE                carries out the changes of a leader on a store
+    castle export FILE VERSION        writes the pairs of a version as frames that put them, at version 0
     castle --overwrite format ..      the same where FILE is not empty, which is lost; also workload
     castle --build                    proves and builds the program, where that has to be done
     castle --version, castle --help   say what this is
@@ -58,6 +59,7 @@ check_words() {
     case ${1-}:$#:$overwrite in
         serve:2: | levels:2: | check:2: | lead:2: | follow:2:) ;;
         format:5:*) is_number "$3" 4 4096 && is_number "$4" 1 16777216 && is_number "$5" 1 16384 || usage ;;
+        export:3:) is_number "$3" 0 4294967295 || usage ;;
         workload:4:*) is_number "$3" 0 18446744073709551615 && is_number "$4" 0 1000000 || usage ;;
         *) usage ;;
     esac
@@ -77,7 +79,7 @@ refuse_stream() {
 # Sets `real` to the path of FILE without symbolic links. Its last byte may be a line feed.
 resolve() {
     case $1 in
-        serve | levels | check | lead | follow)
+        serve | levels | check | lead | follow | export)
             if [ ! -e "$2" ]; then
                 folder=$(dirname -- "$2")
                 [ ! -d "$folder" ] || [ -x "$folder" ] || refuse 5 "$2: its folder can't be entered"
@@ -104,7 +106,7 @@ look_at_file() {
         refuse 5 "$2: it is no plain file"
     fi
     case $1 in
-        serve | levels | check | lead | follow)
+        serve | levels | check | lead | follow | export)
             [ -r "$real" ] && [ -w "$real" ] || refuse 5 "$2: it can't be read and written; castle-shell reads a copy"
             seems_store || refuse 2 "$2: not a store"
             ;;
@@ -300,8 +302,8 @@ run() {
         case $1 in
             format | workload) make_store "$@" ;;
         esac
-        # Behind `exec` nobody takes it away. `levels` is refused what `serve` is, and changes nothing. Where `serve` runs
-        # none the less, the lock on FILE itself keeps others away.
+        # Behind `exec` nobody takes it away. `levels` is refused what `serve` and `export` are, and changes nothing. Where
+        # one of these runs none the less, the lock on FILE itself keeps others away.
         if [ -n "$made_lock" ] && ! "$program" levels "$2" </dev/null >/dev/null 2>&1; then
             forget_lock
         fi

@@ -259,7 +259,7 @@ def bash_completes_words_and_files(folder):
     for name in ("a b.store", "a.store", "other"):
         with open(os.path.join(folder, name), "w"):
             pass
-    every = {"format", "serve", "levels", "check", "workload", "--overwrite", "--build", "--help", "--version"}
+    every = {"format", "serve", "levels", "check", "workload", "export", "--overwrite", "--build", "--help", "--version"}
     for words, wanted in (
         (["castle", ""], every), (["./castle", "--"], {word for word in every if word.startswith("--")}), (["castle", "f"], {"format"}),
         (["castle", "--overwrite", ""], {"format", "workload"}), (["castle", "--overwrite", "w"], {"workload"}),

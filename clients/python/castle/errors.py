@@ -196,7 +196,8 @@ class Ended(CastleError):
 
 class WrongUsage(Ended):
     status = 1
-    text = "usage: castle format FILE M C V, serve FILE, levels FILE, check FILE, workload FILE SEED COUNT, lead FILE, follow FILE"
+    text = ("usage: castle format FILE M C V, serve FILE, levels FILE, check FILE, workload FILE SEED COUNT, "
+            "lead FILE, follow FILE, export FILE VERSION")
     what = "the program refused its arguments, and touched no file"
     remedy = "M is 4 to 4096, C is 1 to 16777216, V is 1 to 16384; the path has to be UTF-8."
 

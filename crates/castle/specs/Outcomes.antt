@@ -25,7 +25,8 @@ use Rattle.strat_loop.specs.Spoken.{SpokenOutcome}
 use Rattle.strat_follow.specs.Copying.{CopiesLogs}
 use Rattle.strat_follow.specs.Follows.{follows}
 use Rattle.strat_follow.specs.Leading.{LeadOutcome, LeadsTables}
-use Rattle.castle.specs.Arguments.{Subcommand, Serve, Format, Levels, Check, Workload, Lead, Follow}
+use Rattle.castle.specs.Arguments.{Subcommand, Serve, Format, Levels, Check, Workload, Lead, Follow, Export}
+use Rattle.castle.specs.Exporting.{ExportsVersion}
 use Rattle.castle.specs.Working.{EndsWorkload, LeavesWorkload, SendsSummary}
 
 -- a run ended as its input does, or at the budget, or before it began for want of memory
@@ -163,6 +164,8 @@ Runs (Some (Lead path)) budget status before now =
     (how : Ended) × (status ≡ status_of how) × LeadsFollowers budget how before now
 Runs (Some (Follow path)) budget status before now =
     (how : Ended) × (status ≡ status_of how) × FollowsLeader budget how before now
+Runs (Some (Export path version)) budget status before now =
+    (how : Ended) × (status ≡ status_of how) × ExportsVersion version how before now
 
 -- a run on this disk ended before it read or wrote anything but the disk: with no store, out of
 -- memory, or with a damaged block where recovery finds one
@@ -189,12 +192,14 @@ LeavesAlone (Some (Lead path)) before status source sink disk =
     IsEarly before status → source × sink
 LeavesAlone (Some (Follow path)) before status source sink disk =
     IsEarly before status → source × sink
+LeavesAlone (Some (Export path version)) before status source sink disk =
+    source × ((status ≡ 2) ⊎ (status ≡ 8) ⊎ (status ≡ 12) → sink)
 
 -- the forms of the program's arguments
 abbrev pub usage_text : List ℕ
 usage_text =
     codes "usage: castle format FILE M C V, serve FILE, levels FILE, check FILE, "
-    ++ codes "workload FILE SEED COUNT, lead FILE, follow FILE"
+    ++ codes "workload FILE SEED COUNT, lead FILE, follow FILE, export FILE VERSION"
 
 -- what a status means
 abbrev pub text_of : ℕ → List ℕ

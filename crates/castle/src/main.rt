@@ -4,6 +4,8 @@
 mod any_image;
 mod arguments;
 mod copies;
+mod export_laws;
+mod exporting;
 mod formatting;
 mod headline;
 mod laws;

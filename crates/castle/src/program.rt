@@ -7,6 +7,7 @@ ghost use Rattle.castle.specs.Arguments.{subcommand_in};
 ghost use Rattle.castle.specs.Outcomes.{Runs, LeavesAlone, text_of};
 
 use crate::arguments::{Subcommand, subcommand_of};
+use crate::exporting::export_version;
 use crate::formatting::make_store;
 use crate::working::run_workload;
 use std::alloc::Global;
@@ -34,6 +35,7 @@ pub(crate) const BUDGET: u64 = 1_099_511_627_776;
 /// - A workload makes a store, serves its changes to it and reads it once more.
 /// - Leading and following cost what serving does. A leader makes one write more for each change of the journal at its
 ///   start.
+/// - An export of a version reads each block of the version's arrays once, and takes 1.4 MB beside what an opening takes.
 pub fn run<S: Source, K: Sink, D: Disk>(
     alloc: Global,
     words: &[String],
@@ -72,6 +74,9 @@ pub fn run<S: Source, K: Sink, D: Disk>(
         ) => run_workload(alloc, sink, disk, seed, count).status(),
         Some(Subcommand::Lead { path: _ }) => lead(alloc, source, sink, disk, BUDGET).status(),
         Some(Subcommand::Follow { path: _ }) => follow(alloc, source, sink, disk, BUDGET).status(),
+        Some(Subcommand::Export { path: _, version }) => {
+            export_version(alloc, sink, disk, version).status()
+        }
     }
 }
 
@@ -82,7 +87,7 @@ pub fn status_text(status: u8) -> &'static str
     match status {
         0 => "done",
         1 => {
-            "usage: castle format FILE M C V, serve FILE, levels FILE, check FILE, workload FILE SEED COUNT, lead FILE, follow FILE"
+            "usage: castle format FILE M C V, serve FILE, levels FILE, check FILE, workload FILE SEED COUNT, lead FILE, follow FILE, export FILE VERSION"
         }
         2 => "not a store",
         3 => "frame too long",

@@ -313,7 +313,7 @@ fn arguments_name_a_file(rt: HostRuntime) {
 fn each_status_has_its_text(rt: HostRuntime) {
     let texts = [
         "done",
-        "usage: castle format FILE M C V, serve FILE, levels FILE, check FILE, workload FILE SEED COUNT, lead FILE, follow FILE",
+        "usage: castle format FILE M C V, serve FILE, levels FILE, check FILE, workload FILE SEED COUNT, lead FILE, follow FILE, export FILE VERSION",
         "not a store",
         "frame too long",
         "truncated input",

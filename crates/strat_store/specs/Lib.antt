@@ -5,3 +5,4 @@ pub mod Staging
 pub mod StoreFields
 pub mod Applying
 pub mod Cursoring
+pub mod Exporting

@@ -4,6 +4,7 @@
 mod changing;
 mod cursors;
 pub mod damage_laws;
+pub mod export_laws;
 mod filtering;
 mod get;
 mod level_lookup;

@@ -1,11 +1,11 @@
 //! An open store: what it holds in memory of a disk, and how it carries out commands.
 
-ghost use Rattle.std.specs.Prelude.{◌≡◌, ◌≢◌, ◌<◌, ◌≤◌, ◌+◌, ◌*◌, ℕ, List, [], length, take, drop, Some, None, Ok, Err, IfOk, IfErr, IsErrOf, OnErr, OnOk, is_ok, true, false, slice_get};
+ghost use Rattle.std.specs.Prelude.{◌≡◌, ◌≢◌, ◌<◌, ◌≤◌, ◌+◌, ◌*◌, ℕ, List, [], length, take, drop, Some, None, Ok, Err, IfOk, IfErr, IsErrOf, OnErr, OnOk, is_ok, true, false, slice_get, ◌∷◌, IsTrue};
 ghost use Rattle.strat_array.specs.Kept.{Blocks};
 ghost use Rattle.strat_base.specs.Change.{Change as TheChange};
 ghost use Rattle.strat_base.specs.ChangeView.{change_of};
 ghost use Rattle.strat_base.specs.Finds.{Finds};
-ghost use Rattle.strat_base.specs.Tree.{is_known};
+ghost use Rattle.strat_base.specs.Tree.{IsTree, is_known};
 ghost use Rattle.def_crash.specs.Faults.{CountsFaults, HasCause, ReadsAtMost};
 ghost use Rattle.def_crash.specs.Image.{Image};
 ghost use Rattle.def_crash.specs.Moments.{Exposes, Images, Passes, Since};
@@ -29,7 +29,8 @@ ghost use Rattle.strat_store.specs.Cursoring.{IsAppliedAt, LeavesCursors, cursor
 ghost use Rattle.strat_open.specs.Following.{IsOpenedAs, IsUnchanged, LeavesOpening};
 ghost use Rattle.strat_memory.specs.Held.{IsConsistent, StandsAt, StandsWith, arrays_held};
 ghost use Rattle.strat_memory.specs.Memory.{KeepsRows, info_told};
-ghost use Rattle.strat_cursor.specs.Looking.{AreOfOldArrays, LooksThrough, ReadsArrays};
+ghost use Rattle.strat_cursor.specs.Looking.{AreOfOldArrays, LooksThrough, MayBeFound, ReadsArrays, arrays_asked};
+ghost use Rattle.strat_cursor.specs.Views.{ViewStands, arrays_read, zeros_in};
 ghost use Rattle.strat_memory.specs.Paying.{StoreTwoSince};
 ghost use Rattle.strat_store.specs.Filtering.{KeepsFilter};
 ghost use Rattle.strat_store.specs.Ranging.{HasPairsFor, ReadsForLook, TellsFrom, arrays_wanted};
@@ -47,15 +48,18 @@ use crate::scan::scan_range;
 use crate::staging::{Replies, append_staged, stage_change};
 use std::alloc::Global;
 use std::marker::Model;
+use strat_arena::ArenaPool;
 use strat_array::{Cache, Scratch};
 use strat_base::limits::CACHED_BLOCKS;
-use strat_base::{Change, Failed, NoMemory, PairBuf, Version};
-use strat_cursor::ScanBuffers;
+use strat_base::{Arrays, Change, Failed, NoMemory, PairBuf, Version};
+use strat_cursor::{Picked, ScanBuffers, View, arrays_at};
 use strat_disk::Disk;
+use strat_level::ZeroView;
 use strat_memory::memory::Memory;
 use strat_memory::open_store::OpenStore;
 use strat_model::{Command, Refusal, Reply};
 use strat_open::{AttachFault, open};
+use strat_tree::Tree;
 
 /// An open store. It is seen as what it holds of a disk: the newest superblock and its slot, the manifest and the blocks of its
 /// chain, the journal, the versions and level 0, the levels, the blocks that are cached, and whether it is spent: after a fault
@@ -278,6 +282,63 @@ impl Store {
             × (result.1.now ≡ records_bytes (drop self.now.log.mem self.now.log.list)) }
     {
         self.held.journal.records()
+    }
+
+    /// Whether there is such a version. O(1).
+    pub fn known(&self, version: Version) -> bool
+        ensures ok { result ≡ is_known self.now.memory.parents version }
+    {
+        self.held.memory.has(version)
+    }
+
+    /// Copies of the descriptors of the arrays that hold a version, of each level one at most, the newest level's first.
+    /// O(22 log versions_max) and the time of copying them. The only error is want of memory.
+    pub fn picked(&self, version: Version) -> Result<Arrays, NoMemory>
+        requires kept { IsConsistent self.now × (self.now.spent ≡ false) }
+        requires found { IsTrue (is_known self.now.memory.parents version) }
+        ensures ok { IfOk result (λ arrays. arrays
+            ≡ arrays_asked self.now.memory.parents self.now.levels version) }
+        ensures kept { IfOk result (λ arrays. MayBeFound arrays × (length arrays ≤ 22)) }
+    {
+        let (_zero, _pool, tree) = self.held.memory.parts();
+        arrays_at(self.alloc, tree, &self.held.published.levels, version)
+    }
+
+    /// Level 0, and the sealed one, of which no store has any yet. O(1).
+    pub fn zeros(&self) -> (&ZeroView, Option<&ZeroView>)
+        ensures len { length result.0.now.items ≡ length self.now.memory.entries }
+        ensures none { result.1 ≡ None }
+    {
+        let (zero, _pool, _tree) = self.held.memory.parts();
+        (zero.view(), None)
+    }
+
+    /// The versions, and the pool that has the keys and values of level 0. O(1).
+    pub fn lend(&self) -> (&Tree, &ArenaPool)
+        ensures ok { result.0.now.parents ≡ self.now.memory.parents }
+        ensures kept { IsTree result.0.now.parents }
+    {
+        let (_zero, pool, tree) = self.held.memory.parts();
+        (tree, pool)
+    }
+
+    /// What the store's pairs are read through: all that `zeros` and `lend` lend, and these arrays in the place of the levels.
+    /// O(1).
+    pub fn view<'a>(&'a self, arrays: &'a Arrays) -> View<'a>
+        requires kept { MayBeFound arrays.now × (length arrays.now ≤ 22) }
+        ensures ok { (zeros_in result ≡ self.now.memory.entries ∷ [])
+            × (result.tree.now.parents ≡ self.now.memory.parents)
+            × ((v : ℕ) → arrays_read result v ≡ arrays.now) }
+        ensures kept { ViewStands result }
+    {
+        let (zero, pool, tree) = self.held.memory.parts();
+        View {
+            tree,
+            pool,
+            zero: zero.view(),
+            sealed: None,
+            levels: Picked::Pinned(arrays),
+        }
     }
 
     /// Whether the store keeps a filter of an array of its levels. One that was opened has none; its checkpoints make them, as

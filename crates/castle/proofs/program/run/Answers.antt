@@ -202,3 +202,20 @@ returns-in-Some-Follow-clause-same g c =
     let named = c.in-Some-Follow.ensures ∙ ap (λ (j : Borrowed). Some (subcommand_seen j)) c.in-Some-Follow.field-0-is in
     subst (λ (s : Option Subcommand). LeavesAlone s view c.status-in-Some-Follow.result (c.follow.new.source ≡ c.args.source.now) (c.follow.new.sink ≡ c.args.sink.now) (c.follow.new.disk ≡ c.args.disk.now)) (sym named)
     (λ is. c.follow.ensures.same (gave_up_by c.follow.result view (subst (λ (n : ℕ). IsEarly view n) c.status-in-Some-Follow.ensures is)))
+
+pub returns-in-Some-Export-clause-ok : goal.returns-in-Some-Export-clause-ok
+returns-in-Some-Export-clause-ok g c =
+    let before = shown g c.args.source.now c.args.sink.now c.args.disk.now in
+    let now = shown g c.args.source.now c.export_version.new.sink c.export_version.new.disk in
+    let named = c.in-Some-Export.ensures ∙ ap (λ (j : Borrowed). Some (subcommand_seen j)) c.in-Some-Export.field-0-is in
+    subst (λ (s : Option Subcommand). Runs s 1099511627776 c.status-in-Some-Export.result before now) (sym named) (
+      c.export_version.result,
+      c.status-in-Some-Export.ensures,
+      c.export_version.ensures.ok before.left before.source_faults,
+    )
+
+pub returns-in-Some-Export-clause-same : goal.returns-in-Some-Export-clause-same
+returns-in-Some-Export-clause-same g c =
+    let named = c.in-Some-Export.ensures ∙ ap (λ (j : Borrowed). Some (subcommand_seen j)) c.in-Some-Export.field-0-is in
+    subst (λ (s : Option Subcommand). LeavesAlone s (g.D.Disk.view c.args.disk.now) c.status-in-Some-Export.result (c.args.source.now ≡ c.args.source.now) (c.export_version.new.sink ≡ c.args.sink.now) (c.export_version.new.disk ≡ c.args.disk.now)) (sym named)
+    (refl, λ is. c.export_version.ensures.same (subst (λ (n : ℕ). (n ≡ 2) ⊎ (n ≡ 8) ⊎ (n ≡ 12)) c.status-in-Some-Export.ensures is))
