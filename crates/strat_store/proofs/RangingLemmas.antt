@@ -254,7 +254,7 @@ held_read v s levels f n whole w exposed is =
     (record {
       ordered = asked_ordered s.memory.parents s.levels n g (ordered v s levels whole w);
       ids = asked_own s.memory.parents s.levels n (whole_read s whole).own;
-      seen = map_seen g s.memory.parents s.memory.entries s.levels n m (table_asked v s levels whole w n is);
+      seen = map_seen g s.memory.parents (lists_in_memory s.memory) s.levels n m (table_asked v s levels whole w n is);
     })
 
 pub read_whole : (v : DiskView) (s : Held) (x : Contents) (f : Image) (n : ℕ) → IsConsistent s → StandsWith v s x → v.content ≡ Some f → is_known s.memory.parents n ≡ true

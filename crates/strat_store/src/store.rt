@@ -1,6 +1,7 @@
 //! An open store: what it holds in memory of a disk, and how it carries out commands.
 
-ghost use Rattle.std.specs.Prelude.{◌≡◌, ◌≢◌, ◌<◌, ◌≤◌, ◌+◌, ◌*◌, ℕ, List, [], length, take, drop, Some, None, Ok, Err, IfOk, IfErr, IsErrOf, OnErr, OnOk, is_ok, true, false, slice_get, ◌∷◌, IsTrue};
+ghost use Rattle.std.specs.Prelude.{◌≡◌, ◌≢◌, ◌<◌, ◌≤◌, ◌+◌, ◌*◌, ℕ, List, [], length, take, drop, Some, None, Ok, Err, IfOk, IfErr, IsErrOf, OnErr, OnOk, is_ok, true, false, slice_get, option_map, IsTrue};
+ghost use Rattle.std.specs.Option.{option_to_list};
 ghost use Rattle.strat_array.specs.Kept.{Blocks};
 ghost use Rattle.strat_base.specs.Change.{Change as TheChange};
 ghost use Rattle.strat_base.specs.ChangeView.{change_of};
@@ -28,9 +29,12 @@ ghost use Rattle.strat_publish.specs.Outcomes.{IsDamagedIn};
 ghost use Rattle.strat_store.specs.Cursoring.{IsAppliedAt, LeavesCursors, cursors_after};
 ghost use Rattle.strat_open.specs.Following.{IsOpenedAs, IsUnchanged, LeavesOpening};
 ghost use Rattle.strat_memory.specs.Held.{IsConsistent, StandsAt, StandsWith, arrays_held};
-ghost use Rattle.strat_memory.specs.Memory.{KeepsRows, info_told};
+ghost use Rattle.strat_memory.specs.Memory.{KeepsRows, info_told, lists_in_memory, sealed_entries};
 ghost use Rattle.strat_cursor.specs.Looking.{AreOfOldArrays, LooksThrough, MayBeFound, ReadsArrays, arrays_asked};
+ghost use Rattle.strat_arena.specs.declared.pool.PoolEntry.{PoolEntry};
+ghost use Rattle.strat_cursor.specs.Ranges.{sealed_held};
 ghost use Rattle.strat_cursor.specs.Views.{ViewStands, arrays_read, zeros_in};
+ghost use Rattle.strat_level.specs.Memtable.{entries_held};
 ghost use Rattle.strat_memory.specs.Paying.{StoreTwoSince};
 ghost use Rattle.strat_store.specs.Filtering.{KeepsFilter};
 ghost use Rattle.strat_store.specs.Ranging.{HasPairsFor, ReadsForLook, TellsFrom, arrays_wanted};
@@ -304,21 +308,23 @@ impl Store {
         arrays_at(self.alloc, tree, &self.held.published.levels, version)
     }
 
-    /// Level 0, and the sealed one, of which no store has any yet. O(1).
+    /// Level 0, and the sealed one, where there is one: their keys and values are in one pool, which `lend` lends. O(1).
     pub fn zeros(&self) -> (&ZeroView, Option<&ZeroView>)
-        ensures len { length result.0.now.items ≡ length self.now.memory.entries }
-        ensures none { result.1 ≡ None }
+        ensures ok { (pool : List PoolEntry)
+            × (entries_held pool result.0.now ≡ self.now.memory.entries)
+            × (sealed_held pool (option_map (λ z. z.now) result.1)
+            ≡ option_to_list (sealed_entries self.now.memory)) }
     {
-        let (zero, _pool, _tree) = self.held.memory.parts();
-        (zero.view(), None)
+        let (zero, sealed, _pool, _tree) = self.held.memory.lists();
+        (zero, sealed)
     }
 
-    /// The versions, and the pool that has the keys and values of level 0. O(1).
+    /// The versions, and the pool that has the keys and values of level 0 and of the sealed one. O(1).
     pub fn lend(&self) -> (&Tree, &ArenaPool)
         ensures ok { result.0.now.parents ≡ self.now.memory.parents }
         ensures kept { IsTree result.0.now.parents }
     {
-        let (_zero, pool, tree) = self.held.memory.parts();
+        let (_zero, _sealed, pool, tree) = self.held.memory.lists();
         (tree, pool)
     }
 
@@ -326,17 +332,17 @@ impl Store {
     /// O(1).
     pub fn view<'a>(&'a self, arrays: &'a Arrays) -> View<'a>
         requires kept { MayBeFound arrays.now × (length arrays.now ≤ 22) }
-        ensures ok { (zeros_in result ≡ self.now.memory.entries ∷ [])
+        ensures ok { (zeros_in result ≡ lists_in_memory self.now.memory)
             × (result.tree.now.parents ≡ self.now.memory.parents)
             × ((v : ℕ) → arrays_read result v ≡ arrays.now) }
         ensures kept { ViewStands result }
     {
-        let (zero, pool, tree) = self.held.memory.parts();
+        let (zero, sealed, pool, tree) = self.held.memory.lists();
         View {
             tree,
             pool,
-            zero: zero.view(),
-            sealed: None,
+            zero,
+            sealed,
             levels: Picked::Pinned(arrays),
         }
     }
