@@ -15,7 +15,11 @@ from program import DEADLINE, GET_A, LAUNCHER, PUT_A, StoreFile, bytes_of, compl
 def the_launcher_passes_words_input_and_status_on(folder):
     for data in (PUT_A + GET_A, hexed("00000801"), PUT_A[:-1]):
         StoreFile(folder).expect_served("through the launcher", [data], program=LAUNCHER)
-    path = StoreFile(folder).path
+    store = StoreFile(folder)
+    path = store.path
+    store.expect_served("a put", [PUT_A], program=LAUNCHER)
+    expect("export", launch(["export", path, "0"]), (put(1, b"a", b"1"), 0, b""))
+    expect("export of no version", launch(["export", path, "1"]), (b"", 12, complaint(12)))
     expect("levels", launch(["levels", path]), (*formats.levels_printed(bytes_of(path)), b""))
     with open(path, "r+b") as file:
         file.seek(44 * BLOCK)  # docs/FORMATS.md: the manifest of a new store with M 64

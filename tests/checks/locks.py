@@ -114,8 +114,9 @@ def a_lock_file_that_was_made_for_no_store_is_taken_away(folder):
         file.seek(44 * BLOCK)  # docs/FORMATS.md: the manifest of a new store with M 64
         file.write(b"\xff" * BLOCK)
     os.link(store.path, linked)
-    tries = [(["serve", slot], 2, None), (["serve", damaged.path], 9, None), (["format", small, "4", "100", "10"], 5, 5000),
-             (["--overwrite", "workload", small, "1", "10"], 5, 5000), (["serve", linked], REFUSED, None)]
+    tries = [(["serve", slot], 2, None), (["export", slot, "0"], 2, None), (["serve", damaged.path], 9, None),
+             (["format", small, "4", "100", "10"], 5, 5000), (["--overwrite", "workload", small, "1", "10"], 5, 5000),
+             (["serve", linked], REFUSED, None), (["export", linked, "0"], REFUSED, None)]
     with served(store.path):
         for had in (False, True):  # one that was there before stays
             for words, status, most in tries:
