@@ -1,0 +1,251 @@
+"""Leaders: what they write is kept in a log, whether they run here or elsewhere."""
+
+from __future__ import annotations
+
+import os
+import warnings
+from collections import deque
+from typing import BinaryIO, Deque, List, NamedTuple, Optional, Protocol, Tuple, Union
+
+from . import changes, errors, frames, levels
+from .changelog import Frames, Log
+from .commands import Data, data_of
+from .lock import Lock
+from .process import CHUNK, LIMIT, Process, find_program, printed
+from .redislog import RedisLog
+from .store import Path, check_file, located
+from .storecopy import Progress, silent
+
+
+class Keeper(Protocol):
+    """What keeps the frames of one run of a leader, as the `writer` of a log does."""
+
+    before: int
+
+    def add(self, frames: Frames) -> None: ...
+
+    def close(self) -> None: ...
+
+
+def record(stream: int, keeper: Keeper, passes: Optional[BinaryIO] = None, progress: Progress = silent) -> int:
+    """Keeps the frames that come on a descriptor, up to its end, and tells how many came.
+
+    Each is passed on to `passes` once it is kept, so who reads there may be ahead of no log. Where the stream ends amid a frame, as
+    of a leader that was killed, a `LogWarning` tells of it: the leader sends that change again at its next run.
+    """
+    count, rest = 0, b""
+    while True:
+        data = os.read(stream, CHUNK)
+        if not data:
+            break
+        found, rest = changes.split(rest + data)
+        if found:
+            keeper.add(found)
+            if passes is not None:
+                passes.write(b"".join(found))
+                passes.flush()
+            count += len(found)
+            progress("changes", count, None)
+    if rest:
+        warnings.warn(f"the stream ended amid a frame, of which {len(rest)} bytes came and are not kept", errors.LogWarning, stacklevel=2)
+    return count
+
+
+class Led(NamedTuple):
+    """What a leader was asked for, and what came of it."""
+
+    changes: int
+    """How many changes were accepted, and are in the leader's file and in the log."""
+    next: int
+    """The number behind the last change."""
+    refused: List[str]
+    """The commands that were refused, in words. A leader does not tell why."""
+
+
+class Leader:
+    """A run of `lead` over a store's file, whose changes go into a log. It holds the store's locks until its program has ended.
+
+        with replicate.Leader("app.store", log) as leader:
+            leader.put(0, "user/1/name", "Ann")
+        print(leader.led)
+
+    It belongs to the process and the thread that made it. Commands are sent without a wait, and `close` waits for all. A leader
+    answers an accepted change alone, so what was refused is known at the end, or as soon as a later change is there.
+    """
+
+    led: Optional[Led] = None
+    """What came of it; None until it was closed."""
+
+    def __init__(self, path: Path, log: Union[Log, RedisLog], program: Optional[str] = None) -> None:
+        """Starts it. It writes the changes of its journal first, which the log may have already."""
+        self.name, real = located(path)
+        check_file(real, self.name)
+        found = find_program(program)
+        self._keeper: Keeper = log.writer()
+        self._lock: Optional[Lock] = None
+        try:
+            self._lock = Lock(real, self.name)
+            self._start, self.versions = self._counted(found, real)
+            self._process = Process(found, ["lead", real], self.name, self._lock)
+        except BaseException:
+            self._free()
+            raise
+        self._next = self._start
+        self._rest = b""
+        self._unsent: Deque[bytes] = deque()
+        self._size = 0  # of what is unsent
+        self._asked: Deque[bytes] = deque()
+        self._refused: List[str] = []
+
+    def _counted(self, program: str, real: str) -> Tuple[int, int]:
+        """How many changes and versions the store has."""
+        text, status = printed(program, ["levels", real], self.name, self._lock)
+        if status != 0:
+            raise errors.ended(status, self.name, "lead", text)
+        told = levels.read(text)
+        return told.changes, told.versions
+
+    # Commands
+
+    def put(self, version: int, key: Data, value: Data) -> None:
+        """Has a key get this value at a version."""
+        name, data = data_of(key), data_of(value)
+        if not 1 <= len(name) <= frames.KEY_MAX:
+            raise errors.KeySize(file=self.name, command="put")
+        if len(data) > frames.VALUE_MAX:
+            raise errors.ValueSize(file=self.name, command="put")
+        self.send(frames.put(0, version, name, data))
+
+    def delete(self, version: int, key: Data) -> None:
+        """Takes a key's value away at a version."""
+        name = data_of(key)
+        if not 1 <= len(name) <= frames.KEY_MAX:
+            raise errors.KeySize(file=self.name, command="delete")
+        self.send(frames.delete(0, version, name))
+
+    def clone(self, version: int) -> None:
+        """Makes a version with the same pairs. Once it is there, `versions` is one more, and its number is the last one of them."""
+        self.send(frames.clone(0, version))
+
+    def send(self, frame: bytes) -> None:
+        """Sends the frame of a put, a delete or a clone."""
+        self._check()
+        self._unsent.append(frame)
+        self._asked.append(frame)
+        self._size += len(frame)
+        while self._size >= CHUNK:
+            self._turn()
+
+    def wait(self) -> None:
+        """Waits until all that was sent is in the log. If the last command may be refused, `close` in its place: no change tells of it."""
+        while self._asked:
+            self._turn()
+
+    @property
+    def next(self) -> int:
+        """The number behind the last change that is in the log."""
+        return self._next
+
+    # Exchanges
+
+    def _check(self) -> None:
+        if self.led is not None:
+            raise errors.StoreClosed(file=self.name)
+        if not self._process.is_own:
+            raise errors.Forked(file=self.name)
+
+    def _turn(self) -> None:
+        """Waits until something can be read or written, and does it."""
+        self._check()
+        for pipe in self._process.ready(bool(self._unsent)):
+            if pipe == self._process.out:
+                self._read(pipe)
+            elif pipe == self._process.err:
+                self._process.read_errors()
+            else:
+                self._write(pipe)
+
+    def _write(self, pipe: int) -> None:
+        data = b"".join(self._unsent)[:CHUNK]
+        try:
+            written = os.write(pipe, data)
+        except BlockingIOError:
+            return
+        except (BrokenPipeError, ConnectionResetError):
+            self._unsent.clear()  # its end is read, and told
+            self._size = 0
+            return
+        self._size -= written
+        while written:
+            first = self._unsent.popleft()
+            if len(first) > written:
+                self._unsent.appendleft(first[written:])
+            written -= min(written, len(first))
+
+    def _read(self, pipe: int) -> None:
+        data = os.read(pipe, CHUNK)
+        if not data:
+            raise self._process.end(LIMIT, "lead")
+        found, self._rest = changes.split(self._rest + data)
+        if found:
+            self._keeper.add(found)
+            for frame in found:
+                self._note(frame)
+
+    def _note(self, frame: bytes) -> None:
+        """Notes which command a change is the answer to. Those before it were refused."""
+        number = changes.number_of(frame)
+        if number < self._start:
+            return
+        while self._asked:
+            asked = self._asked.popleft()
+            if changes.of_command(number, asked) == frame:
+                break
+            self._refused.append(frames.describe(asked))
+        self._next = number + 1
+        self.versions += frame[8] == changes.CLONE
+
+    def close(self) -> None:
+        """Ends its input, waits until all changes are in the log, and frees the store. `led` tells what came of it.
+
+        An `Ended` tells that its program ended with a fault. What it wrote before is in the log, and what it did not is sent at the
+        next run.
+        """
+        if self.led is not None or not self._process.is_own:
+            self._free()
+            return
+        try:
+            while self._unsent:
+                self._turn()
+            status = self._drained()
+        finally:
+            self._process.finish(LIMIT)
+            self._free()
+            self._refused += map(frames.describe, self._asked)
+            self.led = Led(self._next - self._start, self._next, self._refused)
+        if status != 0:
+            raise errors.ended(status, self.name, "lead")
+
+    def _drained(self) -> int:
+        """Ends its input, keeps what it still writes, and tells its status."""
+        self._process.end_input()
+        try:
+            while True:
+                self._turn()
+        except errors.Ended as error:
+            return error.status
+
+    def _free(self) -> None:
+        self._keeper.close()
+        if self._lock is not None:
+            self._lock.release()
+
+    def __enter__(self) -> "Leader":
+        return self
+
+    def __exit__(self, kind: object, *_: object) -> None:
+        try:
+            self.close()
+        except errors.CastleError:
+            if kind is None:
+                raise
