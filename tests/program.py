@@ -27,7 +27,8 @@ PROGRAM = str(TOP / "crates" / "castle" / "out" / "castle")
 DEADLINE = 20  # seconds that a run may take, but one of thousands of puts
 
 TEXTS = {
-    1: "usage: castle format FILE M C V, serve FILE, levels FILE, check FILE, workload FILE SEED COUNT",
+    1: ("usage: castle format FILE M C V, serve FILE, levels FILE, check FILE, workload FILE SEED COUNT, lead FILE, "
+        "follow FILE, export FILE VERSION"),
     2: "not a store",
     3: "frame too long",
     4: "truncated input",
@@ -37,6 +38,7 @@ TEXTS = {
     8: "no memory",
     9: "damaged",
     11: "unsound",
+    12: "unknown version",
 }
 
 

@@ -505,6 +505,13 @@ class SomethingLost(CastleError):
     remedy = "The lines before this one say what."
 
 
+class SomethingRefused(CastleError):
+    """A script's line `import` put its pairs but for some that were refused."""
+
+    what = "some pairs were refused; the others were put"
+    remedy = "The lines before this one say which, and why."
+
+
 class LogFault(CastleError):
     """A log of changes that can't be read or added to. Nothing was changed."""
 

@@ -50,9 +50,13 @@ class Connection:
 
     def forget(self) -> None:
         """Closes it; in a child of the process that made it, its copy."""
-        with contextlib.suppress(OSError):
-            self._input.close()
+        with contextlib.suppress(OSError, AttributeError):
             self._socket.close()
+        with contextlib.suppress(OSError, AttributeError):
+            self._input.close()
+
+    def __del__(self) -> None:
+        self.forget()
 
     def execute_command(self, *words: Word) -> Any:
         """What the server answers to a command: bytes, a number, a list or None. A `NoRedis` tells of an error."""
