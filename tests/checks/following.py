@@ -191,14 +191,19 @@ class Copies:
             self.log.append(change)
             self.stores.append(copy.deepcopy(self.store))
 
-    def run_leader(self, is_killed):
-        """Has the leader take changes, and kills it amid them."""
+    def stop(self, most):
+        """Where a run is killed: behind some of so many bytes of output, or soon after."""
+        return self.chance.randrange(most + 1), self.chance.choice((0, 0, self.chance.random() / 500))
+
+    def run_leader(self, stops):
+        """Has the leader take changes, and kills it amid them. Whether it was killed."""
         frames = drawn_changes(self.chance, self.chance.randrange(1, 50), len(self.store.parents), 12, 0.1)
-        self.note(ran("lead", self.leader.path, b"".join(frames), self.chance.random() / 60 if is_killed else None))
-        if is_killed:
-            status, after = formats.opened(bytes_of(self.leader.path))
-            expect("the leader's file", status, model.ENDED)
-            expect("the leader has what it sent", after.counts()[2] >= len(self.log), True)
+        sent, is_killed = ran("lead", self.leader.path, b"".join(frames), self.stop(15 * len(frames)) if stops else None)
+        self.note(sent)
+        status, after = formats.opened(bytes_of(self.leader.path))
+        expect("the leader's file", status, model.ENDED)
+        expect("the leader has what it sent", after.counts()[2] >= len(self.log), True)
+        return is_killed
 
     def carried(self, number):
         """Frames for a follower that waits for this one, as a bad transport carries them."""
@@ -210,16 +215,18 @@ class Copies:
             numbers[place], numbers[place + 1] = numbers[place + 1], numbers[place]
         return [self.frame(place) for place in numbers]
 
-    def run_follower(self, follower, is_killed):
-        """Has a follower take what was carried to it, and kills it amid that; what it has then."""
+    def run_follower(self, follower, stops):
+        """Has a follower take what was carried to it, and kills it amid that. Whether it was killed."""
         before = formats.opened(bytes_of(follower.path))[1].counts()[2]
         given = self.carried(before)
-        receipts = bodies_of(ran("follow", follower.path, b"".join(given), self.chance.random() / 60 if is_killed else None))
+        out, is_killed = ran("follow", follower.path, b"".join(given), self.stop(14 * len(given)) if stops else None)
+        receipts = bodies_of(out)
         after = self.expect_prefix(follower)
         want, _ = replicas.follow(copy.deepcopy(self.stores[before]), b"".join(given))
         expect("receipts", receipts, bodies_of(want)[:len(receipts)])
         taken = sum(body[4] == replicas.TAKEN for body in receipts)
         expect("what was answered is in the file", before + taken <= after <= before + len(given), True)
+        return is_killed
 
     def expect_prefix(self, follower):
         """A follower's table is the leader's after a prefix. The number of its changes."""
@@ -246,26 +253,31 @@ class Copies:
                     expect(f"export of version {version}", out, (want, 0, b""))
 
 
-def ran(word, path, data, limit):
-    """What a run writes for these bytes that is killed after so many seconds, or not at all where that is None."""
+def ran(word, path, data, stop=None):
+    """What a run writes for these bytes, and whether it was killed: behind so many bytes of output and a pause, where these are given."""
     child = subprocess.Popen([PROGRAM, word, path], **PIPES)
     os.set_blocking(child.stdin.fileno(), False)
-    end, out, data = time.monotonic() + (DEADLINE if limit is None else limit), b"", memoryview(data)
+    least, pause = stop or (None, 0)
+    end, out, data = time.monotonic() + DEADLINE, b"", memoryview(data)
     while time.monotonic() < end:
         reads, writes, _ = select.select([child.stdout], [child.stdin] if data else [], [], max(0.0, end - time.monotonic()))
         if writes:
             data = data[child.stdin.write(data[:4096]) or 0:]
-            if not data and limit is None:
-                child.stdin.close()
+        if not data and not child.stdin.closed:
+            child.stdin.close()
         piece = os.read(child.stdout.fileno(), 1 << 16) if reads else b""
         out += piece
         if reads and not piece:
             break
-    child.kill()
+        if least is not None and len(out) >= least:
+            end, least = min(end, time.monotonic() + pause), None
+    is_killed = stop is not None and child.poll() is None
+    if is_killed:
+        child.kill()
     child.wait(DEADLINE)
     out += child.stdout.read()
     close(child)
-    return out
+    return out, is_killed
 
 
 @in_memory
@@ -275,15 +287,10 @@ def killed_leaders_and_followers_are_the_leader_after_a_prefix(folder):
     chance = random.Random(47)
     copies, kills = Copies(folder, chance), 0
     while kills < KILLS:
-        for turn in range(1 + FOLLOWERS):
-            is_killed = chance.random() < 0.9
-            kills += is_killed
-            if turn == 0:
-                copies.run_leader(is_killed)
-            else:
-                copies.run_follower(copies.followers[turn - 1], is_killed)
+        kills += copies.run_leader(chance.random() < 0.9)
+        for follower in copies.followers:
+            kills += copies.run_follower(follower, chance.random() < 0.9)
     copies.run_leader(False)
-    copies.note(ran("lead", copies.leader.path, b"", None) if len(copies.log) == 0 else b"")
     expect("changes of the log", len(copies.log) > KILLS, True)
     copies.finish()
 

@@ -29,7 +29,7 @@ class Connection:
     """A connection to a server of Redis, which speaks its protocol. It belongs to the process that made it."""
 
     def __init__(self, url: str) -> None:
-        """Connects to a server: `redis://:PASSWORD@HOST:PORT/DATABASE`, or `redis+unix:///SOCKET?db=DATABASE`."""
+        """Connects to a server: `redis://:PASSWORD@HOST:PORT/DATABASE`, or `redis+unix:SOCKET?db=DATABASE` with the path of a socket."""
         self._url = url
         parts = urlsplit(url)
         with self._told(), forks.starting:

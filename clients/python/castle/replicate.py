@@ -38,7 +38,7 @@ WAIT = 1.0  # seconds between two looks for a signal
 
 def log_at(place: str) -> Union[Log, RedisLog]:
     """The log at a place: a folder, or an address such as `redis://localhost?stream=NAME`."""
-    return RedisLog(place) if place.partition("://")[0] in SCHEMES else Log(place)
+    return RedisLog(place) if place.partition(":")[0] in SCHEMES else Log(place)
 
 
 # Commands and what they give, as lines
