@@ -13,22 +13,15 @@ from typing import Any, Dict, List, Optional, Tuple
 from unittest import mock
 
 from redises import RedisCase
-from support import DEADLINE, TOP, StoreCase, Threads, in_child, is_gone
+from support import DEADLINE, TOP, StoreCase, Threads, in_child, is_gone, needs
 
 from castle import Store, changes, errors, replicate
-from castle.process import find_program, printed
+from castle.process import find_program
 from test_changelog import change
 
 COPYCAT = str(TOP / "clients" / "python" / "tests" / "copycat")
 COMMAND = str(TOP / "castle-replicate")
 Tables = List[Dict[bytes, bytes]]
-
-
-def needs(word: str) -> None:
-    """Skips a test where the program does not have this word."""
-    with mock.patch("sys.stderr"):
-        if printed(find_program(), [word, os.path.join(os.sep, "absent", "store")], "")[1] == 1:
-            raise unittest.SkipTest(f"the program has no word {word} yet")
 
 
 def tables(path: str) -> Tables:

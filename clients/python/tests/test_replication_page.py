@@ -9,8 +9,7 @@ import shutil
 import subprocess
 import sys
 
-from support import DEADLINE, PACKAGE, TOP, StoreCase
-from test_replicate import needs
+from support import DEADLINE, PACKAGE, TOP, StoreCase, needs
 
 from castle.process import find_program
 
