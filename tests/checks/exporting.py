@@ -91,9 +91,8 @@ def a_damaged_block_leaves_a_prefix_and_its_status(folder):
     wants("export", "0")
     store, contents = store_after(folder, 4, [put(tag, b"%02d" % tag + b"k" * 200, b"v" * 1000) for tag in range(17)])
     whole = replicas.exported(store.model.pairs[0])
-    (array,) = formats.arrays_of(contents.manifest)
     told = set()
-    for block in formats.blocks_of(array):
+    for block in [block for array in formats.arrays_of(contents.manifest) for block in formats.blocks_of(array)]:
         path = shutil.copy(store.path, os.path.join(folder, "damaged"))
         altered(path, block * BLOCK, b"\xff" * BLOCK)
         out, status, said = exported(path, 0)

@@ -149,7 +149,7 @@ class Replica:
         return log.next - (self.next or 0)
 
     def catch_up(self, log: Changes, until: Optional[int] = None, progress: Progress = silent) -> int:
-        """Feeds it what the log has, or the changes before this number, and tells the number that it waits for then.
+        """Feeds it what the log has at this call, or the changes before this number, and tells the number that it waits for then.
 
         It begins at the number that the follower answers. A frame that the follower has is passed over by it. After a Gap, want
         of memory or the end of its program by a signal it goes on from the number that it answers then, and gives up once
@@ -175,20 +175,19 @@ class Replica:
                                     file=error.file)
 
     def _feed(self, follower: Follower, log: Changes, until: Optional[int], progress: Progress) -> None:
-        self.next = follower.ask()
-        end = log.next if until is None else min(until, log.next)
-        if self.next > log.next:
-            raise errors.FollowerAhead(f"the follower has {self.next:,} changes, and the log goes up to {log.next:,}", file=follower.name)
-        if self.next >= end:
-            return
-        for frames in log.read(self.next):
-            given = frames if until is None else frames[:max(0, until - self.next)]
-            if not given:
-                return
-            for receipt in follower.give(given):
+        self.next, last = follower.ask(), log.next
+        end = last if until is None else min(until, last)
+        if self.next > last:
+            raise errors.FollowerAhead(f"the follower has {self.next:,} changes, and the log goes up to {last:,}", file=follower.name)
+        pieces = log.read(self.next)
+        while self.next < end:
+            found = next(pieces, None)
+            if found is None:
+                raise _Gapped(f"change {self.next} is in the log no more", file=follower.name)
+            for receipt in follower.give(found[:end - self.next]):
                 self.next = receipt.next
                 self._take(follower, receipt)
-            progress("changes", self.next, max(end, self.next))
+            progress("changes", self.next, end)
 
     def _take(self, follower: Follower, receipt: Receipt) -> None:
         """Goes on behind a receipt, or raises what it says."""

@@ -96,6 +96,7 @@ class Leader:
         self._size = 0  # of what is unsent
         self._asked: Deque[bytes] = deque()
         self._refused: List[str] = []
+        self._end: Optional[errors.Ended] = None
 
     def _counted(self, program: str, real: str) -> Tuple[int, int]:
         """How many changes and versions the store has."""
@@ -153,6 +154,8 @@ class Leader:
             raise errors.StoreClosed(file=self.name)
         if not self._process.is_own:
             raise errors.Forked(file=self.name)
+        if self._end is not None:
+            raise errors.again(self._end)
 
     def _turn(self) -> None:
         """Waits until something can be read or written, and does it."""
@@ -185,7 +188,8 @@ class Leader:
     def _read(self, pipe: int) -> None:
         data = os.read(pipe, CHUNK)
         if not data:
-            raise self._process.end(LIMIT, "lead")
+            self._end = self._process.end(LIMIT, "lead")
+            raise self._end
         found, self._rest = changes.split(self._rest + data)
         if found:
             self._keeper.add(found)
@@ -215,8 +219,6 @@ class Leader:
             self._free()
             return
         try:
-            while self._unsent:
-                self._turn()
             status = self._drained()
         finally:
             self._process.finish(LIMIT)
@@ -227,9 +229,12 @@ class Leader:
             raise errors.ended(status, self.name, "lead")
 
     def _drained(self) -> int:
-        """Ends its input, keeps what it still writes, and tells its status."""
-        self._process.end_input()
+        """Sends what is left, ends its input, keeps what it still writes, and tells its status."""
         try:
+            while self._unsent:
+                self._turn()
+            self._check()
+            self._process.end_input()
             while True:
                 self._turn()
         except errors.Ended as error:

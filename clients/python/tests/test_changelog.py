@@ -147,7 +147,7 @@ class LogTest(StoreCase):
     def test_an_altered_file_is_told(self) -> None:
         self.add(range(0, 50))
         path = os.path.join(self.log.name, self.files()[0])
-        data = open(path, "rb").read()
+        data = self.bytes_of(os.path.join("log", self.files()[0]))
         size = len(change(0))
         for wrong in (data[:size] + data[2 * size:], data[:size] + b"\xff" * 40 + data[size:], b"\0\0\0\1\0" + data, data[:size] + data):
             with open(path, "wb") as file:
@@ -172,7 +172,7 @@ class LogTest(StoreCase):
     def test_a_child_does_not_keep_the_log_from_others(self) -> None:
         keeper = self.log.writer()
         start, ends = os.pipe()
-        pid = in_child(lambda: os.read(start, 1))
+        pid = in_child(lambda: (os.close(ends), os.read(start, 1)))
         keeper.close()
         self.add(range(0, 2))
         os.close(ends)

@@ -30,6 +30,19 @@ def tables(path: str) -> Tables:
         return [dict(store.scan(version)) for version in range(store.stat().versions)]
 
 
+def replayed(frames: List[bytes]) -> Tables:
+    """The pairs of each version after these changes."""
+    found: Tables = [{}]
+    for change in map(changes.change_of, frames):
+        if change.kind == changes.CLONE:
+            found.append(dict(found[change.version]))
+        elif change.kind == changes.DELETE:
+            found[change.version].pop(change.key, None)
+        else:
+            found[change.version][change.key] = change.value or b""
+    return found
+
+
 class ReplicaCase(StoreCase):
     in_memory = True
 
@@ -209,6 +222,51 @@ class ReplicaTest(ReplicaCase):
         data = [changes.put(number, 0, b"k%d" % number, b"v" * 1000) for number in range(3000)]
         with replicate.Follower(self.copy) as follower:
             self.assertEqual([receipt.status for receipt in follower.give(data)], [changes.TAKEN] * 3000)
+
+
+class BackupTest(ReplicaCase):
+    """A copy is made through the leader's changes while the leader goes on, and is killed at random."""
+
+    def test_a_copy_beside_a_writer_that_is_killed_is_its_table_after_a_prefix(self) -> None:
+        chance, seen = random.Random(7), set()
+        self.stores(8)
+        for turn in range(12):
+            killing = Threads(lambda: self.write(chance.randrange(1 << 30)))
+            end = self.log.next + chance.randrange(150) if turn else 30
+            while killing.are_alive and (not os.path.isdir(self.log.name) or self.log.next < end):
+                time.sleep(0.002)
+            amid = replicate.Replica(self.copy, pause=0).catch_up(self.log)  # while the leader goes on
+            self.pids.pop().kill(signal.SIGKILL)
+            self.assertEqual([error for error in killing.join() if not isinstance(error, errors.Killed)], [])
+            kept = [frame for found in self.log.read(0) for frame in found]
+            self.assertEqual(tables(self.copy), replayed(kept[:amid]))
+            self.assertTrue(Store.check(self.copy))
+            with Store(self.path) as store:
+                self.assertGreaterEqual(store.stat().changes, len(kept))
+            seen.add(amid < len(kept))
+        self.assertEqual(replicate.Replica(self.copy).catch_up(self.log), self.log.next)
+        replicate.Leader(self.path, self.log).close()
+        replicate.Replica(self.copy).catch_up(self.log)
+        self.assertEqual(tables(self.copy), tables(self.path))
+        self.assertEqual(tables(self.copy), replayed([frame for found in self.log.read(0) for frame in found]))
+        self.assertIn(True, seen)
+
+    def setUp(self) -> None:
+        super().setUp()
+        self.pids: List[Any] = []
+
+    def write(self, seed: int) -> None:
+        """Has a leader take changes until it is killed."""
+        chance = random.Random(seed)
+        with replicate.Leader(self.path, self.log) as leader:
+            self.pids.append(leader._process)
+            while True:
+                version = max(0, leader.versions - 1 - chance.randrange(2))
+                if chance.random() < 0.005:
+                    leader.clone(version)
+                leader.put(version, f"key/{chance.randrange(40)}", str(chance.random()))
+                if chance.random() < 0.2:
+                    leader.delete(version, f"key/{chance.randrange(40)}")
 
 
 class RefusalTest(StoreCase):
