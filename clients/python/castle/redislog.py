@@ -6,6 +6,7 @@ It needs no package: what is asked of the server is written here. A client of th
 from __future__ import annotations
 
 import contextlib
+import os
 import socket
 import time
 from typing import Any, BinaryIO, Iterator, List, Optional, Tuple, Union
@@ -13,7 +14,7 @@ from urllib.parse import parse_qs, unquote, urlsplit
 
 from . import changes, forks
 from .changelog import Frames, Repeats, forked, gap
-from .errors import LogFault, NoRedis, WrongProtocol
+from .errors import CastleError, Forked, LogFault, NoRedis, WrongProtocol
 
 FIELD = b"frame"
 COUNT = 512  # entries that are read at once
@@ -31,6 +32,7 @@ class Connection:
     def __init__(self, url: str) -> None:
         """Connects to a server: `redis://:PASSWORD@HOST:PORT/DATABASE`, or `redis+unix:SOCKET?db=DATABASE` with the path of a socket."""
         self._url = url
+        self._owner = os.getpid()
         parts = urlsplit(url)
         with self._told(), forks.starting:
             if parts.scheme == "redis+unix":
@@ -60,6 +62,8 @@ class Connection:
 
     def execute_command(self, *words: Word) -> Any:
         """What the server answers to a command: bytes, a number, a list or None. A `NoRedis` tells of an error."""
+        if self._owner != os.getpid():
+            raise Forked(file=self._url)
         data = [word if isinstance(word, bytes) else str(word).encode() for word in words]
         with self._told():
             self._socket.sendall(b"*%d\r\n" % len(data) + b"".join(b"$%d\r\n%b\r\n" % (len(word), word) for word in data))
@@ -117,7 +121,7 @@ class RedisLog:
         """What the server answers."""
         try:
             return self._client.execute_command(*words)
-        except NoRedis:
+        except CastleError:
             raise
         except Exception as error:  # of the package, whose classes are not known here
             raise NoRedis(str(error), file=self.name) from error

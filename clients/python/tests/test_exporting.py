@@ -13,8 +13,10 @@ from session import carried_out
 from support import StoreCase, Threads
 
 import castle
-from castle import Store, errors, exports, frames
+from castle import Store, errors, exporting, exports, frames, keeping
 from castle.process import find_program
+from castle.storecopy import Progress
+from castle.terminal import Interrupts
 
 Pairs = Dict[bytes, bytes]
 
@@ -173,6 +175,25 @@ class ImportTest(ExportingCase):
             self.assertEqual(len(dict(store.scan(1))), 512)
             self.assertEqual(store.import_from(self.file, 1).pairs, 1000)
             self.assertEqual(dict(store.scan(1)), pairs)
+
+    def test_ctrl_c_in_the_shell_says_what_was_made(self) -> None:
+        self.wrote(exported({b"k%04d" % number: b"v" for number in range(1000)}))
+
+        def teller(interrupts: Interrupts, line: object) -> Progress:
+            def tell(what: str, done: int, total: Optional[int]) -> None:
+                interrupts.count = done >= 512
+                interrupts.check()
+            return tell
+
+        with self.filled({b"k%04d" % number: b"v" for number in range(600)}) as store, mock.patch.object(keeping, "teller", teller):
+            out, said, status = carried_out(store, f"export {self.file}.new @0")
+            self.assertEqual((out, said, status), ("", "castle-shell: line 1: stopped; nothing was made\n", 130))
+            self.assertFalse(os.path.exists(f"{self.file}.new"))
+            with mock.patch.object(exporting, "_pieces", lambda file, progress: exports.pieces_of(file)):
+                out, said, status = carried_out(store, f"import {self.file} @1")
+            self.assertEqual((out, said.split("; ")[0], status), ("", "castle-shell: line 1: stopped", 130))
+            self.assertIn("some of the pairs were put", said)
+            self.assertEqual(dict(store.scan(1))[b"k0511"], b"v")
 
     def test_a_program_that_ends_amid_an_import_says_how_many_were_put(self) -> None:
         self.wrote(exported({b"k%04d" % number: b"v" for number in range(1000)}))

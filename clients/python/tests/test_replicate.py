@@ -369,6 +369,7 @@ class RedisTest(RedisCase, ReplicaCase):
         self.stop()
         self.assertRaises(errors.NoRedis, lambda: log.next)
         self.assertRaises(errors.NoRedis, replicate.RedisLog, log.name)
+        self.assertEqual(os.waitpid(in_child(lambda: self.assertRaises(errors.Forked, lambda: log.next)), 0)[1], 0)
         self.assertRaises(errors.NoRedis, replicate.RedisLog, "redis://localhost:1?stream=x")
 
 
