@@ -10,6 +10,8 @@ import time
 import formats
 import model
 import replicas
+from checks.calls import each_call, faults_of, status_of
+from faulty import COMMANDS, EARLIER, Rig, made_over
 from model import bodies_of, clone, delete, frame, get, info, open_cursor, put, scan, stat
 from program import (
     DEADLINE, GET_A, PIPES, PROGRAM, PUT_A, Skipped, StoreFile, bytes_of, close, complaint, expect, expect_alike, expect_told, fed,
@@ -162,6 +164,68 @@ def a_run_of_another_word_leaves_a_gap_that_is_told(folder):
     expect("the follower's changes", follower.model.counts()[2], 2)
 
 
+# Faults
+
+class Given:
+    """Frames for a leader or a follower over a file, what it writes, and what its store is after each number of changes."""
+
+    def __init__(self, word, data, store, commands):
+        self.word, now = word, copy.deepcopy(store)
+        self.numbers = []  # of changes, by the frames that are written
+        self.stores, number = {now.counts()[2]: copy.deepcopy(now)}, now.counts()[2]
+        self.least, changes = number, []
+        for command in commands:
+            sent = replicas.led_by(now, command[4:])
+            if sent:
+                changes.append(sent)
+                self.stores[now.counts()[2]] = copy.deepcopy(now)
+        if word == "lead":
+            self.frames, first = commands, bodies_of(replicas.sent_at_first(formats.read(data)))
+            self.written = [frame(body) for body in first] + changes
+        else:
+            gap = replicas.change_frame(10 ** 6, (model.CLONE, 0))
+            self.frames = [gap, *changes[:3], changes[0], *changes[3:]]
+            now = copy.deepcopy(store)
+            self.written = [replicas.followed_by(now, piece[4:]) for piece in self.frames]
+        self.data, self.made = data, len(changes)
+
+    def run(self, rig, fault):
+        """A run over the file as it was."""
+        rig.has(self.data)
+        return rig.run(fault, self.word, sent=b"".join(self.frames))
+
+    def expect(self, name, ran, data, status):
+        """A run that met a fault wrote a prefix, with what is told of the fault, and nothing that it told of is lost."""
+        expect(f"{name}, status", (ran.status, ran.said), (status, complaint(status)))
+        bodies, told = [frame(body) for body in bodies_of(ran.out)], b"".join(self.written)
+        if self.word == "follow" and status == model.DEVICE and bodies:
+            last = replicas.change_in(self.frames[len(bodies) - 1][4:])[0]
+            expect(f"{name}, the last receipt", bodies[-1], replicas.receipt(last, replicas.REFUSED, last, model.DEVICE_FAULT))
+            ran, bodies = ran._replace(out=b"".join(bodies[:-1])), bodies[:-1]
+        expect(f"{name}, what is written", ran.out, told[:len(ran.out)] if status != model.ENDED else told)
+        known = [body for body in bodies if self.word == "lead" or body[8] == replicas.TAKEN]
+        least = max([self.least, *(model.tag_of(body[4:]) + 1 for body in known)])
+        found, after = formats.opened(data)
+        expect(f"{name}, the file", found, model.ENDED)
+        expect(f"{name}, changes", least <= after.counts()[2] <= self.least + self.made, True)
+        expect_alike(name, after, self.stores[after.counts()[2]])
+
+
+def a_call_that_fails_leaves_a_prefix_and_is_told(folder):
+    wants("lead")
+    wants("follow")
+    rig = Rig(folder)
+    for start, earlier in (("a new store", []), ("a store with a level", EARLIER)):
+        data, store = made_over(folder, 4, earlier)
+        for word in ("lead", "follow"):
+            given = Given(word, data, store, COMMANDS)
+            whole = given.run(rig, None)
+            given.expect(f"{start}, {word}", whole, rig.bytes(), model.ENDED)
+            for kind, number in each_call(whole.calls):
+                for fault in faults_of(kind, number):
+                    given.expect(f"{start}, {word}, {fault}", given.run(rig, fault), rig.bytes(), status_of(kind))
+
+
 # Kills
 
 class Copies:
@@ -305,5 +369,6 @@ CHECKS = [
     nothing_is_sent_before_its_change_is_durable,
     what_a_journal_has_is_sent_with_its_numbers_after_many_changes,
     a_run_of_another_word_leaves_a_gap_that_is_told,
+    a_call_that_fails_leaves_a_prefix_and_is_told,
     killed_leaders_and_followers_are_the_leader_after_a_prefix,
 ]

@@ -193,6 +193,14 @@ def gap(name: str, wanted: int, found: int) -> LogGap:
     return error
 
 
+def missed(name: str, wanted: int, found: int) -> LogGap:
+    """The same for changes that a leader does not send any more, since they left its journal."""
+    error = gap(name, wanted, found)
+    error.what = f"the leader sends its changes from {found} on, and the log lacks those from {wanted} on"
+    error.remedy = "Begin a new log, and make the copies anew from a copy of the leader's file."
+    return error
+
+
 def forked(name: str, number: int) -> LogForked:
     """The exception for a number with two changes."""
     error = LogForked(f"change {number} is another one than the log has under this number", file=name)
@@ -219,7 +227,7 @@ class Writer:
     """Adds the frames of a run of a leader to a log, for good. It belongs to the process that made it.
 
     The folder is made where it isn't there. A file that ends amid a frame, as after a kill or a cut of power, loses that frame,
-    which a `LogWarning` tells. The leader writes it again at its next run, since nobody was told that it is kept.
+    which a `LogWarning` tells. Nobody was told that it is kept, and the leader writes it again if its journal has it still.
     """
 
     def __init__(self, log: Log) -> None:
@@ -260,8 +268,8 @@ class Writer:
     def add(self, frames: Frames) -> None:
         """Adds frames of changes, whose numbers follow one another. When it returns they are in the file for good.
 
-        `LogGap` tells of changes that are missing before the first frame of the run. A run of another word may have moved them
-        from the leader's journal into its levels meanwhile. `LogForked` tells of a number that has another change already.
+        `LogGap` tells of changes that are missing before the first frame of the run. They left the leader's journal before they were
+        kept: a run of another word made them, or what read them was killed. `LogForked` tells of a number that has another change already.
         """
         if self._is_broken or self._lock.closed or self._owner != os.getpid():
             raise LogFault("this run of the log takes no more changes", "Begin another one.", file=self._log.name)
@@ -287,7 +295,7 @@ class Writer:
         number = changes.number_of(frame)
         if self._next is None:
             if number > self.before > 0:
-                raise gap(self._log.name, self.before, number)
+                raise missed(self._log.name, self.before, number)
             if number >= self._log.first:
                 self._repeats = Repeats(self._log, number)
         elif number != self._next:

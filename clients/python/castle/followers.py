@@ -49,6 +49,7 @@ class Follower:
         self._rest = b""
         self._got: Deque[Receipt] = deque()
         self._end: Optional[errors.CastleError] = None
+        self._last: Optional[Receipt] = None
 
     def ask(self) -> int:
         """The number that it waits for: as many changes as its store has."""
@@ -68,7 +69,8 @@ class Follower:
             while len(found) < len(frames):
                 data = data[self._turn(data):]
                 while self._got and len(found) < len(frames):
-                    found.append(self._got.popleft())
+                    self._last = self._got.popleft()
+                    found.append(self._last)
         except errors.CastleError as error:
             self._end = error
             raise
@@ -104,7 +106,7 @@ class Follower:
     def _ended(self) -> errors.Ended:
         """Why its program ended, which it may have told by its last receipt."""
         end = self._process.end(LIMIT, "follow")
-        last = self._got[-1] if self._got else None
+        last = self._got[-1] if self._got else self._last
         if last is not None and last.refusal in (DEVICE_FAULT, DAMAGED):
             end.command = f"follow, change {last.number}"
         return end

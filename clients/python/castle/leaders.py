@@ -31,7 +31,7 @@ def record(stream: int, keeper: Keeper, passes: Optional[BinaryIO] = None, progr
     """Keeps the frames that come on a descriptor, up to its end, and tells how many came.
 
     Each is passed on to `passes` once it is kept, so who reads there may be ahead of no log. Where the stream ends amid a frame, as
-    of a leader that was killed, a `LogWarning` tells of it: the leader sends that change again at its next run.
+    of a leader that was killed, a `LogWarning` tells of it: the leader sends that change again at its next run, first of all.
     """
     count, rest = 0, b""
     while True:

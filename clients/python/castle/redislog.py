@@ -13,7 +13,7 @@ from typing import Any, BinaryIO, Iterator, List, Optional, Tuple, Union
 from urllib.parse import parse_qs, unquote, urlsplit
 
 from . import changes, forks
-from .changelog import Frames, Repeats, forked, gap
+from .changelog import Frames, Repeats, forked, gap, missed
 from .errors import CastleError, Forked, LogFault, NoRedis, WrongProtocol
 
 FIELD = b"frame"
@@ -201,7 +201,7 @@ class RedisWriter:
         """
         number = changes.number_of(frames[0]) if frames else 0
         if self._next is None and number > self.before > 0:
-            raise gap(self._log.name, self.before, number)
+            raise missed(self._log.name, self.before, number)
         repeated = self._repeated(number)
         for frame in frames:
             number = changes.number_of(frame)

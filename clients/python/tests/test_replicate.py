@@ -15,7 +15,7 @@ from unittest import mock
 from redises import RedisCase
 from support import DEADLINE, TOP, StoreCase, Threads, in_child, is_gone, needs
 
-from castle import Store, changes, errors, replicate
+from castle import Store, changes, errors, frames, replicate
 from castle.process import find_program
 from test_changelog import change
 
@@ -30,10 +30,10 @@ def tables(path: str) -> Tables:
         return [dict(store.scan(version)) for version in range(store.stat().versions)]
 
 
-def replayed(frames: List[bytes]) -> Tables:
+def replayed(sent: List[bytes]) -> Tables:
     """The pairs of each version after these changes."""
     found: Tables = [{}]
-    for change in map(changes.change_of, frames):
+    for change in map(changes.change_of, sent):
         if change.kind == changes.CLONE:
             found.append(dict(found[change.version]))
         elif change.kind == changes.DELETE:
@@ -132,8 +132,30 @@ class LeaderTest(ReplicaCase):
         with Store(self.path) as store:
             for number in range(20):
                 store.put(store.stat().versions - 1, f"x{number}", "1")
-        with self.assertRaises(errors.LogGap):
+        with self.assertRaisesRegex(errors.LogGap, "the log lacks those from 3 on. Begin a new log"):
             replicate.Leader(self.path, self.log).close()
+
+    def test_what_was_lost_on_the_way_to_the_log_is_told_and_never_hidden(self) -> None:
+        chance, told = random.Random(10), 0
+        for _ in range(12):
+            Store.format(self.path, 4, 100000, 1000, overwrite=True)
+            log = replicate.Log(os.path.join(self.folder, f"log{_}"))
+            lines = [frames.put(number, 0, b"k%d" % number, b"v") for number in range(40)]
+            given = subprocess.run([find_program(), "lead", self.path], input=b"".join(lines), capture_output=True, check=True).stdout
+            with log.writer() as keeper:  # what kept them was killed, with the rest in the pipe
+                keeper.add(changes.split(given)[0][:chance.randrange(1, 41)])
+            kept = log.next
+            again = subprocess.run([find_program(), "lead", self.path], input=b"", capture_output=True, check=True).stdout
+            first = changes.number_of(again)
+            try:
+                with log.writer() as keeper:
+                    keeper.add(changes.split(again)[0])
+                self.assertLessEqual(first, kept)
+                self.assertEqual(len([frame for found in log.read(0) for frame in found]), 40)
+            except errors.LogGap as error:
+                self.assertEqual((error.wanted, error.found, first > kept), (kept, first, True))
+                told += 1
+        self.assertGreater(told, 0)
 
 
 class ReplicaTest(ReplicaCase):
