@@ -12,7 +12,7 @@ import subprocess
 import sys
 
 import model
-from program import PROGRAM, TOP, StoreFile, Wrong, expect, run_checks
+from program import PROGRAM, TOP, Skipped, StoreFile, Wrong, expect, run_checks
 
 CASTLE, SQLITE = "castle", "SQLite"
 

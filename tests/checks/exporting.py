@@ -9,11 +9,9 @@ import subprocess
 import formats
 import model
 import replicas
-import workloads
-from checks.following import wants
 from model import BLOCK, bodies_of, put
 from program import (
-    DEADLINE, PROGRAM, Skipped, StoreFile, bytes_of, complaint, expect, fed, hexed, in_memory, left_behind, run, serve)
+    DEADLINE, PROGRAM, Skipped, StoreFile, bytes_of, complaint, expect, hexed, in_memory, left_behind, run, serve, wants)
 from samples import PUBLISHED, SETTINGS, altered, drawn_changes, store_after
 
 ROW = hexed("0000001b 00000001 01 00000000 000b 757365722f312f6e616d65 0003 416e6e"
@@ -89,17 +87,18 @@ def an_export_of_largest_pairs_and_of_many(folder):
 
 def a_damaged_block_leaves_a_prefix_and_its_status(folder):
     wants("export", "0")
-    store, contents = store_after(folder, 4, [put(tag, b"%02d" % tag + b"k" * 200, b"v" * 1000) for tag in range(17)])
+    store, contents = store_after(folder, 64, [put(tag, b"%03d" % tag, b"v" * 100) for tag in range(700)], 1000, 10)
     whole = replicas.exported(store.model.pairs[0])
-    told = set()
+    told = []
     for block in [block for array in formats.arrays_of(contents.manifest) for block in formats.blocks_of(array)]:
         path = shutil.copy(store.path, os.path.join(folder, "damaged"))
         altered(path, block * BLOCK, b"\xff" * BLOCK)
         out, status, said = exported(path, 0)
         expect(f"block {block}", (whole.startswith(out), status, said), (True, 9, complaint(9)))
-        told.add(len(bodies_of(out)))
+        told.append(len(bodies_of(out)))
         expect(f"block {block}, whole frames", len(out), sum(4 + len(body) for body in bodies_of(out)))
-    expect("how much came", len(told) > 2, True)
+    # pairs are written by pages, so of the first blocks nothing may come
+    expect("how much came", (max(told) > 0, max(told) < 700), (True, True))
 
 
 def an_export_reads_each_block_of_its_arrays_once(folder):

@@ -12,22 +12,16 @@ import model
 import replicas
 from checks.calls import each_call, faults_of, status_of
 from faulty import COMMANDS, EARLIER, Rig, made_over
-from model import bodies_of, clone, delete, frame, get, info, open_cursor, put, scan, stat
+from model import bodies_of, frame, put
 from program import (
-    DEADLINE, GET_A, PIPES, PROGRAM, PUT_A, Skipped, StoreFile, bytes_of, close, complaint, expect, expect_alike, expect_told, fed,
-    hexed, in_memory, run)
+    DEADLINE, GET_A, PIPES, PROGRAM, PUT_A, StoreFile, bytes_of, close, complaint, expect, expect_alike, expect_told, fed, hexed,
+    in_memory, run, wants)
 from samples import BATCH_MAX, drawn_changes, drawn_frames
 from tracing import calls_of
 
 CHANGE_A = hexed("0000000e 00000000 01 00000000 01 61 0001 31")
 KILLS = 200
 FOLLOWERS = 3
-
-
-def wants(word, *rest):
-    """Skips a check where the program does not have a word."""
-    if run([word, os.path.join(os.sep, "absent", "store"), *rest])[1] == 1:
-        raise Skipped(f"the program has no word {word} yet")
 
 
 def followed(store, pieces):
@@ -235,12 +229,19 @@ class Copies:
         limits = chance.choice((4, 8, 16)), 1000000, 16384
         self.chance = chance
         self.leader, *self.followers = (StoreFile(folder, *limits) for _ in range(1 + FOLLOWERS))
+        self.limits = limits
         self.store = model.Store(*limits)  # after all changes of the log
-        self.stores = [copy.deepcopy(self.store)]  # after each number of them
         self.log = []  # the changes that the leader accepted, as far as it told of them
 
     def frame(self, number):
         return replicas.change_frame(number, self.log[number])
+
+    def after(self, number):
+        """The store after so many changes of the log."""
+        store = model.Store(*self.limits)
+        for change in self.log[:number]:
+            store.make(change)
+        return store
 
     def note(self, sent):
         """Takes what a leader wrote: a change is the one that is known by its number, or the next one."""
@@ -253,7 +254,6 @@ class Copies:
             expect(f"change {number} is accepted", self.store.refusal(*change[:2]), None)
             self.store.make(change)
             self.log.append(change)
-            self.stores.append(copy.deepcopy(self.store))
 
     def stop(self, most):
         """Where a run is killed: behind some of so many bytes of output, or soon after."""
@@ -286,7 +286,7 @@ class Copies:
         out, is_killed = ran("follow", follower.path, b"".join(given), self.stop(14 * len(given)) if stops else None)
         receipts = bodies_of(out)
         after = self.expect_prefix(follower)
-        want, _ = replicas.follow(copy.deepcopy(self.stores[before]), b"".join(given))
+        want, _ = replicas.follow(self.after(before), b"".join(given))
         expect("receipts", receipts, bodies_of(want)[:len(receipts)])
         taken = sum(body[4] == replicas.TAKEN for body in receipts)
         expect("what was answered is in the file", before + taken <= after <= before + len(given), True)
@@ -298,7 +298,7 @@ class Copies:
         expect("the follower's file", status, model.ENDED)
         number = got.counts()[2]
         expect("no more changes than the leader sent", number <= len(self.log), True)
-        expect_alike(f"a follower after {number} changes", got, self.stores[number])
+        expect_alike(f"a follower after {number} changes", got, self.after(number))
         return number
 
     def finish(self):

@@ -2,6 +2,8 @@
 
 from __future__ import annotations
 
+import contextlib
+import fcntl
 import os
 import warnings
 from collections import deque
@@ -17,6 +19,10 @@ from .store import Path, check_file, located
 from .storecopy import Progress, silent
 
 
+NARROW = 4096  # bytes that a pipe from a leader takes, where the system lets it be chosen
+SET_PIPE_SIZE = 1031  # F_SETPIPE_SZ of Linux, which `fcntl` has from Python 3.10 on
+
+
 class Keeper(Protocol):
     """What keeps the frames of one run of a leader, as the `writer` of a log does."""
 
@@ -27,6 +33,12 @@ class Keeper(Protocol):
     def close(self) -> None: ...
 
 
+def narrow(pipe: int) -> None:
+    """Has a pipe take little, so that a leader is not far ahead of what keeps its changes: what is in it is lost with its reader."""
+    with contextlib.suppress(OSError):  # it is no pipe, or of another system
+        fcntl.fcntl(pipe, SET_PIPE_SIZE, NARROW)
+
+
 def record(stream: int, keeper: Keeper, passes: Optional[BinaryIO] = None, progress: Progress = silent) -> int:
     """Keeps the frames that come on a descriptor, up to its end, and tells how many came.
 
@@ -34,6 +46,7 @@ def record(stream: int, keeper: Keeper, passes: Optional[BinaryIO] = None, progr
     of a leader that was killed, a `LogWarning` tells of it: the leader sends that change again at its next run, first of all.
     """
     count, rest = 0, b""
+    narrow(stream)
     while True:
         data = os.read(stream, CHUNK)
         if not data:
@@ -87,6 +100,7 @@ class Leader:
             self._lock = Lock(real, self.name)
             self._start, self.versions = self._counted(found, real)
             self._process = Process(found, ["lead", real], self.name, self._lock)
+            narrow(self._process.out)
         except BaseException:
             self._free()
             raise
