@@ -17,7 +17,7 @@ from types import TracebackType
 from typing import BinaryIO, Dict, Iterator, List, Optional, Protocol, Tuple, Type, Union
 
 from . import changes, forks
-from .errors import LogFault, LogForked, LogGap, LogLocked, LogMissing, LogWarning, WrongProtocol
+from .errors import Forked, LogFault, LogForked, LogGap, LogLocked, LogMissing, LogWarning, WrongProtocol
 from .files import sync_folder
 from .frames import BODY_MAX
 
@@ -271,7 +271,9 @@ class Writer:
         `LogGap` tells of changes that are missing before the first frame of the run. They left the leader's journal before they were
         kept: a run of another word made them, or what read them was killed. `LogForked` tells of a number that has another change already.
         """
-        if self._is_broken or self._lock.closed or self._owner != os.getpid():
+        if self._owner != os.getpid():
+            raise Forked("another process adds to the log, of which this one is a child", "Add to it there alone.", file=self._log.name)
+        if self._is_broken or self._lock.closed:
             raise LogFault("this run of the log takes no more changes", "Begin another one.", file=self._log.name)
         self._is_broken = True
         for frame in frames:

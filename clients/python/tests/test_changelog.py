@@ -162,7 +162,7 @@ class LogTest(StoreCase):
                 self.log.writer()
             with self.assertRaises(errors.LogLocked):
                 Log(self.log.name).writer()
-            self.assertEqual(os.waitpid(in_child(lambda: self.assertRaises(errors.LogFault, keeper.add, [change(1)])), 0)[1], 0)
+            self.assertEqual(os.waitpid(in_child(lambda: self.assertRaises(errors.Forked, keeper.add, [change(1)])), 0)[1], 0)
             keeper.add([change(1)])
         with self.assertRaises(errors.LogFault):
             keeper.add([change(2)])
