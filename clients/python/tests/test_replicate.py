@@ -433,6 +433,25 @@ class CommandTest(ReplicaCase):
         self.assertEqual(self.log.next, 1)
         self.assertEqual(self.run_command("record", "log", given=b"\xff" * 9)[2], 1)
 
+    def test_ctrl_c_amid_a_recording_leaves_whole_changes(self) -> None:
+        child = subprocess.Popen([sys.executable, COMMAND, "record", "log"], stdin=subprocess.PIPE, cwd=self.folder)
+        assert child.stdin
+        try:
+            child.stdin.write(b"".join(change(number) for number in range(30)) + change(30)[:7])
+            child.stdin.flush()
+            while not os.path.isdir(self.log.name) or self.log.next < 30:
+                time.sleep(0.01)
+            child.send_signal(signal.SIGINT)
+            self.assertEqual(child.wait(DEADLINE), 130)
+        finally:
+            child.kill()
+            child.stdin.close()
+            child.wait()
+        self.assertEqual([frame for found in self.log.read(0) for frame in found], [change(number) for number in range(30)])
+        sent = b"".join(change(number) for number in range(25, 40))
+        self.assertEqual(self.run_command("record", "log", given=sent), ("", "", 0))
+        self.assertEqual(self.log.next, 40)
+
     def test_a_signal_ends_what_stays_and_the_copy_is_free(self) -> None:
         self.stores()
         self.led(random.Random(9), 20)
