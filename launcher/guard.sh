@@ -35,8 +35,8 @@ castle keeps dictionaries whose versions form a tree, in one file.
     castle levels FILE                prints what is in which level of a store
     castle check FILE                 tells whether a store's file keeps every rule, and which one it breaks
     castle workload FILE SEED COUNT   makes a store of COUNT drawn changes, and prints a summary
-    castle lead FILE                  takes frames as serve does, and writes the changes that it accepts
-    castle follow FILE                takes the changes of a leader, and answers each by the number that it waits for
+    castle lead FILE                  serves a store, and sends its changes in place of replies
+    castle follow FILE                carries out the changes of a leader on a store
     castle export FILE VERSION        writes a version's pairs as frames that serve takes
     castle --overwrite format ..      the same where FILE is not empty, which is lost; also workload
     castle --build                    proves and builds the program, where that has to be done

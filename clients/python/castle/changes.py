@@ -8,8 +8,8 @@ from typing import List, NamedTuple, Optional, Tuple
 from . import frames, text
 from .errors import REFUSALS, WrongProtocol
 
-PUT, DELETE, CLONE = 1, 2, 3
-KINDS = {PUT: "put", DELETE: "delete", CLONE: "clone"}
+PUT, DELETE, CLONE, DROP = 1, 2, 3, 4
+KINDS = {PUT: "put", DELETE: "delete", CLONE: "clone", DROP: "drop"}
 TAKEN, OLD, GAP, MALFORMED, REFUSED = 0, 1, 2, 3, 4
 STATUSES = "taken", "old", "gap", "malformed", "refused"
 
@@ -24,7 +24,7 @@ class Change(NamedTuple):
 
     number: int
     kind: int
-    """`PUT`, `DELETE` or `CLONE`."""
+    """`PUT`, `DELETE`, `CLONE`, or `DROP`, which no store takes yet."""
     version: int
     key: bytes = b""
     value: Optional[bytes] = None
@@ -89,7 +89,7 @@ def change_of(frame: bytes) -> Change:
     """The change of a frame. A `WrongProtocol` tells that there is none."""
     try:
         length, number, kind, version = HEAD.unpack_from(frame)
-        change = Change(number, kind, version) if kind == CLONE else _update_of(frame, number, kind, version)
+        change = Change(number, kind, version) if kind in (CLONE, DROP) else _update_of(frame, number, kind, version)
     except (struct.error, IndexError):
         raise _none_of(frame) from None
     if length + 4 != len(frame) or _frame_of(change) != frame:
@@ -105,8 +105,8 @@ def _update_of(frame: bytes, number: int, kind: int, version: int) -> Change:
 
 
 def _frame_of(change: Change) -> bytes:
-    if change.kind == CLONE:
-        return clone(change.number, change.version)
+    if change.kind in (CLONE, DROP):
+        return HEAD.pack(9, change.number, change.kind, change.version)
     if not 1 <= len(change.key) <= frames.KEY_MAX or len(change.value or b"") > frames.VALUE_MAX:
         return b""
     if change.kind == DELETE:

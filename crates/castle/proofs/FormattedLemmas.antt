@@ -5,8 +5,8 @@ use Rattle.strat_model.specs.declared.ended.Ended.{Ended}
 use Rattle.strat_model.specs.declared.ended.Ended.TheVariants as ended
 use Rattle.strat_model.specs.Ended.{status_of}
 use Rattle.castle.specs.Outcomes.{SendsLine}
-use Rattle.strat_serve.specs.Session.{EndHasCause}
-use Rattle.strat_serve.specs.World.{World}
+use Rattle.strat_loop.specs.Session.{EndHasCause}
+use Rattle.strat_loop.specs.World.{World}
 
 -- where neither the sink nor the disk failed it is done, or found no memory
 pub formatted_ends : (how : Ended) (line : List ℕ) (before now : World) → SendsLine how before.held now.held line → EndHasCause how before now

@@ -19,9 +19,10 @@ use Rattle.def_recovery.specs.Opening.{recover}
 use Rattle.def_publish.specs.Standing.{ShowsTable}
 use Rattle.strat_open.specs.Following.{FollowsFrom, LeavesOpening}
 use Rattle.strat_memory.specs.Held.{head_held}
-use Rattle.strat_serve.specs.Session.{Took, AreNextIn, GaveUp, Served, RunOutcome, RefusesFor, EndsFor}
+use Rattle.strat_loop.specs.Session.{Took, AreNextIn, GaveUp, RefusesFor, EndsFor}
+use Rattle.strat_serve.specs.Serving.{Served, RunOutcome}
 use Rattle.strat_serve.specs.Tables.{AnswersAsTable, AnswersNothing, AnswersUntil, EndsAtTables, GoesThroughTables, KeepsSpace, begins_at}
-use Rattle.strat_serve.specs.World.{Streams, beside}
+use Rattle.strat_loop.specs.World.{Streams, beside}
 use Rattle.strat_serve.proofs.TableLemmas.{answers_as_table, goes_through, keeps_space, no_device_at_end}
 use Rattle.castle.specs.Headline.{HasNotBegun}
 use Rattle.castle.specs.Outcomes.{EndsAsInput}

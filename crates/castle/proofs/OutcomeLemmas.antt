@@ -22,9 +22,9 @@ use Rattle.strat_report.specs.Reporting.{AppendsFront, WritesReport, levels_text
 use Rattle.def_publish.specs.Standing.{ShowsTable}
 use Rattle.def_state.specs.State.{State, fresh_state, stored, updates_of}
 use Rattle.strat_open.specs.Format.{IsBlank, IsNewStore, IsNoneOrNew}
-use Rattle.strat_serve.specs.Session.{SendsPrefix, EndHasCause}
+use Rattle.strat_loop.specs.Session.{SendsPrefix, EndHasCause}
 use Rattle.strat_serve.specs.Tables.{BreaksForFault}
-use Rattle.strat_serve.specs.World.{Streams, beside}
+use Rattle.strat_loop.specs.World.{Streams, beside}
 use Rattle.strat_serve.proofs.TableLemmas.{at_some, thrifty_of}
 use Rattle.castle.specs.Headline.{GoesThroughNewTables, IsNoneOrThrifty}
 use Rattle.castle.specs.Outcomes.{SendsLine, Formats}

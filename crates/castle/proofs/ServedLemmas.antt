@@ -24,8 +24,9 @@ use Rattle.strat_open.specs.Following.{FollowsFrom, IsUnchanged, LeavesOpening}
 use Rattle.strat_open.specs.Format.{IsBlank, IsNewDisk, IsNewStore, IsNoneOrNew, head_for}
 use Rattle.strat_serve.specs.Generated.{workload_bytes, workload_bodies}
 use Rattle.strat_model.proofs.BatchLemmas.{over_nothing}
-use Rattle.strat_serve.specs.Session.{Took, AreNextIn, IsAtEnd, Session, EndsFor, FollowsRun, GaveUp, Served, RunOutcome, RefusesFor, EndHasCause}
-use Rattle.strat_serve.specs.World.{World, world}
+use Rattle.strat_loop.specs.Session.{Took, AreNextIn, IsAtEnd, Session, EndsFor, GaveUp, RefusesFor, EndHasCause}
+use Rattle.strat_serve.specs.Serving.{FollowsRun, Served, RunOutcome}
+use Rattle.strat_loop.specs.World.{World, world}
 use Rattle.strat_serve.proofs.StreamedLemmas.{few_bytes, front_of, all_of_it}
 use Rattle.castle.specs.Working.{EndsWorkload, EndsAfterAll, workload_start, FollowsNew, CarriesOutWorkload, LeavesWorkload}
 use Rattle.castle.proofs.CompleteLemmas.{finds_none, never_damaged}

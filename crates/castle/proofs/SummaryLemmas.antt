@@ -24,8 +24,8 @@ use Rattle.def_recovery.specs.Opening.{recover, recover_slot, recover_head}
 use Rattle.strat_report.specs.Reporting.{summary_text, levels_text, WritesReport, RecoversAs, IsSilent, AppendsFront, ReportHasCause}
 use Rattle.def_publish.specs.Standing.{ShowsTable}
 use Rattle.strat_memory.proofs.PayingLemmas.{paid_then, stored_since}
-use Rattle.strat_serve.specs.Session.{EndHasCause}
-use Rattle.strat_serve.specs.World.{World, world}
+use Rattle.strat_loop.specs.Session.{EndHasCause}
+use Rattle.strat_loop.specs.World.{World, world}
 use Rattle.castle.specs.Working.{EndsOnExposed, FollowsNew, CarriesOutWorkload, LeavesWorkload, SendsSummary, summary_of}
 use Rattle.castle.proofs.CompleteLemmas.{finds_head}
 

@@ -7,13 +7,15 @@ use Rattle.castle.specs.declared.arguments.Subcommand.{Subcommand as Borrowed}
 use Rattle.castle.specs.declared.arguments.Subcommand.TheVariants as borrowed
 
 -- what the program is asked to do: to make a store with these limits in a file, to serve one, to report its
--- levels, to check it, or to make one and carry out a workload on it
+-- levels, to check it, to make one and carry out a workload on it, to lead, or to follow a leader
 pub data Subcommand : Type 0 where
   Format : (path : List ℕ) (mem changes_max versions_max : ℕ) → Subcommand
   Serve : (path : List ℕ) → Subcommand
   Levels : (path : List ℕ) → Subcommand
   Check : (path : List ℕ) → Subcommand
   Workload : (path : List ℕ) (seed count : ℕ) → Subcommand
+  Lead : (path : List ℕ) → Subcommand
+  Follow : (path : List ℕ) → Subcommand
 
 -- a subcommand of the program, wherever its path lies
 abbrev pub subcommand_seen : Borrowed → Subcommand
@@ -23,6 +25,8 @@ subcommand_seen (borrowed.Serve path) = Serve path.now
 subcommand_seen (borrowed.Levels path) = Levels path.now
 subcommand_seen (borrowed.Check path) = Check path.now
 subcommand_seen (borrowed.Workload path seed count) = Workload path.now seed count
+subcommand_seen (borrowed.Lead path) = Lead path.now
+subcommand_seen (borrowed.Follow path) = Follow path.now
 
 -- the file of a subcommand
 abbrev pub path_of_subcommand : Subcommand → List ℕ
@@ -31,6 +35,8 @@ path_of_subcommand (Serve path) = path
 path_of_subcommand (Levels path) = path
 path_of_subcommand (Check path) = path
 path_of_subcommand (Workload path seed count) = path
+path_of_subcommand (Lead path) = path
+path_of_subcommand (Follow path) = path
 
 -- decimal digits, of which the first is 0 only where it is the only one
 abbrev pub is_numeral : List ℕ → Bool
@@ -45,14 +51,16 @@ number_in least most word =
     then Some (digits_value 10 word)
     else None
 
--- the subcommand of opening a store, to serve it, to report its levels or to check it, where these
+-- the subcommand of opening a store, to serve it, to report its levels, to check it, to lead or to follow, where these
 -- arguments ask for one
 abbrev pub opening_in : List ℕ → List ℕ → Option Subcommand
 opening_in job path =
     if length path == 0 then None else
     if bytes_eq job (codes "serve") then Some (Serve path) else
     if bytes_eq job (codes "levels") then Some (Levels path) else
-    if bytes_eq job (codes "check") then Some (Check path) else None
+    if bytes_eq job (codes "check") then Some (Check path) else
+    if bytes_eq job (codes "lead") then Some (Lead path) else
+    if bytes_eq job (codes "follow") then Some (Follow path) else None
 
 -- the subcommand of making a store, where these arguments ask for it and the numbers among them
 -- are a store's limits

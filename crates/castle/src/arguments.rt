@@ -34,6 +34,14 @@ pub enum Subcommand<'a> {
     Check {
         path: &'a str,
     },
+    /// To serve the store in a file, and to send its changes in place of replies.
+    Lead {
+        path: &'a str,
+    },
+    /// To carry out the changes of a leader on the store in a file.
+    Follow {
+        path: &'a str,
+    },
     /// To make a store in a file, and to carry out so many changes on it, which are drawn from this
     /// seed.
     Workload {
@@ -92,7 +100,7 @@ fn number(word: &str, least: u32, most: u32) -> Option<u32>
     Some(n)
 }
 
-/// The subcommand of opening a store, to serve it, to report its levels or to check it, where these
+/// The subcommand of opening a store, to serve it, to report its levels, to check it, to lead or to follow, where these
 /// arguments ask for one.
 fn opening_of<'a>(job: &str, path: &'a str) -> Option<Subcommand<'a>>
     ensures { Finds subcommand_seen result (opening_in job.now path.now) }
@@ -108,6 +116,12 @@ fn opening_of<'a>(job: &str, path: &'a str) -> Option<Subcommand<'a>>
     }
     if job == "check" {
         return Some(Subcommand::Check { path });
+    }
+    if job == "lead" {
+        return Some(Subcommand::Lead { path });
+    }
+    if job == "follow" {
+        return Some(Subcommand::Follow { path });
     }
     None
 }
@@ -152,7 +166,7 @@ fn workload_of<'a>(job: &str, path: &'a str, seed: &str, count: &str) -> Option<
 }
 
 /// The subcommand that the arguments name, where they name one: `format FILE M C V`, `serve
-/// FILE`, `levels FILE`, `check FILE` or `workload FILE SEED COUNT`.
+/// FILE`, `levels FILE`, `check FILE`, `workload FILE SEED COUNT`, `lead FILE` or `follow FILE`.
 pub fn subcommand_of(words: &[String]) -> Option<Subcommand<'_>>
     ensures { Finds subcommand_seen result (subcommand_in (map string_bytes words.now)) }
 {
@@ -190,6 +204,8 @@ pub fn path_of(words: &[String]) -> Option<&str>
         Some(Subcommand::Serve { path }) => Some(path),
         Some(Subcommand::Levels { path }) => Some(path),
         Some(Subcommand::Check { path }) => Some(path),
+        Some(Subcommand::Lead { path }) => Some(path),
+        Some(Subcommand::Follow { path }) => Some(path),
         Some(
             Subcommand::Workload {
                 path,

@@ -3,6 +3,7 @@
 
 mod any_image;
 mod arguments;
+mod copies;
 mod formatting;
 mod headline;
 mod laws;

@@ -7,6 +7,7 @@ ghost use Rattle.def_crash.specs.Faults.{CountsFaults, ReadsAtMost};
 ghost use Rattle.def_crash.specs.Image.{Image};
 ghost use Rattle.def_bytes.specs.Layout as places;
 ghost use Rattle.def_bytes.specs.Layout.{IsRegion};
+ghost use Rattle.def_bytes.specs.Records.{records_bytes};
 ghost use Rattle.def_crash.specs.Moments.{Exposes, Since, Passes, TearsOnly, IsDurable};
 ghost use Rattle.strat_journal.specs.RegionReader.{AreRecords};
 ghost use Rattle.strat_journal.specs.Log.{Stands, GivesAllOrNone, HoldsBatch, KeepsShortJournal, batch_joined, batch_region, region_begun, region_turned, with_list, empty_log, IsRegionShut};
@@ -120,6 +121,13 @@ impl Journal {
         ensures { result ≡ length self.now.list }
     {
         self.count
+    }
+
+    /// The records of the changes in the list, one after the other, as they stand on the disk.
+    pub fn records(&self) -> &[u8]
+        ensures { result.now ≡ records_bytes self.now.list }
+    {
+        &self.bytes[..self.end]
     }
 
     /// How many changes more the journal takes. Those of the batch are not counted.

@@ -17,10 +17,11 @@ use Rattle.strat_model.specs.declared.replies.Refusal.TheVariants as why
 use Rattle.def_crash.specs.Image.{Image}
 use Rattle.def_crash.specs.Moments.{DiskView}
 use Rattle.strat_serve.specs.Replying.{replies}
-use Rattle.strat_serve.specs.Session.{AreAnsweredBy, AreCalm, FollowsRun, IsSession, RespondsTo, RunOutcome, Sends, SendsAllBut, Served, WaitsForNone, all_responses, last_output, listed_response, output}
-use Rattle.strat_serve.specs.Speech.{IsDeclined, IsSpokenBatch, IsSpokenChange, IsSpokenRun, Said, Says, SaysFault, response_of, said_bytes}
-use Rattle.strat_serve.specs.Spoken.{AreSaidCalmly, AreSaidTo, FollowsSpokenRun, IsSaidFor, IsSitting, SendsAllButLast, SendsSaid, ServedBy, Sitting, SpokenOutcome, all_said, last_said, listed_said, output_of, session_of}
-use Rattle.strat_serve.specs.World.{World}
+use Rattle.strat_loop.specs.Session.{WaitsForNone}
+use Rattle.strat_serve.specs.Serving.{AreAnsweredBy, AreCalm, FollowsRun, IsSession, RespondsTo, RunOutcome, Sends, SendsAllBut, Served, all_responses, last_output, listed_response, output}
+use Rattle.strat_loop.specs.Speech.{IsDeclined, IsSpokenBatch, IsSpokenChange, IsSpokenRun, Said, Says, SaysFault, response_of, said_bytes}
+use Rattle.strat_loop.specs.Spoken.{AreSaidCalmly, AreSaidTo, FollowsSpokenRun, IsSaidFor, IsSitting, SendsAllButLast, SendsSaid, ServedBy, Sitting, SpokenOutcome, all_said, last_said, listed_said, output_of, session_of}
+use Rattle.strat_loop.specs.World.{World}
 
 -- the bytes of what was said are those of the response
 abbrev IsReply : Said → Type 0

@@ -1,10 +1,4 @@
 pub mod Generated
-pub mod Session
-pub mod Speech
-pub mod Spoken
+pub mod Serving
 pub mod Replying
-pub mod World
 pub mod Tables
-pub mod Pending
-pub mod Progress
-pub mod Grouping

@@ -3,8 +3,8 @@ use Rattle.std.specs.Prelude.{◌≡◌, ℕ, List}
 use Rattle.strat_model.specs.Run.{response_bytes}
 use Rattle.strat_model.specs.Spelling.{Spells, reply_body}
 use Rattle.strat_model.specs.Stream.{frame}
-use Rattle.strat_serve.specs.Session.{IsRefusedFor, too_long_bytes}
-use Rattle.strat_serve.specs.Speech.{Said, Speech, response_of}
+use Rattle.strat_serve.specs.Serving.{IsRefusedFor, too_long_bytes}
+use Rattle.strat_loop.specs.Speech.{Said, Speech, response_of}
 
 -- a body that is no command is refused for what is wrong with it, by a reply
 pub record IsRefusedBy (body : List ℕ) (said : Said) : Type 0 where

@@ -21,7 +21,7 @@ ghost use Rattle.strat_model.specs.Answer.{refusal};
 ghost use Rattle.strat_model.specs.Ended.{status_of};
 ghost use Rattle.strat_model.specs.Request.{Request};
 ghost use Rattle.strat_model.specs.Batch.{tables_continued};
-ghost use Rattle.strat_model.specs.Run.{Interruption, Position, Response, Transcript, bodies_of, positions_of, reaches_disk, takes_memory};
+ghost use Rattle.strat_model.specs.Run.{Position, Response, Transcript, bodies_of, positions_of, reaches_disk, takes_memory};
 ghost use Rattle.strat_model.specs.Spelling.{Spells, IsRefusedAs};
 ghost use Rattle.strat_model.specs.Stream.{Splits, frame};
 ghost use Rattle.strat_model.specs.Table.{Table, bare};
@@ -34,24 +34,12 @@ ghost use Rattle.strat_publish.specs.Outcomes.{IsDamagedIn};
 ghost use Rattle.strat_store.specs.Applying.{is_fault};
 ghost use Rattle.strat_memory.specs.Held.{Held, IsConsistent, IsOnDisk, arrays_held};
 ghost use Rattle.strat_store.specs.Ranging.{HasPairsFor};
-ghost use Rattle.strat_serve.specs.Session.{Begins, AreCalm, GaveUp, IsSession, IsTaggedFor, RespondsTo, Served, Session, WasPublished, all_responses};
-ghost use Rattle.strat_serve.specs.Grouping.{StagesBody};
-ghost use Rattle.strat_serve.specs.Speech.{Said, Says, SaysFault};
-ghost use Rattle.strat_serve.specs.Spoken.{AreSaidAt, FollowsSpokenRun, IsSaidAt, Sitting};
+ghost use Rattle.strat_loop.specs.Session.{GaveUp, Session, WasPublished};
+ghost use Rattle.strat_serve.specs.Serving.{AreCalm, IsSession, IsTaggedFor, RespondsTo, Served, all_responses};
 ghost use Rattle.strat_serve.specs.Tables.{AnswersAsTable, EndsAtTables, GoesThroughTables, KeepsSpace, begins_at};
-ghost use Rattle.strat_serve.specs.World.{Streams, beside};
+ghost use Rattle.strat_loop.specs.World.{Streams, beside};
 
-use crate::protocol::Protocol;
 use def_crash::laws::Viewed;
-
-/// An image shows one table, and a run that is served from it begins there. What a run leaves at each
-/// moment shows one of its tables, at or after the last that it acknowledged by then: so where a run
-/// is cut off, the next one goes on from that table.
-pub fn a_run_begins_where_the_last_one_was_cut_off()
-    ensures one { (c : Image) (t other : Table) → ShowsTable c t → ShowsTable c other → t ≡ other }
-    ensures ok { (c : Image) (t : Table) (mem : ℕ) (start : Position) → ShowsTable c t
-        → Begins c mem start → start.table ≡ t }
-{}
 
 /// A run that was served over a disk that shows a table answers what it took as a run of that table does. At its
 /// end a crash leaves the table after all that was answered, or after one command more that met a fault and the whole
@@ -203,39 +191,4 @@ pub fn a_run_may_be_continued_over_the_rest_of_a_batch<D: Viewed>()
         → EndsAtTables run end (D.view e) → Images (D.view e) c
         → ShowsTable c (bare run.after.table)
         ⊎ (IsSome run.interruption × ShowsTable c (bare end.table)) }
-{}
-
-/// What is said to a body in a run of a protocol is what the protocol says at as many changes as the table has there: that it
-/// asks for nothing, or the bytes for the answer to what it asks for. So it is with a fault, which answers only what was asked.
-pub fn a_run_says_what_its_protocol_does<P: Protocol>()
-    ensures ok { (mem : ℕ) (at after : Position) (body : List ℕ) (said : Said)
-        → Says P.speech mem at body said after
-        → P.speech.Declines at.table.changes body said
-        ⊎ ((request : Request) × P.speech.Asks at.table.changes body said.tag request
-        × (said.sent ≡ P.speech.tells at.table.changes said.tag request said.answer)) }
-    ensures fault { (mem : ℕ) (at done : Position) (body : List ℕ) (said : Said)
-        → SaysFault P.speech mem at body said done
-        → (request : Request) × P.speech.Asks at.table.changes body said.tag request
-        × (said.sent ≡ P.speech.tells at.table.changes said.tag request said.answer) }
-{}
-
-/// Each change of a batch counts: what is said to the body behind it is what the protocol says at one change more, though neither
-/// is durable yet.
-pub fn a_batch_counts_on<P: Protocol>()
-    ensures ok { (old mid new : Held) (body other : List ℕ) (said more : Said)
-        → StagesBody P.speech old body said mid → StagesBody P.speech mid other more new
-        → (request : Request) × P.speech.Asks (old.memory.changes + 1) other more.tag request
-        × (more.sent ≡ P.speech.tells (old.memory.changes + 1) more.tag request more.answer) }
-{}
-
-/// In a run of a table each body was told what the protocol says at the changes of the table there, and the sink got that. So
-/// was the body that met a fault, behind the others.
-pub fn what_a_run_sent_is_what_its_protocol_says<P: Protocol, D: Viewed>()
-    ensures ok { (d e : D) (f : Image) (t : Table) (s : Sitting)
-        → (r : FollowsSpokenRun P.speech (D.view d) (D.view e) f t s)
-        → AreSaidAt P.speech r.transcript.exchanges s.answers }
-    ensures fault { (d e : D) (f : Image) (t : Table) (s : Sitting) (said : Said)
-        → (r : FollowsSpokenRun P.speech (D.view d) (D.view e) f t s) → s.broken ≡ Some said
-        → (h : Interruption) × (r.transcript.interruption ≡ Some h)
-        × IsSaidAt P.speech r.transcript.after.table.changes h.body said }
 {}

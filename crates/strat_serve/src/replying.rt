@@ -3,9 +3,9 @@
 ghost use Rattle.std.specs.Prelude.{◌≡◌};
 ghost use Rattle.strat_frame.specs.Faults.{refusal_for};
 
-use crate::protocol::Protocol;
 use strat_base::PairBuf;
 use strat_frame::{BodyFault, OutBuf, parse_command, write_reply};
+use strat_loop::Protocol;
 use strat_model::{Command, Refusal, Reply};
 
 /// How a body that is no command is refused.

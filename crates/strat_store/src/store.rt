@@ -11,6 +11,7 @@ ghost use Rattle.def_crash.specs.Image.{Image};
 ghost use Rattle.def_crash.specs.Moments.{Exposes, Images, Passes, Since};
 ghost use Rattle.def_bytes.specs.Chain.{chain_length};
 ghost use Rattle.def_bytes.specs.Layout.{region_blocks};
+ghost use Rattle.def_bytes.specs.Records.{records_bytes};
 ghost use Rattle.strat_model.specs.Answer.{as_told};
 ghost use Rattle.strat_model.specs.Command.{request_of};
 ghost use Rattle.strat_model.specs.Spelling.{has_lawful_sizes};
@@ -260,6 +261,20 @@ impl Store {
         ensures ok { result ≡ self.now.memory.changes }
     {
         self.held.memory.counts().0
+    }
+
+    /// How many changes its journal has: those since the last checkpoint. O(1).
+    pub fn journal_changes(&self) -> u32
+        ensures ok { result ≡ length self.now.log.list }
+    {
+        self.held.journal.count()
+    }
+
+    /// The records of these changes in their order, as they stand on the disk. O(1).
+    pub fn journal_records(&self) -> &[u8]
+        ensures ok { result.now ≡ records_bytes self.now.log.list }
+    {
+        self.held.journal.records()
     }
 
     /// Whether the store keeps a filter of an array of its levels. One that was opened has none; its checkpoints make them, as

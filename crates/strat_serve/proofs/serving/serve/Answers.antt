@@ -1,4 +1,4 @@
-use Rattle.strat_serve.specs.World.{world}
+use Rattle.strat_loop.specs.World.{world}
 use Rattle.strat_serve.proofs.RepliesLemmas.{outcome_so}
 use Rattle.strat_serve.proofs.serving.serve.Goals as goal
 

@@ -6,8 +6,8 @@ use Rattle.strat_model.specs.Spelling.{reply_body}
 use Rattle.strat_model.specs.Stream.{frame}
 use Rattle.strat_model.specs.declared.replies.Refusal.{Refusal}
 use Rattle.strat_model.specs.declared.replies.Reply.TheVariants as reply
-use Rattle.strat_serve.specs.Speech.{Said}
-use Rattle.strat_serve.proofs.AnswerLemmas.{none_told}
+use Rattle.strat_loop.specs.Speech.{Said}
+use Rattle.strat_serve.proofs.ReplyingLemmas.{none_told}
 use Rattle.strat_serve.proofs.replying.RepliesProtocol.ask.Goals as goal
 
 pub returns-in-Err-clause-none : goal.returns-in-Err-clause-none

@@ -3,7 +3,7 @@ use Rattle.strat_model.specs.Answer.{as_told, plain}
 use Rattle.strat_model.specs.Pairs.{Pairs}
 use Rattle.strat_model.specs.Spelling.{reply_body}
 use Rattle.strat_model.specs.Stream.{frame}
-use Rattle.strat_serve.proofs.StagedLemmas.{made_short}
+use Rattle.strat_serve.proofs.ReplyingLemmas.{made_short}
 use Rattle.strat_serve.proofs.replying.RepliesProtocol.tell.Goals as goal
 
 pub returns-clause-room : goal.returns-clause-room
