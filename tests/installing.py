@@ -13,7 +13,7 @@ import subprocess
 import sys
 
 from launching import NOT_BUILT, REFUSED, Terminal, castle, expect_files, expect_refused, launch, served
-from model import Store
+from model import Store, put
 from program import DEADLINE, TOP, Skipped, StoreFile, bytes_of, complaint, expect, run_checks
 
 INSTALL = str(TOP / "install")
@@ -81,6 +81,8 @@ def an_installed_castle_refuses_and_locks_as_the_checkout_does(folder):
 def an_installed_shell_finds_client_and_program(folder):
     prefix, run = installed(folder)
     run("castle", "format", "a.store", "64", "100", "10")
+    got = run("castle-replicate", "commands", input=b"put a 1\n")
+    expect("commands as frames", got, (put(1, b"a", b"1"), 0, b""))
     got = run("castle-shell", "a.store", input=b"put a 1\nget a\n")
     expect("a script", got, (b"done\n1\n", 0, b""))
     elsewhere = {"cwd": folder, "env": {"PATH": os.environ["PATH"], "HOME": folder}}

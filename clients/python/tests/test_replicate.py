@@ -188,20 +188,28 @@ class ReplicaTest(ReplicaCase):
             replicate.Replica(self.copy).catch_up(other)
         self.assertEqual(caught.exception.wanted, end)
 
-    def test_a_copy_that_is_open_is_fed_in_turns(self) -> None:
+    def test_a_copy_waits_for_a_log_that_is_not_there_and_is_fed_in_turns_while_others_open_it(self) -> None:
         self.stores()
-        self.led(random.Random(5), 30)
         replica, seen, stops = replicate.Replica(self.copy), [], []
 
         def tell(what: str, done: int, total: Optional[int]) -> None:
             seen.append(what)
 
+        self.assertRaises(errors.LogMissing, replica.catch_up, self.log)
+        threads = Threads(lambda: replica.stay(self.log, lambda: bool(stops) or "changes" in seen, tell, 0.02))
+        while "waiting for the log" not in seen:
+            time.sleep(0.01)
+        self.led(random.Random(5), 30)
+        self.assertEqual(threads.join(), [])
+        self.led(random.Random(5), 30)
+        seen.clear()
         with Store(self.copy) as store:
             self.assertRaises(errors.StoreLocked, replica.catch_up, self.log)
             threads = Threads(lambda: replica.stay(self.log, lambda: bool(stops), tell, 0.02))
             while "waiting, since the store is open" not in seen:
                 time.sleep(0.01)
-            self.assertEqual(store.stat().changes, 0)
+            self.assertEqual(store.stat().changes, replica.next)
+            self.assertLess(store.stat().changes, self.log.next)
         while replica.next != self.log.next:
             time.sleep(0.01)
         stops.append(1)
