@@ -211,7 +211,7 @@ class RedisWriter:
                 if repeated is not None:
                     repeated.check(self._log.name, frame)
             else:
-                self._add(number, frame)
+                self._add(number, frame)  # one by one, since behind one that fails none may be added: its number would be lost for good
             self._next = number + 1
 
     def _repeated(self, number: int) -> Optional[Repeats]:
