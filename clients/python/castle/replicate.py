@@ -7,8 +7,8 @@
         leader.put(0, "user/1/name", "Ann")
     replicate.Replica("copy.store").catch_up(log)
 
-It is not proved. What is proved of the program holds whatever this does: a follower's table is that of its leader after a prefix
-of the leader's changes.
+It is not proved. What is proved of the program holds whatever frames this loses, repeats or mixes up: a follower's table is that
+of its leader after a prefix of the leader's changes.
 """
 
 from __future__ import annotations
