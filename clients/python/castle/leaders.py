@@ -5,6 +5,7 @@ from __future__ import annotations
 import contextlib
 import fcntl
 import os
+import time
 import warnings
 from collections import deque
 from typing import BinaryIO, Deque, List, NamedTuple, Optional, Protocol, Tuple, Union
@@ -19,6 +20,7 @@ from .store import Path, check_file, located
 from .storecopy import Progress, silent
 
 
+OFTEN = 0.05  # seconds between two looks for what was accepted, while commands are sent
 NARROW = 4096  # bytes that a pipe from a leader takes, where the system lets it be chosen
 SET_PIPE_SIZE = 1031  # F_SETPIPE_SZ of Linux, which `fcntl` has from Python 3.10 on
 
@@ -82,8 +84,9 @@ class Leader:
             leader.put(0, "user/1/name", "Ann")
         print(leader.led)
 
-    It belongs to the process and the thread that made it. Commands are sent without a wait, and `close` waits for all. A leader
-    answers an accepted change alone, so what was refused is known at the end, or as soon as a later change is there.
+    It belongs to the process and the thread that made it. Commands are sent at once, without a wait for what comes of them. `wait`
+    has all of it in the log, and so has `close`: call one of them before a pause. A leader answers an accepted change alone, so
+    what was refused is known at the end, or as soon as a later change is there.
     """
 
     led: Optional[Led] = None
@@ -101,6 +104,7 @@ class Leader:
             self._start, self.versions = self._counted(found, real)
             self._process = Process(found, ["lead", real], self.name, self._lock)
             narrow(self._process.out)
+            os.set_blocking(self._process.out, False)  # of this end of the pipe alone
         except BaseException:
             self._free()
             raise
@@ -108,6 +112,7 @@ class Leader:
         self._rest = b""
         self._unsent: Deque[bytes] = deque()
         self._size = 0  # of what is unsent
+        self._looked = time.monotonic()
         self._asked: Deque[bytes] = deque()
         self._refused: List[str] = []
         self._end: Optional[errors.Ended] = None
@@ -148,6 +153,9 @@ class Leader:
         self._unsent.append(frame)
         self._asked.append(frame)
         self._size += len(frame)
+        self._write(self._process.inp)
+        if self._size >= CHUNK or time.monotonic() - self._looked > OFTEN:
+            self._look()
         while self._size >= CHUNK:
             self._turn()
 
@@ -162,6 +170,12 @@ class Leader:
         return self._next
 
     # Exchanges
+
+    def _look(self) -> None:
+        """Keeps what the leader wrote so far."""
+        self._looked = time.monotonic()
+        with contextlib.suppress(BlockingIOError):
+            self._read(self._process.out)
 
     def _check(self) -> None:
         if self.led is not None:

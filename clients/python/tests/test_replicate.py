@@ -92,6 +92,22 @@ class LeaderTest(ReplicaCase):
                          ["0 put a 1 @0", "1 clone @0", "2 put a 2 @1"])
         self.assertEqual(tables(self.path), [{b"a": b"1"}, {b"a": b"2"}])
 
+    def test_what_is_sent_reaches_the_leader_at_once_and_the_log_soon(self) -> None:
+        self.stores()
+        with replicate.Leader(self.path, self.log) as leader:
+            leader.put(0, "a", "1")
+            deadline = time.monotonic() + 10
+            while replicate.changes_in(self.path) == 0 and time.monotonic() < deadline:
+                time.sleep(0.01)
+            self.assertEqual(replicate.changes_in(self.path), 1)
+            time.sleep(0.1)
+            leader.put(0, "b", "1")
+            self.assertEqual((self.log.next, leader.next), (1, 1))
+            for number in range(5000):
+                leader.put(0, f"{number}", "v" * 50)
+            leader.wait()
+            self.assertEqual(self.log.next, 5002)
+
     def test_a_later_run_repeats_its_journal_and_the_log_has_each_change_once(self) -> None:
         chance = random.Random(1)
         self.stores(8)
