@@ -22,7 +22,7 @@ from castle import Lost, Salvage, Store, errors, keeping, salvaging, storecopy
 from castle.shell import COMMANDS
 
 SEED = 20
-COUNT = int(os.environ.get("CASTLE_SALVAGES", "100"))  # stores that are damaged
+COUNT = int(os.environ.get("CASTLE_SALVAGES", "500"))  # stores that are damaged
 DAMAGED = COUNT * 3 // 5  # by damaged blocks
 ANY = COUNT - DAMAGED  # in any way
 
