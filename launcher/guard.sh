@@ -21,7 +21,8 @@ forget_lock() {
 
 # The program's own line. It stands here too, so that nothing has to be built to say it.
 usage() {
-    refuse 1 "usage: castle format FILE M C V, serve FILE, levels FILE, check FILE, workload FILE SEED COUNT, lead FILE, follow FILE, export FILE VERSION"
+    refuse 1 "usage: castle format FILE M C V, serve FILE, levels FILE, check FILE, workload FILE SEED COUNT, lead FILE, \
+follow FILE, export FILE VERSION"
 }
 
 show_help() {
@@ -58,8 +59,8 @@ is_number() {
 check_words() {
     case ${1-}:$#:$overwrite in
         serve:2: | levels:2: | check:2: | lead:2: | follow:2:) ;;
-        format:5:*) is_number "$3" 4 4096 && is_number "$4" 1 16777216 && is_number "$5" 1 16384 || usage ;;
         export:3:) is_number "$3" 0 4294967295 || usage ;;
+        format:5:*) is_number "$3" 4 4096 && is_number "$4" 1 16777216 && is_number "$5" 1 16384 || usage ;;
         workload:4:*) is_number "$3" 0 18446744073709551615 && is_number "$4" 0 1000000 || usage ;;
         *) usage ;;
     esac
@@ -311,11 +312,13 @@ run() {
     if [ "$1" = check ] && [ -t 2 ]; then
         check_store "$@"
     fi
-    if [ -t 0 ]; then
-        case $1 in
-            serve) echo "castle: serve reads frames from standard input, which is a terminal here; people use castle-shell" >&2 ;;
-            lead | follow) echo "castle: $1 reads frames from standard input, which is a terminal here" >&2 ;;
-        esac
+    case $1 in
+        serve | lead) people=castle-shell ;;
+        follow) people="castle-replicate feed" ;;
+        *) people= ;;
+    esac
+    if [ -n "$people" ] && [ -t 0 ]; then
+        echo "castle: $1 reads frames from standard input, which is a terminal here; people use $people" >&2
     fi
     exec "$program" "$@"
 }

@@ -3,7 +3,7 @@
 from __future__ import annotations
 
 from itertools import islice
-from typing import BinaryIO, Iterable, Iterator, List, NoReturn
+from typing import BinaryIO, Iterable, Iterator, List, NoReturn, Optional
 
 from . import dump, frames
 from .errors import DumpFault
@@ -37,9 +37,12 @@ def count(file: BinaryIO, name: str, interrupts: Interrupts) -> int:
     return found
 
 
-def pairs_of(pieces: Iterable[bytes], name: str) -> Iterator[Pair]:
-    """The pairs of frames, in order. A `DumpFault` tells of the first frame that is not one of an export, or is cut off."""
-    data, number, last = b"", 0, b""
+def pairs_of(pieces: Iterable[bytes], name: str, remaps: bool = False) -> Iterator[Pair]:
+    """The pairs of frames, in order. A `DumpFault` tells of the first frame that is not one of an export, or is cut off.
+
+    With `remaps` tags are any, and versions too, as long as all are the same.
+    """
+    data, number, last, version = b"", 0, b"", None if remaps else 0
     for piece in pieces:
         data += piece
         found: List[Pair] = []
@@ -53,6 +56,7 @@ def pairs_of(pieces: Iterable[bytes], name: str) -> Iterator[Pair]:
                 break
             number += 1
             try:
+                version = _checked_head(data[at:end], number, version, remaps, name)
                 found.append(_pair_of(data[at:end], number, last, name))
             except DumpFault:
                 yield from found
@@ -64,17 +68,28 @@ def pairs_of(pieces: Iterable[bytes], name: str) -> Iterator[Pair]:
         _refuse(number + 1, "is cut off", name, "Export again: the file has not all of it.")
 
 
-def _pair_of(frame: bytes, number: int, last: bytes, name: str) -> Pair:
-    """The pair of a frame, whose key lies behind the last one."""
+def _checked_head(frame: bytes, number: int, wanted: Optional[int], remaps: bool, name: str) -> int:
+    """The version of a frame of a put, which has that of the frames before it, and the tag of its number."""
     head = frames.KEY_HEAD.size
     if len(frame) < head + 2 or frame[8] != frames.PUT:
         _refuse(number, "is no put", name)
     _, tag, _, version, size = frames.KEY_HEAD.unpack_from(frame)
-    key, rest = frame[head:head + size], frame[head + size:]
+    rest = frame[head + size:]
     if len(rest) < 2 or len(rest) != 2 + frames.SIZE.unpack_from(rest)[0]:
         _refuse(number, "is no put", name)
-    if version or tag != number & frames.NUMBER_MAX:
+    if not remaps and (version or tag != number & frames.NUMBER_MAX):
         _refuse(number, f"has tag {tag} and version {version}, and not tag {number} and version 0", name)
+    if wanted is not None and version != wanted:
+        _refuse(number, f"is of version {version}, and the frames before it are of version {wanted}", name, "Import one version at a time.")
+    made: int = version
+    return made
+
+
+def _pair_of(frame: bytes, number: int, last: bytes, name: str) -> Pair:
+    """The pair of a frame of a put, whose key lies behind the last one."""
+    head = frames.KEY_HEAD.size
+    size = frames.SIZE.unpack_from(frame, frames.VERSION_HEAD.size)[0]
+    key, rest = frame[head:head + size], frame[head + size:]
     if key <= last:
         _refuse(number, "has a key that is not behind that of the frame before", name)
     return dump.checked(key, rest[2:], number, name, "frame")

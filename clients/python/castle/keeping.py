@@ -1,4 +1,4 @@
-"""The commands `backup` and `salvage`, of a shell over an open store and of a process that opens none."""
+"""The commands `backup`, `salvage`, `export` and `import`, of a shell over an open store and, the first two, of a process that opens none."""
 
 from __future__ import annotations
 
@@ -8,7 +8,7 @@ import sys
 from typing import TYPE_CHECKING, Callable, Dict, Iterator, List, Mapping, NamedTuple, Sequence
 
 from . import jsonform, rescue
-from .errors import CastleError, SomethingLost, Unreadable
+from .errors import CastleError, SomethingLost, SomethingRefused, Unreadable
 from .lines import Command, check_words, take_options
 from .progress import Line, teller
 from .salvaging import Lost, Salvage
@@ -22,16 +22,17 @@ if TYPE_CHECKING:
 FAILED, LOST, NOTHING = 2, 1, 3
 """Exit statuses of one command: it failed; something is lost or in doubt; nothing can be read."""
 STOPPED = "stopped; nothing was made"
+STOPPED_AMID = "stopped; some of the pairs were put, and to import the file again puts them all"
 
 
 @contextlib.contextmanager
-def progress(interrupts: Interrupts) -> Iterator[Progress]:
+def progress(interrupts: Interrupts, stopped: str = STOPPED) -> Iterator[Progress]:
     """What tells how far a command is, which Ctrl-C stops."""
     line = Line()
     try:
         yield teller(interrupts, line)
     except (Stopped, KeyboardInterrupt):
-        raise Stopped(STOPPED) from None
+        raise Stopped(stopped) from None
     finally:
         line.clear()
 
@@ -54,6 +55,25 @@ def salvage(shell: "Shell", rest: List[Word]) -> None:
         shell.out.write(f"{line}\n")
     if not (found.is_whole or shell.is_typed):
         raise SomethingLost(file=shell.store.path, command="salvage")
+
+
+def export(shell: "Shell", rest: List[Word]) -> None:
+    """Carries out `export`."""
+    with progress(shell.interrupts) as tell:
+        shell.store.export(shell.version(), rest[0].path, progress=tell)
+    shell.say(f"wrote {shown(os.fsencode(rest[0].path))}", wrote=os.fsencode(rest[0].path))
+
+
+def take(shell: "Shell", rest: List[Word]) -> None:
+    """Carries out `import`. In a script it is an error if a pair is refused."""
+    version = shell.version()
+    with progress(shell.interrupts, STOPPED_AMID) as tell:
+        found = shell.store.import_from(rest[0].path, version, progress=tell)
+    for key, error in found.refused:
+        shell.say(f"refused: {shown(key)}: {error.what}", refused=key, error=error.what)
+    shell.say(f"imported {counted(found.pairs, 'pair')} into {shell.titled(version)}", imported=found.pairs, version=version)
+    if not (found.is_whole or shell.is_typed):
+        raise SomethingRefused(file=shell.store.path, command="import")
 
 
 # Of a process

@@ -35,6 +35,7 @@ from .verdict import Verdict
 from .view import VersionView
 
 if TYPE_CHECKING:
+    from .exporting import Imported
     from .hubstore import Connection
     from .rescue import Source
     from .salvaging import Salvage
@@ -343,6 +344,27 @@ class Store:
         """Makes a new store of what the file of this one still gives, as it is at this call; see `castle.salvage`."""
         from .rescue import make_salvage
         return make_salvage(self._source(), to, overwrite, doubtful, progress)
+
+    # One version as a file
+
+    def export(self, version: Version, to: Path, *, progress: Progress = silent) -> None:
+        """Writes a version as it is at this call into a file of puts, as `castle export` does. Other commands may come meanwhile.
+
+        The file takes its place whole, or not at all. `castle.export` is of a store that nobody has open.
+        """
+        from .exporting import export_open  # which is made of this class
+        export_open(self, self.number(version), to, progress)
+
+    def import_from(self, path: Path, version: Version, *, progress: Progress = silent) -> "Imported":
+        """Puts the pairs of such a file into a version, and tells which of them were refused.
+
+        Tags and versions of the frames are passed over: they may be of any version, all of one. A file that can be read twice is
+        looked at first as a whole, and `DumpFault` tells of one that was cut off or is no export: then nothing was put. `Frozen` and
+        `UnknownVersion` come before anything is put, too. To import a file again does no harm. `progress` is called as the work goes on,
+        and an exception of it ends the import between two windows of 256 pairs.
+        """
+        from .exporting import import_file
+        return import_file(self, path, self.number(version), progress)
 
     # What is made of that
 

@@ -22,8 +22,9 @@ from castle import Lost, Salvage, Store, errors, keeping, salvaging, storecopy
 from castle.shell import COMMANDS
 
 SEED = 20
-DAMAGED = 60  # stores with damaged blocks
-ANY = 40  # stores damaged in any way
+COUNT = int(os.environ.get("CASTLE_SALVAGES", "500"))  # stores that are damaged
+DAMAGED = COUNT * 3 // 5  # by damaged blocks
+ANY = COUNT - DAMAGED  # in any way
 
 
 def is_in(found: Salvage, version: int, key: bytes) -> bool:
