@@ -2,7 +2,8 @@ use Rattle.std.proofs.Common.{refl, ap, ◌∙◌, drop, List}
 use Rattle.def_bytes.specs.Manifest.{Manifest}
 use Rattle.def_bytes.specs.SuperBlock.{Super}
 use Rattle.strat_memory.specs.Filters.{LevelFilters, no_filters}
-use Rattle.strat_store_pins.proofs.PublicationLemmas.{left_behind}
+use Rattle.strat_memory.specs.Held.{head_held}
+use Rattle.strat_store_pins.proofs.PublicationLemmas.{left_behind, sealed_all}
 use Rattle.strat_store_pins.proofs.settling.a_full_journal_is_published.Goals as goal
 
 pub returns-clause-ok : goal.returns-clause-ok
@@ -17,6 +18,9 @@ returns-clause-same g c = λ d e old new told leaves full.
     let has = leaves.next refl full in
     let m = has.after.are.manifest_is in
     (ap (λ (x : Super). x.format) has.after.are.sb_is, ap (λ (x : Manifest). x.compacted) m, ap (λ (x : Manifest). x.marks) m)
+
+pub returns-clause-found : goal.returns-clause-found
+returns-clause-found g c = λ s whole. sealed_all (head_held s) s.memory whole.memory whole.log.few s.memory.sealed whole.memory.counted
 
 pub returns-clause-room : goal.returns-clause-room
 returns-clause-room g c = λ old new has. has.full
