@@ -27,7 +27,7 @@ use Rattle.strat_loop.specs.Speech.{Said, Speech, response_of}
 use Rattle.strat_loop.specs.Spoken.{ServedBy, SpokenOutcome, session_of}
 use Rattle.strat_follow.specs.Leading.{LeadOutcome}
 use Rattle.strat_follow.specs.Leads.{leads}
-use Rattle.strat_serve.specs.Serving.{Served, RunOutcome}
+use Rattle.strat_serve.specs.Serving.{RunOutcome}
 use Rattle.castle.specs.Outcomes.{EndsAsInput, EndsAsFound, IsEarly}
 use Rattle.strat_loop.specs.World.{World}
 

@@ -29,7 +29,7 @@ use Rattle.strat_serve.specs.Serving.{FollowsRun, Served, RunOutcome}
 use Rattle.strat_loop.specs.World.{World, world}
 use Rattle.strat_serve.proofs.StreamedLemmas.{few_bytes, front_of, all_of_it}
 use Rattle.castle.specs.Working.{EndsWorkload, EndsAfterAll, workload_start, FollowsNew, CarriesOutWorkload, LeavesWorkload}
-use Rattle.castle.proofs.CompleteLemmas.{finds_none, never_damaged}
+use Rattle.castle.proofs.CompleteLemmas.{finds_none, never_damaged, of_run}
 
 -- what is taken of the front of a list
 take_less : {A : Type 0} (n m : ℕ) (xs : List A) → n ≤ m → take n (take m xs) ≡ take n xs
@@ -309,7 +309,7 @@ module _ (d0 d1 d2 : DiskView) (later : Passes d0 d1) (passes : Passes d1 d2)
     served_leaves ended.Done ends no_sink served = record { ends = tt; made = inr (carried ended.Done served (λ is. served.ends) (inr served.ends)) }
     served_leaves ended.Device ends no_sink served = record { ends = tt; made = inr (carried ended.Device served (λ is. absurd is) (inl refl)) }
     served_leaves (ended.Damaged block) ends no_sink served =
-        absurd (never_damaged 1099511627776 (ended.Damaged block) before now content (fresh 16777216 16384) (inr served) disk.rest.exposed disk.new.shows block refl)
+        absurd (never_damaged 1099511627776 (ended.Damaged block) before now content (fresh 16777216 16384) (of_run 1099511627776 (ended.Damaged block) before now (inr served)) disk.rest.exposed disk.new.shows block refl)
     served_leaves ended.Sink ends no_sink served = absurd (no_sink refl)
     served_leaves ended.NotAStore ends no_sink served = absurd served.ends
     served_leaves ended.NoMemory ends no_sink served = absurd served.ends

@@ -104,7 +104,16 @@ fn changes_are_sent_and_received(rt: HostRuntime) -> Result<(), Fail> {
     let mut disk = MemDisk::new(rt.alloc(), &[])?;
     assert!(rt; formats(rt.alloc(), &mut disk));
     assert!(rt; ends(rt.alloc(), &mut disk, &["lead", "f"], (&[], &[]), 0, CHANGE));
-    assert!(rt; ends(rt.alloc(), &mut disk, &["follow", "f"], (&[], &[]), 0, RECEIPT));
+    assert!(rt;
+        ends(
+            rt.alloc(),
+            &mut disk,
+            &["follow", "f"],
+            (&[], &[]),
+            0,
+            RECEIPT
+        )
+    );
     Ok(())
 }
 

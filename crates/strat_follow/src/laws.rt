@@ -7,11 +7,13 @@ ghost use Rattle.strat_base.specs.Change as change;
 ghost use Rattle.def_crash.specs.Image.{Image};
 ghost use Rattle.def_crash.specs.Moments.{Exposes};
 ghost use Rattle.def_bytes.specs.SuperBlock.{Super};
+ghost use Rattle.strat_model.specs.declared.replies.Refusal.{Refusal};
 ghost use Rattle.strat_model.specs.declared.replies.Refusal.TheVariants as why;
 ghost use Rattle.strat_model.specs.declared.replies.Reply.TheVariants as reply;
 ghost use Rattle.strat_model.specs.Answer.{plain, refusal};
 ghost use Rattle.strat_model.specs.Request.{Clone};
 ghost use Rattle.strat_model.specs.Run.{Exchange, Position};
+ghost use Rattle.strat_model.specs.Spelling.{IsRefusedAs};
 ghost use Rattle.strat_model.specs.Table.{Table, bare};
 ghost use Rattle.def_recovery.specs.Opening.{recover};
 ghost use Rattle.def_publish.specs.Standing.{ShowsTable};
@@ -21,6 +23,7 @@ ghost use Rattle.strat_open.specs.Following.{ChangesGateAlone, FollowsFrom};
 ghost use Rattle.strat_loop.specs.Session.{SendsPrefix};
 ghost use Rattle.strat_loop.specs.Speech.{IsSpokenRun, Said, SaysFault, said_bytes};
 ghost use Rattle.strat_loop.specs.World.{Streams, beside};
+ghost use Rattle.strat_loop.specs.Spoken.{SaysCalmly};
 ghost use Rattle.strat_follow.specs.Follows.{follows};
 ghost use Rattle.strat_follow.specs.Leading.{StopsAtJournal};
 ghost use Rattle.strat_follow.specs.Leads.{AreMade, change_frames, leads};
@@ -38,7 +41,8 @@ pub fn numbers_say_whose_turn_it_is()
 {}
 
 /// A run of a table that follows answers each body with a receipt, as one that receives numbered changes does, and sends
-/// these. A change that met a fault has one, too.
+/// these. A change that met a fault has one, too. A body that asks for nothing was told a plain refusal, which writes nothing
+/// at any number of changes.
 pub fn a_run_that_follows_gives_receipts()
     ensures ok { (mem : ℕ) (at after : Position) (xs : List Exchange) (answers : List Said)
         → IsSpokenRun follows mem at xs answers after → (deliveries : List Delivery)
@@ -49,6 +53,11 @@ pub fn a_run_that_follows_gives_receipts()
     ensures fault { (mem : ℕ) (at done : Position) (body : List ℕ) (said : Said)
         → SaysFault follows mem at body said done → (r : Receipt) × IsBrokenOff mem at body r done
         × (said.sent ≡ receipt_frame r) }
+    ensures none { (changes : ℕ) (body : List ℕ) (said : Said)
+        → follows.Declines changes body said → (r : Receipt) × (said.tag ≡ r.number)
+        × (said.sent ≡ receipt_frame r) × (said.answer ≡ refusal why.Malformed) }
+    ensures still { (changes : ℕ) (body : List ℕ) (said : Said)
+        → follows.Declines changes body said → SaysCalmly follows body said }
 {}
 
 /// A run of a table that leads sends the frames of the changes that it carried out, numbered from those of its table on. These
@@ -60,7 +69,10 @@ pub fn a_run_that_leads_sends_its_changes()
         × AreTakenFrom (bare at.table) made
         × (table_after (bare at.table) made ≡ bare after.table) }
     ensures none { (body : List ℕ) (said : Said) (changes : ℕ)
-        → leads.Declines changes body said → said.sent ≡ [] }
+        → leads.Declines changes body said → (said.sent ≡ [])
+        × ((cause : Refusal) × IsRefusedAs body said.tag cause) }
+    ensures still { (body : List ℕ) (said : Said) (changes : ℕ)
+        → leads.Declines changes body said → SaysCalmly leads body said }
 {}
 
 /// A leader whose sink fails at the changes of the journal has read nothing and written nothing but what the opening did, and the

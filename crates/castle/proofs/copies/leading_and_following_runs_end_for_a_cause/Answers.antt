@@ -1,4 +1,4 @@
-use Rattle.std.proofs.Common.{ℕ, sym, subst}
+use Rattle.std.proofs.Common.{ℕ, inl, inr, sym, subst}
 use Rattle.def_recovery.specs.Opening.{recover}
 use Rattle.castle.specs.Outcomes.{EndsAsFound, EndsAsInput}
 use Rattle.castle.proofs.copies.leading_and_following_runs_end_for_a_cause.Goals as goal
