@@ -119,6 +119,10 @@ class LeaderTest(ReplicaCase):
         self.assertEqual(len([frame for found in self.log.read(0) for frame in found]), total)
         with Store(self.path) as store:
             self.assertEqual(store.stat().changes, total)
+        with replicate.Leader(self.path, self.log) as leader:  # what it repeats is no answer to a command
+            for number in range(20):
+                leader.put(leader.versions - 1, f"{number}", "1")
+        self.assertEqual(leader.led, replicate.Led(20, total + 20, []))
 
     def test_a_leader_has_the_store_alone_and_its_child_has_it_not(self) -> None:
         self.stores()
@@ -178,12 +182,14 @@ class ReplicaTest(ReplicaCase):
     def test_a_copy_catches_up_and_is_the_leader_after_a_prefix(self) -> None:
         chance = random.Random(3)
         self.stores()
-        replica = replicate.Replica(self.copy)
-        for turn in range(5):
+        replica, before = replicate.Replica(self.copy), 0
+        for turn in range(6):
             end = self.led(chance, 40).next
-            until = chance.randrange(end + 1) if turn % 2 else None
+            until = chance.randrange(before, end) if turn % 2 else None
             got = replica.catch_up(self.log, until)
-            self.assertEqual((got, replica.lag(self.log)), (max(got, until) if until is not None else end, end - got))
+            self.assertEqual((got, replica.lag(self.log)), (end if until is None else until, end - got))
+            self.assertEqual(replica.catch_up(self.log, before), got)
+            before = got
             self.assertEqual(replicate.changes_in(self.copy), got)
         self.assertEqual(replica.catch_up(self.log), self.log.next)
         self.assertEqual(tables(self.copy), tables(self.path))
