@@ -1,6 +1,6 @@
 //! What a run that exports a version comes to. The law is the contract of a function that does nothing.
 
-ghost use Rattle.std.specs.Prelude.{◌≡◌, ◌≢◌, ◌<◌, ◌⊎◌, ℕ, ◌++◌, true, false, length, take, Ok, Err, None, Some};
+ghost use Rattle.std.specs.Prelude.{◌≡◌, ◌≢◌, ◌<◌, ◌⊎◌, ℕ, List, ◌++◌, true, false, length, take, Ok, Err, None, Some};
 ghost use Rattle.strat_base.specs.Tree.{is_known};
 ghost use Rattle.def_bulk.specs.Exporting.{exported};
 ghost use Rattle.def_crash.specs.Faults.{Rose};
