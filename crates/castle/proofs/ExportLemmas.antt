@@ -1,6 +1,6 @@
 -- What a run that exports a version comes to, whether it opened the store or gave up.
-use Rattle.std.proofs.Common.{◌≡◌, ◌≢◌, ◌⊎◌, ℕ, Bool, true, false, List, [], Option, Some, None, refl, sym, ap, subst, ◌∙◌, inl, inr}
-use Rattle.std.specs.Prelude.{Contains, Ok, Err}
+use Rattle.std.proofs.Common.{◌≡◌, ◌≢◌, ◌⊎◌, ℕ, Bool, true, false, List, [], Option, Some, None, refl, sym, ap, subst, ◌∙◌, inl, inr, arith}
+use Rattle.std.specs.Prelude.{Contains, Ok, Err, IsErrOf}
 use Rattle.std.specs.List.{filter_map}
 use Rattle.std.proofs.lemmas.List.{append-nil}
 use Rattle.def_bytes.specs.Damage.{Read}
@@ -17,7 +17,7 @@ use Rattle.def_recovery.specs.Opening.{recover}
 use Rattle.strat_base.specs.Tree.{Parents, is_known}
 use Rattle.strat_base.specs.declared.descriptors.ArrayDesc.{ArrayDesc}
 use Rattle.strat_base.specs.declared.descriptors.LevelDesc.{LevelDesc}
-use Rattle.strat_bulk.specs.Ending.{AreTold, EndsExport, EndsStanding, ExportHasCause, WritesPairs}
+use Rattle.strat_bulk.specs.Ending.{AreTold, EndsExport, EndsStanding, ExportHasCause, IsUnbegun, WritesPairs}
 use Rattle.strat_cursor.specs.Looking.{NamesNoBlock, arrays_asked}
 use Rattle.strat_io.specs.Streams.{Appends}
 use Rattle.strat_level.specs.Levels.{desc_for}
@@ -32,10 +32,14 @@ use Rattle.strat_open.specs.Causes.{ended_for}
 use Rattle.strat_open.specs.Following.{IsOpenedAs}
 use Rattle.strat_open.specs.declared.attach_fault.AttachFault.{AttachFault}
 use Rattle.strat_open.specs.declared.attach_fault.AttachFault.TheVariants as fault
-use Rattle.strat_serve.specs.Session.{EndHasCause}
-use Rattle.strat_serve.specs.World.{World, world}
+use Rattle.strat_loop.specs.Session.{EndHasCause}
+use Rattle.strat_loop.specs.World.{World, world}
 use Rattle.castle.specs.Exporting.{EndsExporting, ExportsVersion, FindsVersion, IsBadAt}
 use Rattle.castle.proofs.CompleteLemmas.{finds_head}
+
+-- an opening that gave up so answered this
+pub as_err : {T : Type 0} (e x : AttachFault) → e ≡ x → IsErrOf {T = T} {E = AttachFault} (Err e) x
+as_err e x is = ap (λ (f : AttachFault). Err f) is
 
 -- a sink that was given nothing
 none_sent : (a : Option (List ℕ)) → Appends a a []
@@ -260,3 +264,19 @@ exporting_ends_of ended.Unsound ends = absurd ends
 -- with which status it ends
 pub exporting_ends : (status : ℕ) (how : Ended) → status ≡ status_of how → EndsExporting how → (status ≡ 0) ⊎ (status ≡ 2) ⊎ (status ≡ 5) ⊎ (status ≡ 7) ⊎ (status ≡ 8) ⊎ (status ≡ 9) ⊎ (status ≡ 12)
 exporting_ends status how is ends = subst (λ (n : ℕ). (n ≡ 0) ⊎ (n ≡ 2) ⊎ (n ≡ 5) ⊎ (n ≡ 7) ⊎ (n ≡ 8) ⊎ (n ≡ 9) ⊎ (n ≡ 12)) (sym is) (exporting_ends_of how ends)
+
+-- it wrote nothing where it ends so
+pub export_unbegun : (how : Ended) → EndsExport how → (status_of how ≡ 2) ⊎ (status_of how ≡ 8) ⊎ (status_of how ≡ 12) → IsUnbegun how
+export_unbegun ended.UnknownVersion ends is = tt
+export_unbegun ended.NoMemory ends is = tt
+export_unbegun ended.Done ends is = absurd (omega (arith, is))
+export_unbegun ended.Device ends is = absurd (omega (arith, is))
+export_unbegun ended.Sink ends is = absurd (omega (arith, is))
+export_unbegun (ended.Damaged block) ends is = absurd (omega (arith, is))
+export_unbegun ended.NotAStore ends is = absurd ends
+export_unbegun ended.Usage ends is = absurd ends
+export_unbegun ended.FrameTooLong ends is = absurd ends
+export_unbegun ended.Truncated ends is = absurd ends
+export_unbegun ended.Source ends is = absurd ends
+export_unbegun ended.Budget ends is = absurd ends
+export_unbegun ended.Unsound ends is = absurd ends

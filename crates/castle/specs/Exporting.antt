@@ -18,8 +18,8 @@ use Rattle.def_recovery.specs.Opening.{recover}
 use Rattle.def_publish.specs.Several.{EachShows, ShowsOneOf}
 use Rattle.def_publish.specs.Standing.{ShowsTable}
 use Rattle.strat_bulk.specs.Ending.{WritesPairs, AreTold}
-use Rattle.strat_serve.specs.Session.{EndHasCause}
-use Rattle.strat_serve.specs.World.{World, IsCalm}
+use Rattle.strat_loop.specs.Session.{EndHasCause}
+use Rattle.strat_loop.specs.World.{World, IsCalm}
 
 -- the ends of a run that exports
 abbrev pub EndsExporting : Ended → Type 0

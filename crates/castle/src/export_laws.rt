@@ -1,6 +1,6 @@
 //! What a run that exports a version comes to. The law is the contract of a function that does nothing.
 
-ghost use Rattle.std.specs.Prelude.{◌≡◌, ◌≢◌, ◌<◌, ◌⊎◌, ℕ, ◌++◌, true, false, length, take, Ok, Err, None, Some};
+ghost use Rattle.std.specs.Prelude.{◌≡◌, ◌≢◌, ◌<◌, ◌⊎◌, ℕ, List, ◌++◌, true, false, length, take, Ok, Err, None, Some};
 ghost use Rattle.strat_base.specs.Tree.{is_known};
 ghost use Rattle.def_bulk.specs.Exporting.{exported};
 ghost use Rattle.def_crash.specs.Faults.{Rose};
@@ -13,7 +13,7 @@ ghost use Rattle.strat_io.specs.Streams.{Appends};
 ghost use Rattle.strat_model.specs.Pairs.{Pairs};
 ghost use Rattle.strat_model.specs.Step.{pairs_at};
 ghost use Rattle.strat_model.specs.Table.{Table};
-ghost use Rattle.strat_serve.specs.World.{Streams, beside};
+ghost use Rattle.strat_loop.specs.World.{Streams, beside};
 ghost use Rattle.castle.specs.Arguments.{Export};
 ghost use Rattle.castle.specs.Exporting.{IsBadAt};
 ghost use Rattle.castle.specs.Outcomes.{LeavesAlone, Runs};

@@ -3,7 +3,7 @@
 ghost use Rattle.std.specs.Prelude.{◌≡◌, ◌⊎◌, ℕ, List, Option};
 ghost use Rattle.def_crash.specs.Moments.{Passes};
 ghost use Rattle.strat_model.specs.Ended.{status_of};
-ghost use Rattle.strat_serve.specs.World.{world};
+ghost use Rattle.strat_loop.specs.World.{world};
 ghost use Rattle.castle.specs.Exporting.{ExportsVersion};
 
 use std::alloc::Global;

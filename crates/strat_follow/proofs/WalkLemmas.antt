@@ -1,5 +1,5 @@
 -- A walk over the records of changes.
-use Rattle.std.proofs.Common.{◌≡◌, ◌≤◌, ◌<◌, ◌+◌, ℕ, zero, suc, true, List, [], ◌∷◌, ◌++◌, Option, Some, None, length, take, drop, refl, sym, ap, ◌∙◌, subst, append-nil, append_assoc, length-append, length-drop, arith}
+use Rattle.std.proofs.Common.{◌≡◌, ◌≤◌, ◌<◌, ◌+◌, ℕ, zero, suc, true, List, [], ◌∷◌, ◌++◌, Option, Some, None, length, take, drop, refl, sym, ap, ◌∙◌, subst, append-nil, append_assoc, take-append-drop, length-append, length-drop, arith}
 use Rattle.std.specs.Prelude.{IfSome, option_map}
 use Rattle.std.specs.List.{list_all}
 use Rattle.std.proofs.lemmas.Bool.{and_parts}
@@ -175,8 +175,20 @@ module _ (list : List Change) (mem first : ℕ) (before mid now : Option (List �
     appends = appends_then before mid now (change_frames first front) cut.sent one cut.appends;
   }
 
-  pub size_of_both : length front + length behind ≡ length list
-  size_of_both = omega (arith, length-append front behind, ap length (take-append-drop mem list))
-
   pub lawful_both : list_all is_lawful list ≡ true → (list_all is_lawful front ≡ true) × (list_all is_lawful behind ≡ true)
   lawful_both all = and_parts (list_all is_lawful front) (list_all is_lawful behind) (sym (list_all-append is_lawful front behind) ∙ ap (list_all is_lawful) (take-append-drop mem list) ∙ all)
+
+-- the same, numbered from where those of the manifest end
+module _ (list : List Change) (mem first active base : ℕ) (begins : first ≡ base) (counts : active ≡ length (take mem list)) (before mid now : Option (List ℕ)) where
+  pub journal_sent : Appends before mid (change_frames first (take mem list)) → Appends mid now (change_frames (first + active) (drop mem list)) → Appends before now (change_frames base list)
+  journal_sent one other =
+      subst (λ (n : ℕ). Appends before now (change_frames n list)) begins
+      (both_sent list mem first before mid now one (subst (λ (n : ℕ). Appends mid now (change_frames (first + n) (drop mem list))) counts other))
+
+  pub journal_cut : SendsPrefix before now (change_frames first (take mem list)) → SendsPrefix before now (change_frames base list)
+  journal_cut cut = subst (λ (n : ℕ). SendsPrefix before now (change_frames n list)) begins (front_cut list mem first before mid now cut)
+
+  pub journal_cut_behind : Appends before mid (change_frames first (take mem list)) → SendsPrefix mid now (change_frames (first + active) (drop mem list)) → SendsPrefix before now (change_frames base list)
+  journal_cut_behind one cut =
+      subst (λ (n : ℕ). SendsPrefix before now (change_frames n list)) begins
+      (behind_cut list mem first before mid now one (subst (λ (n : ℕ). SendsPrefix mid now (change_frames (first + n) (drop mem list))) counts cut))
