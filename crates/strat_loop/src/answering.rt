@@ -1,15 +1,16 @@
 //! The answer to one frame alone, and to one that is too long.
 
-ghost use Rattle.std.specs.Prelude.{◌≡◌, ◌≤◌, ◌++◌, ℕ, IfOk, [], length, Some, None, is_some, false};
+ghost use Rattle.std.specs.Prelude.{◌≡◌, ◌≤◌, ◌+◌, ◌++◌, ℕ, IfOk, OnOk, OnErr, [], length, Some, None, is_some, false};
 ghost use Rattle.strat_base.specs.Numbers.{AreBytes};
 ghost use Rattle.def_crash.specs.Blocks.{AgreeOn};
+ghost use Rattle.def_crash.specs.Faults.{CountsFaults};
 ghost use Rattle.strat_base.specs.declared.failures.Fault.TheVariants as fault;
 ghost use Rattle.def_crash.specs.Image.{Image};
 ghost use Rattle.def_crash.specs.Moments.{Exposes, Passes};
 ghost use Rattle.strat_promote.specs.Job.{blocks_listed};
-ghost use Rattle.strat_loop.specs.Pending.{SendsAtEnd, none_pending};
+ghost use Rattle.strat_loop.specs.Pending.{SendsAtEnd, SendsOrKeeps, none_pending};
 ghost use Rattle.strat_loop.specs.Progress.{TurnGoesOn, ServesPending, TurnHasCause, TurnsTo, waiting};
-ghost use Rattle.strat_loop.specs.Session.{FailsAsMet};
+ghost use Rattle.strat_loop.specs.Session.{FailsAsMet, SendsPrefix};
 ghost use Rattle.strat_loop.specs.Spoken.{IsAnswered};
 ghost use Rattle.strat_loop.specs.World.{Streams, beside, world};
 ghost use Rattle.strat_publish.specs.Outcomes.{IsDamagedIn};
@@ -18,10 +19,10 @@ ghost use Rattle.strat_model.specs.declared.ended.Ended.TheVariants as ended;
 ghost use Rattle.strat_memory.specs.Held.{Held, IsConsistent, arrays_held};
 ghost use Rattle.strat_model.specs.Stream.{IsBody};
 
-use crate::pending::{PendingReplies, StagedReplies, end_run, make_room};
+use crate::pending::{PendingReplies, StagedReplies, end_run, make_room, send_pending};
 use crate::protocol::Protocol;
 use std::alloc::Global;
-use strat_base::{Fault, NoMemory, PairBuf};
+use strat_base::{Failed, Fault, NoMemory, PairBuf};
 use strat_disk::Disk;
 use strat_frame::{Deframer, Next, OutBuf};
 use strat_io::Sink;
@@ -95,6 +96,29 @@ pub fn answer_frame<P: Protocol, D: Disk>(
     reply.fault()
 }
 
+/// Makes room for one reply more. Where the journal is full it sends all that are pending, since the next change empties the
+/// journal: what was sent for a change that was made leaves the run before the change leaves the journal.
+fn make_way<K: Sink>(
+    store: &Store,
+    sink: &mut K,
+    pending: &mut PendingReplies,
+) -> Result<(), Failed>
+    ensures ok { OnOk result
+        (SendsOrKeeps (K.held sink.old) (K.held sink.new) pending.old pending.new) }
+    ensures none { store.now.sb.mem ≤ length store.now.log.list
+        → OnOk result (pending.new ≡ none_pending) }
+    ensures len { OnOk result (pending.new.count + 1 ≤ 16) }
+    ensures room { OnOk result (length pending.new.bytes ≤ 65536) }
+    ensures err { OnErr result
+        (SendsPrefix (K.held sink.old) (K.held sink.new) pending.old.bytes) }
+    ensures cause { CountsFaults (K.faults sink.old) (K.faults sink.new) result }
+{
+    if store.is_journal_full() {
+        return send_pending(sink, pending);
+    }
+    make_room(sink, pending, 1)
+}
+
 /// Serves the frame in the buffer alone: a change is durable before its reply is pending. Answers what comes next, or how the
 /// run ends.
 pub(crate) fn serve_alone<P: Protocol, K: Sink, D: Disk>(
@@ -125,7 +149,7 @@ pub(crate) fn serve_alone<P: Protocol, K: Sink, D: Disk>(
         (world y.left y.source_faults (K.held sink.new) (K.faults sink.new)
         (D.view disk.new) (D.faults disk.new)) }
 {
-    let Ok(()) = make_room(sink, &mut buffers.pending, 1) else {
+    let Ok(()) = make_way(store, sink, &mut buffers.pending) else {
         return Err(Ended::Sink);
     };
     let met = answer_frame(

@@ -1,6 +1,6 @@
 //! An open store: what it holds in memory of a disk, and how it carries out commands.
 
-ghost use Rattle.std.specs.Prelude.{◌≡◌, ◌≢◌, ◌<◌, ◌≤◌, ◌+◌, ◌*◌, ℕ, List, [], length, take, drop, Some, None, Ok, Err, IfOk, IfErr, IsErrOf, OnErr, OnOk, is_ok, true, false, slice_get, option_map, IsTrue};
+ghost use Rattle.std.specs.Prelude.{◌≡◌, ◌≢◌, ◌<◌, ◌≤◌, ◌+◌, ◌*◌, ℕ, List, [], length, take, drop, Some, None, Ok, Err, IfOk, IfErr, IsErrOf, OnErr, OnOk, is_ok, true, false, slice_get, option_map, IsTrue, ◌↔◌};
 ghost use Rattle.std.specs.Option.{option_to_list};
 ghost use Rattle.strat_array.specs.Kept.{Blocks};
 ghost use Rattle.strat_base.specs.Change.{Change as TheChange};
@@ -278,6 +278,13 @@ impl Store {
             × (result.1 ≡ length (drop self.now.log.mem self.now.log.list)) }
     {
         self.held.journal.counts()
+    }
+
+    /// Whether these are as many as a region takes, so that the next change makes a checkpoint first. O(1).
+    pub fn is_journal_full(&self) -> bool
+        ensures ok { IsTrue result ↔ (self.now.sb.mem ≤ length self.now.log.list) }
+    {
+        self.held.journal.count() >= self.held.sb.mem
     }
 
     /// The records of these changes in their order, as they stand on the disk, region by region. O(1).
