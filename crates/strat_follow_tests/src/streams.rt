@@ -1,6 +1,6 @@
 //! Leaders and followers whose source or sink fails at each call in turn, and frames that are too long.
 
-ghost use Rattle.std.specs.Prelude.{◌<◌};
+ghost use Rattle.std.specs.Prelude.{◌<◌, ◌≤◌};
 
 use crate::support::{CHANGES, PUTS, answers, lead_all, sends, small_store};
 use std::alloc::Global;
@@ -41,7 +41,7 @@ fn lead_failing(
 
 /// Whether a follower and a leader end so where this call of the source or the sink fails, and have sent what came before it.
 fn ends_before(alloc: Global, store: &MemDisk, call: u64) -> Option<bool>
-    requires { 0 < call }
+    requires { (0 < call) × (call ≤ 5) }
 {
     let done = (call - 1) as usize;
     let follow_read = follow_failing(alloc, &mut store.crash(0).ok()?, call, 0)?;
