@@ -33,7 +33,7 @@ use Rattle.strat_open.specs.Following.{IsOpenedAs}
 use Rattle.strat_open.specs.declared.attach_fault.AttachFault.{AttachFault}
 use Rattle.strat_open.specs.declared.attach_fault.AttachFault.TheVariants as fault
 use Rattle.strat_loop.specs.Session.{EndHasCause}
-use Rattle.strat_loop.specs.World.{World, world}
+use Rattle.strat_loop.specs.World.{world}
 use Rattle.castle.specs.Exporting.{EndsExporting, ExportsVersion, FindsVersion, IsBadAt}
 use Rattle.castle.proofs.CompleteLemmas.{finds_head}
 

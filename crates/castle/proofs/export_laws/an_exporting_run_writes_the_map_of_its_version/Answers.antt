@@ -1,12 +1,10 @@
-use Rattle.std.proofs.Common.{◌≡◌, ◌⊎◌, ◌<◌, ◌++◌, ℕ, length, take, Option, List, inl, inr, sym, subst, ◌∙◌, arith}
+use Rattle.std.proofs.Common.{◌≡◌, ◌⊎◌, ℕ, inl, inr, sym, subst, arith}
 use Rattle.strat_io.specs.Streams.{Appends}
 use Rattle.def_bulk.specs.Exporting.{exported}
 use Rattle.strat_bulk.specs.Ending.{AreTold, WritesPairs}
-use Rattle.strat_model.specs.Ended.{status_of}
 use Rattle.strat_model.specs.Pairs.{Pairs}
 use Rattle.strat_model.specs.Step.{pairs_at}
 use Rattle.strat_model.specs.declared.ended.Ended.{Ended}
-use Rattle.strat_model.specs.declared.ended.Ended.TheVariants as ended
 use Rattle.castle.proofs.ExportLemmas.{exporting_ends}
 use Rattle.castle.proofs.HeadlineLemmas.{damaged_by, ended_by}
 use Rattle.castle.proofs.OutcomeLemmas.{causes}

@@ -1,4 +1,3 @@
-use Rattle.std.proofs.Common.{◌≡◌, ◌⊎◌}
 use Rattle.def_crash.proofs.MomentLemmas.{passes_trans}
 use Rattle.castle.proofs.ExportLemmas.{as_err, export_unbegun, exported_so, gave_up}
 use Rattle.strat_open.specs.declared.attach_fault.AttachFault.TheVariants as fault
