@@ -150,6 +150,7 @@ module _ (version : ℕ) (e : AttachFault) (left held : Option (List ℕ)) (sour
           sink_same = λ _. refl;
           disk_same = λ other _. calm (λ x. other (ap ended_for x));
         };
+        calm = λ other. calm (λ x. other (ap ended_for x));
         complete = λ rose f t exposed shows. gave_complete e refl rose.disk f t exposed shows;
       })
 
@@ -242,6 +243,7 @@ module _ (version : ℕ) (how : Ended) (left held_old held_new : Option (List �
     damaged = λ b x f exposed. inr (head_held s, opened.found f exposed, bad_here b (damaged b x));
     left = left_so;
     cause = caused;
+    calm = λ other. cause.disk_same other ∙ same;
     complete = λ rose f t exposed shows.
         let at = opened.stands f t exposed shows in standing_ends how (found at.0 at.1 (λ x. rose.disk (subst (λ (n : ℕ). Rose n disk_new) same x)) rose.sink);
   }

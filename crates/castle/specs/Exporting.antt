@@ -1,5 +1,5 @@
 -- What a run did that exports a version.
-use Rattle.std.specs.Prelude.{◌≡◌, ◌⊎◌, ℕ, ◌==◌, Bool, true, false, Contains, Some, None, Ok, Err, IsTrue}
+use Rattle.std.specs.Prelude.{◌≡◌, ◌≢◌, ◌⊎◌, ℕ, ◌==◌, Bool, true, false, Contains, Some, None, Ok, Err, IsTrue}
 use Rattle.std.specs.List.{filter_map, list_any}
 use Rattle.strat_base.specs.Tree.{is_known}
 use Rattle.strat_base.specs.declared.descriptors.ArrayDesc.{ArrayDesc}
@@ -67,6 +67,8 @@ pub record ExportsVersion (version : ℕ) (how : Ended) (before now : World) : T
   pub left : (f : Image) → Exposes before.disk f → EachShows before.disk → (c : Image)
       → Since now.disk before.disk.moment c → ShowsOneOf before.disk c
   pub cause : EndHasCause how before now
+  -- the disk counted no fault that the end hides
+  pub calm : how ≢ ended.Device → now.disk_faults ≡ before.disk_faults
   -- where nothing failed and the content shows a table it was done, or has no such version, or no memory
   pub complete : IsCalm before now → (f : Image) (t : Table) → Exposes before.disk f
       → ShowsTable f t → (status_of how ≡ 0) ⊎ (status_of how ≡ 12) ⊎ (status_of how ≡ 8)

@@ -34,8 +34,8 @@ ghost use Rattle.castle.specs.Outcomes.{EndsAsFound, EndsAsInput, LeavesAlone, R
 use def_crash::laws::Viewed;
 
 /// A run that is asked to follow, over a disk each of whose crash states shows a log's table after a prefix, which may differ from
-/// state to state. Say that each body in the bytes that it takes holds a change of that log at its number, in any order, with
-/// gaps and repeats. Then each crash state of the run shows the log's table after a prefix, and at the end after one that has
+/// state to state. Say that each body in the bytes that it takes which spells a numbered change spells that of the log at its
+/// number. They come in any order, with gaps and repeats, and among them bodies that are no change. Then each crash state of the run shows the log's table after a prefix, and at the end after one that has
 /// each change which was answered as taken: so the next run may begin there, whatever failed. What it sends are receipts. It
 /// refuses a change as out of memory, or as the device failed, which the disk counted.
 pub fn a_following_run_keeps_to_its_log<D: Viewed>()

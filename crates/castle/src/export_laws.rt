@@ -74,7 +74,7 @@ pub fn an_exporting_run_writes_the_map_of_its_version<D: Viewed>()
         × (status ≡ 7 → Rose x.sink_faults y.sink_faults)
         × (y.source_faults ≡ x.source_faults)
         × (status ≢ 7 → y.sink_faults ≡ x.sink_faults)
-        × (status ≢ 5 → status ≢ 7 → y.disk_faults ≡ x.disk_faults) }
+        × (status ≢ 5 → y.disk_faults ≡ x.disk_faults) }
     ensures complete { (path : List ℕ) (version status : ℕ) (x y : Streams) (d e : D) (f : Image)
         (t : Table) → ShowsTable f t → Exposes (D.view d) f
         → Runs (Some (Export path version)) 1099511627776 status

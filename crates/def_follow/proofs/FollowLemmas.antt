@@ -76,10 +76,15 @@ module _ (changes_max versions_max : ℕ) (log : List Change) (is : IsLog change
       inside (x ∷ xs) zero c e = omega arith
       inside (x ∷ xs) (suc k) c e = omega (arith, inside xs k c e)
 
-  -- one body that holds a change of the log
+  -- one body that spells no change that is not of the log
   pub received : (mem : ℕ) (x : Delivery) (after : Position) → Receives mem x.at x.body x.receipt after → IsOfLogAt log x.body → IsOfLog changes_max versions_max log x.at.table
       → IsRightAt changes_max versions_max log x after
-  received mem x after (inl none) there of = absurd (none.none there.0 there.1)
+  received mem x after (inl none) there of = record {
+    of_log = subst (λ (p : Position). IsOfLog changes_max versions_max log p.table) (sym none.same) of;
+    rises = omega (arith, ap (λ (p : Position). p.table.changes) none.same);
+    free = λ cause e. absurd (let f : Following.Malformed ≡ Following.Refused cause = sym (ap (λ (r : Receipt). r.fate) none.receipt) ∙ e in cc);
+    holds = λ e. absurd (let f : Following.Malformed ≡ Following.Taken = sym (ap (λ (r : Receipt). r.fate) none.receipt) ∙ e in cc);
+  }
   received mem x after (inr (inl over)) there of = record {
     of_log = subst (λ (p : Position). IsOfLog changes_max versions_max log p.table) (sym over.same) of;
     rises = omega (arith, ap (λ (p : Position). p.table.changes) over.same);
@@ -87,8 +92,7 @@ module _ (changes_max versions_max : ℕ) (log : List Change) (is : IsLog change
     holds = λ e. absurd (elim over.turn [ inl old ↦ let f : Following.Old ≡ Following.Taken = sym old.1 ∙ e in cc | inr gap ↦ let f : Following.Gap ≡ Following.Taken = sym gap.1 ∙ e in cc ]);
   }
   received mem x after (inr (inr (inl given))) there of =
-      let same : given.n ≡ there.0 = one_numbered x.body given.n there.0 given.spelled there.1 in
-      let in_log : IsInLog log given.n = subst (IsInLog log) (sym same) there.2 in
+      let in_log : IsInLog log given.n = there given.n given.spelled in
       let here : given.n.number ≡ x.at.table.changes = given.turn in
       let next = next_taken x.at.table given.n of in_log here in
       let table : after.table ≡ after_change x.at.table given.n.change = given.place.table in
@@ -129,7 +133,6 @@ module _ (changes_max versions_max : ℕ) (log : List Change) (is : IsLog change
   pub broken_off : (mem : ℕ) (at : Position) (body : List ℕ) (r : Receipt) (done : Position) → IsBrokenOff mem at body r done → IsOfLogAt log body → IsOfLog changes_max versions_max log at.table
       → IsOfLog changes_max versions_max log done.table
   broken_off mem at body r done is there of =
-      let same : is.n ≡ there.0 = one_numbered body is.n there.0 is.spelled there.1 in
-      let in_log : IsInLog log is.n = subst (IsInLog log) (sym same) there.2 in
+      let in_log : IsInLog log is.n = there is.n is.spelled in
       let next = next_taken at.table is.n of in_log is.turn in
       subst (IsOfLog changes_max versions_max log) (sym is.place.table) next.1

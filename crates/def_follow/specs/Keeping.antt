@@ -8,11 +8,11 @@ use Rattle.def_follow.specs.Following.{Delivery, Taken, Refused}
 use Rattle.def_follow.specs.Log.{IsOfLog}
 use Rattle.def_follow.specs.Numbered.{Numbered, SpellsNumbered, IsInLog}
 
--- a body holds a number and the change of a log at it
+-- a body that spells a numbered change spells that of a log at its number; an empty one spells none
 abbrev pub IsOfLogAt : List Change → List ℕ → Type 0
-IsOfLogAt log body = (n : Numbered) × SpellsNumbered body n × IsInLog log n
+IsOfLogAt log body = (n : Numbered) → SpellsNumbered body n → IsInLog log n
 
--- what the answer to one body that holds a change of a log comes to, at once
+-- what the answer to one body that spells no other change than a log comes to, at once
 pub record IsRightAt (changes_max versions_max : ℕ) (log : List Change) (x : Delivery)
     (after : Position) : Type 0 where
   pub of_log : IsOfLog changes_max versions_max log after.table

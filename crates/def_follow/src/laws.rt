@@ -100,8 +100,8 @@ pub fn what_was_taken_is_in_the_prefix()
         → x.receipt.fate ≡ Refused cause → cause ≡ why.NoMemory }
 {}
 
-/// A follower whose frames hold changes of one log, in any order, with gaps and repeats, has the table after a prefix of
-/// that log. It refuses a change for want of memory alone, unless a fault ends its run. The prefix holds each change that
+/// A follower whose frames hold changes of one log, in any order, with gaps, repeats and frames that are no change, has the
+/// table after a prefix of that log. It refuses a change for want of memory alone, unless a fault ends its run. The prefix holds each change that
 /// it took. The table after a change that met a fault is of the log, too.
 pub fn a_follower_has_a_prefix_of_its_log()
     ensures ok { (changes_max versions_max mem : ℕ) (log : List Change) (at after : Position)

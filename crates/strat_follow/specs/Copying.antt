@@ -51,7 +51,7 @@ pub record KeepsToLog (changes_max versions_max : ℕ) (log : List Change) (how 
   pub left : (c : Image) → Images now.disk c
       → ShowsTaken changes_max versions_max log receipts c
 
--- a follower took these bytes, and keeps to a log wherever each body in them holds a change of it at its number
+-- a follower took these bytes, and keeps to a log wherever each body in them that spells a numbered change spells one of it
 pub record CopiesLog (changes_max versions_max : ℕ) (log : List Change) (how : Ended)
     (before now : World) : Type 0 where
   pub taken : List ℕ

@@ -91,6 +91,25 @@ fn a_leader_stops_at_its_journal(rt: HostRuntime) {
     assert!(rt; stops_at_journal(rt.alloc(), &mut disk) == Some(true));
 }
 
+/// Whether a leader that gets five puts at once, over a journal of four changes, writes the frames of the first four before the
+/// fifth empties the journal: its first write fails, and one that starts anew has these four to send.
+fn sends_what_was_waiting(alloc: Global, disk: &mut MemDisk) -> Option<bool> {
+    let mut source = MemSource::new(alloc, PUTS, &[], 4096).ok()?;
+    let mut sink = MemSink::new(alloc, &[1], 4096).ok()?;
+    let how = lead(alloc, &mut source, &mut sink, disk, 1000);
+    let stopped = how == Ended::Sink && sink.bytes().is_empty();
+    Some(stopped && sends(alloc, disk, b"", &CHANGES[..72], Ended::Done))
+}
+
+#[test]
+fn a_leader_that_is_cut_off_has_its_frames_in_the_journal(rt: HostRuntime) {
+    let Some(mut disk) = small_store(rt.alloc()) else {
+        assert!(rt; false);
+        return;
+    };
+    assert!(rt; sends_what_was_waiting(rt.alloc(), &mut disk) == Some(true));
+}
+
 #[test]
 fn a_frame_that_is_too_long_gets_no_answer(rt: HostRuntime) {
     let Some(mut disk) = small_store(rt.alloc()) else {

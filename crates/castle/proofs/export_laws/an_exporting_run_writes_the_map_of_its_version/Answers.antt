@@ -1,9 +1,10 @@
-use Rattle.std.proofs.Common.{◌≡◌, ◌⊎◌, ℕ, inl, inr, sym, subst, arith}
+use Rattle.std.proofs.Common.{◌≡◌, ◌⊎◌, ℕ, inl, inr, ◌∙◌, ap, sym, subst, arith}
 use Rattle.strat_io.specs.Streams.{Appends}
 use Rattle.def_bulk.specs.Exporting.{exported}
 use Rattle.strat_bulk.specs.Ending.{AreTold, WritesPairs}
 use Rattle.strat_model.specs.Pairs.{Pairs}
 use Rattle.strat_model.specs.Step.{pairs_at}
+use Rattle.strat_model.specs.Ended.{status_of}
 use Rattle.strat_model.specs.declared.ended.Ended.{Ended}
 use Rattle.castle.proofs.ExportLemmas.{exporting_ends}
 use Rattle.castle.proofs.HeadlineLemmas.{damaged_by, ended_by}
@@ -60,7 +61,7 @@ pub returns-clause-cause : goal.returns-clause-cause
 returns-clause-cause g c = λ path version status x y d e ran.
     let ends = exporting_ends status ran.0 ran.1 ran.2.ends in
     let cause = causes status ran.0 ran.1 x y (g.D.Viewed.view d) (g.D.Viewed.view e) ran.2.cause (λ six. omega (arith, ends, six)) in
-    (ends, cause.0, cause.1, cause.2, cause.3, cause.4)
+    (ends, cause.0, cause.1, cause.2, cause.3, λ other. ran.2.calm (λ x. other (ran.1 ∙ ap status_of x)))
 
 pub returns-clause-complete : goal.returns-clause-complete
 returns-clause-complete g c = λ path version status x y d e f t shows exposed ran source sink disk.
