@@ -105,7 +105,7 @@ fn make_way<K: Sink>(
 ) -> Result<(), Failed>
     ensures ok { OnOk result
         (SendsOrKeeps (K.held sink.old) (K.held sink.new) pending.old pending.new) }
-    ensures none { store.now.sb.mem ≤ length store.now.log.list
+    ensures state { store.now.sb.mem ≤ length store.now.log.list
         → OnOk result (pending.new ≡ none_pending) }
     ensures len { OnOk result (pending.new.count + 1 ≤ 16) }
     ensures room { OnOk result (length pending.new.bytes ≤ 65536) }
