@@ -8,9 +8,6 @@ use Rattle.def_crash.specs.Moments.{DiskView, Images, Since}
 use Rattle.def_crash.specs.Trail.{At, Trail}
 use Rattle.def_crash.proofs.MomentLemmas.{since_now, reads_refl}
 use Rattle.def_crash.proofs.TrailLemmas.{trail_of_two, marks_in_order}
-use Rattle.strat_frame.specs.declared.commands.BodyFault.{BodyFault}
-use Rattle.strat_frame.specs.declared.commands.BodyFault.TheVariants as body
-use Rattle.strat_frame.specs.Faults.{refusal_for}
 use Rattle.strat_model.specs.Faults.{fault_told}
 use Rattle.strat_model.specs.Answer.{Answer, as_told, accepts}
 use Rattle.strat_model.specs.declared.replies.Refusal.TheVariants as why

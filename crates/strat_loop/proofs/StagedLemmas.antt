@@ -4,9 +4,7 @@ use Rattle.std.specs.Prelude.{slice_get, is_none}
 use Rattle.std.specs.List.{AllByRecursion}
 use Rattle.std.proofs.lemmas.Bool.{and_parts, ltb-true}
 use Rattle.strat_base.specs.Change.{Change, Put, Delete, Clone, DropVersion}
-use Rattle.strat_base.specs.Numbers.{be}
 use Rattle.strat_base.specs.Tree.{Parents}
-use Rattle.strat_base.proofs.NumberLemmas.{length-be}
 use Rattle.def_state.specs.State.{tree_after}
 use Rattle.def_crash.specs.Moments.{DiskView}
 use Rattle.strat_model.specs.Answer.{Answer, plain}
@@ -14,8 +12,6 @@ use Rattle.strat_model.specs.Faults.{fault_told}
 use Rattle.strat_model.specs.Request.{Request}
 use Rattle.strat_model.specs.Request as request
 use Rattle.strat_model.specs.Run.{Exchange, Response, IsAfter, is_change, reaches_disk, takes_memory}
-use Rattle.strat_model.specs.Stream.{frame}
-use Rattle.strat_model.specs.Spelling.{reply_body}
 use Rattle.strat_model.specs.Table.{Cursor}
 use Rattle.strat_model.specs.declared.replies.Reply.{Reply}
 use Rattle.strat_model.specs.declared.replies.Reply.TheVariants as reply

@@ -1,5 +1,5 @@
 -- Replies to single bodies.
-use Rattle.std.proofs.Common.{◌≡◌, ◌≤◌, ℕ, [], ◌∷◌, ◌++◌, length, Option, None, refl, sym, subst, inl, inr, length-append, arith}
+use Rattle.std.proofs.Common.{◌≡◌, ◌≤◌, ℕ, [], ◌∷◌, length, None, refl, sym, subst, inl, inr, length-append, arith}
 use Rattle.strat_base.specs.Numbers.{be}
 use Rattle.strat_base.proofs.NumberLemmas.{length-be}
 use Rattle.strat_frame.specs.declared.commands.BodyFault.{BodyFault}

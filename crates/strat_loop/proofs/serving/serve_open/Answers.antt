@@ -1,6 +1,5 @@
-use Rattle.strat_loop.specs.World.{World, world}
+use Rattle.strat_loop.specs.World.{world}
 use Rattle.strat_loop.proofs.GiveUpLemmas.{served_refuses, served_late}
-use Rattle.strat_loop.proofs.serving.serve_open.Given.{Over}
 use Rattle.strat_loop.proofs.serving.serve_open.Goals as goal
 
 pub returns-clause-found : goal.returns-clause-found
