@@ -2,12 +2,13 @@
 //! function that does nothing.
 
 ghost use Rattle.std.specs.List.{flat_map, AllByRecursion};
-ghost use Rattle.std.specs.Prelude.{◌≡◌, ◌<◌, ◌≤◌, ◌⊎◌, ℕ, ◌+◌, List, ◌∷◌, [], ◌++◌, length, take, Ok, Some};
+ghost use Rattle.std.specs.Prelude.{◌≡◌, ◌<◌, ◌≤◌, ◌⊎◌, ℕ, ◌+◌, List, ◌∷◌, [], ◌++◌, length, take, Ok, Option, Some};
 ghost use Rattle.strat_base.specs.Change.{Change};
 ghost use Rattle.def_crash.specs.Faults.{Rose};
 ghost use Rattle.def_crash.specs.Image.{Image};
 ghost use Rattle.def_crash.specs.Moments.{Exposes, Images, Since};
 ghost use Rattle.def_crash.specs.Trail.{At};
+ghost use Rattle.strat_io.specs.Streams.{Appends};
 ghost use Rattle.strat_model.specs.declared.ended.Ended.{Ended};
 ghost use Rattle.strat_model.specs.declared.replies.Refusal.{Refusal};
 ghost use Rattle.strat_model.specs.declared.replies.Refusal.TheVariants as why;
@@ -24,9 +25,11 @@ ghost use Rattle.def_follow.specs.Log.{AreTakenFrom, IsLog, IsOfLog, table_after
 ghost use Rattle.def_follow.specs.OnDisk.{EachOfLog};
 ghost use Rattle.strat_loop.specs.Session.{AreNextIn, EndHasCause, ExposesDamage, GaveUp, RefusesFor, Took};
 ghost use Rattle.strat_loop.specs.Speech.{IsSpokenTranscript};
+ghost use Rattle.strat_loop.specs.Spoken.{FollowsSpokenRun, IsSitting, SendsSaid, Sitting};
 ghost use Rattle.strat_loop.specs.World.{IsCalm, Streams, beside};
 ghost use Rattle.strat_follow.specs.Copying.{CopiesLog, KeepsToLog, SendsOrFails};
-ghost use Rattle.strat_follow.specs.Leading.{LeadsTable};
+ghost use Rattle.strat_follow.specs.Follows.{follows};
+ghost use Rattle.strat_follow.specs.Leading.{LeadsTable, StopsAtJournal};
 ghost use Rattle.strat_follow.specs.Leads.{AreMade, change_frames, leads};
 ghost use Rattle.castle.specs.Arguments.{Follow, Lead};
 ghost use Rattle.castle.specs.Outcomes.{EndsAsFound, EndsAsInput, LeavesAlone, Runs};
@@ -103,6 +106,34 @@ pub fn a_leading_run_sends_its_changes<D: Viewed>()
         → Images (D.view e) c → GaveUp how (beside x (D.view d)) (beside y (D.view e))
         ⊎ ((i : ℕ) × (length l.run.exchanges ≤ i)
         × At (tables_continued l.run l.continued.end) i (ShowsTable c)) }
+{}
+
+/// A following run gave up before its first read, or it served: it took bytes, answered the first of the bodies among them as
+/// the protocol of followers says, and sent these receipts. If the disk shows a table, they are those of a run of that table.
+/// A leading run may also have stopped at the changes of its journal, as the sink failed. Otherwise it sent these, and served
+/// as the protocol of leaders says.
+pub fn a_copying_run_answers_each_body<D: Viewed>()
+    ensures ok { (path : List ℕ) (status : ℕ) (x y : Streams) (d e : D)
+        → Runs (Some (Follow path)) 1099511627776 status (beside x (D.view d)) (beside y (D.view e))
+        → (how : Ended) × (status ≡ status_of how)
+        × (GaveUp how (beside x (D.view d)) (beside y (D.view e)) ⊎ ((s : Sitting)
+        × IsSitting follows 1099511627776 s × Took x.left y.left s.taken
+        × SendsSaid follows how x.held y.held s)) }
+    ensures table { (path : List ℕ) (status : ℕ) (x y : Streams) (d e : D) (f : Image) (t : Table)
+        → Runs (Some (Follow path)) 1099511627776 status (beside x (D.view d)) (beside y (D.view e))
+        → Exposes (D.view d) f → ShowsTable f t → (how : Ended) × (status ≡ status_of how)
+        × (GaveUp how (beside x (D.view d)) (beside y (D.view e)) ⊎ ((s : Sitting)
+        × IsSitting follows 1099511627776 s × Took x.left y.left s.taken
+        × SendsSaid follows how x.held y.held s
+        × FollowsSpokenRun follows (D.view d) (D.view e) f t s)) }
+    ensures sends { (path : List ℕ) (status : ℕ) (x y : Streams) (d e : D)
+        → Runs (Some (Lead path)) 1099511627776 status (beside x (D.view d)) (beside y (D.view e))
+        → (how : Ended) × (status ≡ status_of how)
+        × (GaveUp how (beside x (D.view d)) (beside y (D.view e))
+        ⊎ StopsAtJournal how (beside x (D.view d)) (beside y (D.view e))
+        ⊎ ((s : Sitting) × (held : Option (List ℕ)) × (sent : List ℕ)
+        × Appends x.held held sent × IsSitting leads 1099511627776 s × Took x.left y.left s.taken
+        × SendsSaid leads how held y.held s)) }
 {}
 
 /// Whatever the disk shows: the cause of each end of a leading or a following run, how it ends if nothing failed, and that an
