@@ -8,7 +8,7 @@ import time
 
 import model
 from model import clone, frame, get, info, put, scan, stat
-from program import PROGRAM, StoreFile, Wrong, complaint, expect, fed, in_memory, serve
+from program import PROGRAM, StoreFile, Wrong, complaint, expect, fed, in_memory, run, serve
 from samples import drawn_changes
 
 LIMITS = (1000, 10)  # changes and versions
@@ -148,6 +148,9 @@ def followers_have_prefixes_whatever_the_transport_does(folder):
         rest = b"".join(frame(leader.log[number]) for number in range(has[which], every))
         fed([PROGRAM, "follow", store.path], [rest])
         expect(f"the changes of follower {which}", expect_prefix_of(leader, f"follower {which}, at the end", store, every), every)
+        for version in range(len(leader.store.model.pairs)):
+            expect(f"version {version} of follower {which}, exported", run(["export", store.path, str(version)]),
+                   run(["export", leader.store.path, str(version)]))
 
 
 CHECKS = [
