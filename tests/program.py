@@ -250,12 +250,6 @@ def wants_check():
         raise Skipped("the program has no word check yet")
 
 
-def wants(word, *rest):
-    """Skips a check where the program does not have a word. A file that is not there tells: a word that is has another status."""
-    if run([word, os.path.join(os.sep, "absent", "store"), *rest])[1] == 1:
-        raise Skipped(f"the program has no word {word} yet")
-
-
 UNASKED = collections.Counter()  # files of which the program was not asked whether they are sound, since it has no such word
 
 

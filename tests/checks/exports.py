@@ -11,7 +11,7 @@ import model
 import replicas
 from model import BLOCK, bodies_of, put
 from program import (
-    DEADLINE, PROGRAM, Skipped, StoreFile, bytes_of, complaint, expect, hexed, in_memory, left_behind, run, serve, wants)
+    DEADLINE, PROGRAM, Skipped, StoreFile, bytes_of, complaint, expect, hexed, in_memory, left_behind, run, serve)
 from samples import PUBLISHED, SETTINGS, altered, drawn_changes, store_after
 
 ROW = hexed("0000001b 00000001 01 00000000 000b 757365722f312f6e616d65 0003 416e6e"
@@ -34,7 +34,6 @@ def expect_exports(name, store):
 
 
 def a_version_is_exported_as_puts_of_its_pairs(folder):
-    wants("export", "0")
     store = StoreFile(folder, 64, 100, 10)
     store.expect_served("the settings", [SETTINGS])
     expect("version 1", exported(store.path, 1), (ROW, 0, b""))
@@ -48,7 +47,6 @@ def a_version_is_exported_as_puts_of_its_pairs(folder):
 
 
 def an_export_of_a_workload_gives_itself_again(folder):
-    wants("export", "0")
     made, fresh = os.path.join(folder, "f"), StoreFile(folder, 64, 100000, 1)
     expect("workload", run(["workload", made, "1", "2000"])[1:], (0, b""))
     frames, status, said = exported(made, 0)
@@ -63,7 +61,6 @@ def an_export_of_a_workload_gives_itself_again(folder):
 
 @in_memory
 def exports_are_those_of_the_table(folder):
-    wants("export", "0")
     for number, (mem, frames, _) in enumerate(PUBLISHED):
         expect_exports(f"example {number}", store_after(folder, mem, frames)[0])
     chance = random.Random(50)
@@ -77,7 +74,6 @@ def exports_are_those_of_the_table(folder):
 
 @in_memory
 def an_export_of_largest_pairs_and_of_many(folder):
-    wants("export", "0")
     store = StoreFile(folder, 64, 100000, 10)
     puts = [put(tag, b"%03d" % tag + b"k" * 252, b"v" * model.VALUE_MAX) for tag in range(300)] + [put(tag, b"%04d" % tag, b"") for tag in range(700)]
     expect("puts", serve(store.path, [b"".join(puts)], deadline=3 * DEADLINE)[1], 0)
@@ -86,7 +82,6 @@ def an_export_of_largest_pairs_and_of_many(folder):
 
 
 def a_damaged_block_leaves_a_prefix_and_its_status(folder):
-    wants("export", "0")
     store, contents = store_after(folder, 64, [put(tag, b"%03d" % tag, b"v" * 100) for tag in range(700)], 1000, 10)
     whole = replicas.exported(store.model.pairs[0])
     told = []
@@ -102,7 +97,6 @@ def a_damaged_block_leaves_a_prefix_and_its_status(folder):
 
 
 def an_export_reads_each_block_of_its_arrays_once(folder):
-    wants("export", "0")
     if not shutil.which("strace"):
         raise Skipped("strace is not here")
     store, contents = store_after(folder, 4, [put(tag, b"%02d" % tag + b"k" * 200, b"v" * 1000) for tag in range(40)], 1000, 10)
@@ -118,7 +112,6 @@ def an_export_reads_each_block_of_its_arrays_once(folder):
 
 
 def an_export_whose_output_fails_tells_it(folder):
-    wants("export", "0")
     store, _ = store_after(folder, 4, [put(tag, b"%02d" % tag, b"v" * 1000) for tag in range(17)])
     with open("/dev/full", "wb") as full:
         ran = subprocess.run([PROGRAM, "export", store.path, "0"], stdout=full, stderr=subprocess.PIPE, timeout=DEADLINE)
@@ -126,7 +119,6 @@ def an_export_whose_output_fails_tells_it(folder):
 
 
 def an_export_reads_no_input(folder):
-    wants("export", "0")
     store, _ = store_after(folder, 4, [put(1, b"a", b"1")])
     inside, outside = os.pipe()
     os.write(outside, b"left")

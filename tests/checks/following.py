@@ -15,7 +15,7 @@ from faulty import COMMANDS, EARLIER, Rig, made_over
 from model import bodies_of, frame, put
 from program import (
     DEADLINE, GET_A, PIPES, PROGRAM, PUT_A, StoreFile, bytes_of, close, complaint, expect, expect_alike, expect_told, fed, hexed,
-    in_memory, run, wants)
+    in_memory, run)
 from samples import BATCH_MAX, drawn_changes, drawn_frames
 from tracing import calls_of
 
@@ -45,7 +45,6 @@ def led(store, pieces):
 # Bytes
 
 def a_follower_answers_each_change_with_what_it_waits_for(folder):
-    wants("follow")
     store = StoreFile(folder, 4, 100, 10)
     given = CHANGE_A + CHANGE_A + hexed("0000000e 00000002 01 00000000 01 61 0001 31 00000002 aabb")
     answered = hexed("0000000a 00000000 00 00000001 00 0000000a 00000000 01 00000001 00"
@@ -56,7 +55,6 @@ def a_follower_answers_each_change_with_what_it_waits_for(folder):
 
 
 def a_leader_writes_what_it_accepted_and_its_journal_first(folder):
-    wants("lead")
     store = StoreFile(folder, 4, 100, 10)
     expect("a run", led(store, [PUT_A + GET_A]), CHANGE_A)
     expect("the next run", led(store, []), CHANGE_A)
@@ -64,7 +62,6 @@ def a_leader_writes_what_it_accepted_and_its_journal_first(folder):
 
 
 def what_is_no_change_is_malformed(folder):
-    wants("follow")
     store, chance = StoreFile(folder, 8, 100, 10), random.Random(47)
     bodies = [b"", b"\0", b"\0\0\0", b"\0\0\0\0", hexed("00000000 00"), hexed("00000000 00 00000000"), hexed("00000000 05 00000000"),
               hexed("00000000 01 00000000 00 0000"), hexed("00000000 01 00000000 01 61 0401") + bytes(1025), PUT_A[4:],
@@ -78,7 +75,6 @@ def what_is_no_change_is_malformed(folder):
 
 
 def refusals_of_a_follower_are_those_of_the_table(folder):
-    wants("follow")
     store = StoreFile(folder, 4, 7, 3)
     changes = [(model.PUT, 9, b"a", b"1"), (model.CLONE, 1), (model.CLONE, 0), (model.PUT, 0, b"a", b"1"), (model.CLONE, 1), (model.CLONE, 0),
                (model.DELETE, 1, b"a"), (model.PUT, 2, b"a", b"1"), (model.DELETE, 2, b"b"), (model.PUT, 2, b"a", b"2"),
@@ -90,7 +86,6 @@ def refusals_of_a_follower_are_those_of_the_table(folder):
 
 
 def a_leader_is_silent_of_what_it_refuses_and_of_what_changes_nothing(folder):
-    wants("lead")
     chance = random.Random(48)
     for turn in range(12):
         store = StoreFile(folder, chance.choice((4, 9, 64)), chance.choice((40, 1000)), chance.choice((5, 100)))
@@ -102,7 +97,6 @@ def a_leader_is_silent_of_what_it_refuses_and_of_what_changes_nothing(folder):
 
 
 def the_ends_of_both_are_those_of_a_run_that_serves(folder):
-    wants("lead")
     for word, first in (("lead", PUT_A), ("follow", CHANGE_A)):
         run_of = led if word == "lead" else followed
         for name, rest in (("too long", hexed("00000801") + bytes(40)), ("cut in the length", b"\0\0"), ("cut in the body", first[:9])):
@@ -118,7 +112,6 @@ def the_ends_of_both_are_those_of_a_run_that_serves(folder):
 # Order
 
 def nothing_is_sent_before_its_change_is_durable(folder):
-    wants("lead")
     commit = ["write", "sync", "write", "sync"]
     puts = [put(tag, b"%02d" % tag, b"v") for tag in range(BATCH_MAX + 2)]
     changes = [replicas.change_frame(tag, (model.PUT, 0, b"%02d" % tag, b"v")) for tag in range(BATCH_MAX + 2)]
@@ -138,7 +131,6 @@ def nothing_is_sent_before_its_change_is_durable(folder):
 
 
 def what_a_journal_has_is_sent_with_its_numbers_after_many_changes(folder):
-    wants("lead")
     chance = random.Random(49)
     store = StoreFile(folder, 4, 1000, 100)
     for _ in range(20):
@@ -148,7 +140,6 @@ def what_a_journal_has_is_sent_with_its_numbers_after_many_changes(folder):
 
 
 def a_run_of_another_word_leaves_a_gap_that_is_told(folder):
-    wants("follow")
     leader, follower = StoreFile(folder, 4, 100, 10), StoreFile(folder, 4, 100, 10)
     followed(follower, [led(leader, [put(1, b"a", b"1") + put(2, b"b", b"1")])])
     leader.expect_served("serve", [b"".join(put(tag, b"%d" % tag, b"2") for tag in range(9))])
@@ -206,8 +197,6 @@ class Given:
 
 
 def a_call_that_fails_leaves_a_prefix_and_is_told(folder):
-    wants("lead")
-    wants("follow")
     rig = Rig(folder)
     for start, earlier in (("a new store", []), ("a store with a level", EARLIER)):
         data, store = made_over(folder, 4, earlier)
@@ -312,9 +301,7 @@ class Copies:
         for version in {0, len(self.store.parents) - 1, self.chance.randrange(len(self.store.parents))}:
             want = replicas.exported(self.store.pairs[version])
             for copied in (self.leader, *self.followers):
-                out = run(["export", copied.path, str(version)])
-                if out[1] != 1:  # else the program has no such word yet
-                    expect(f"export of version {version}", out, (want, 0, b""))
+                expect(f"export of version {version}", run(["export", copied.path, str(version)]), (want, 0, b""))
 
 
 def ran(word, path, data, stop=None):
@@ -346,8 +333,6 @@ def ran(word, path, data, stop=None):
 
 @in_memory
 def killed_leaders_and_followers_are_the_leader_after_a_prefix(folder):
-    wants("lead")
-    wants("follow")
     chance = random.Random(47)
     copies, kills = Copies(folder, chance), 0
     while kills < KILLS:

@@ -9,7 +9,7 @@ import formats
 import model
 from launching import MAKING, REFUSED, Checkout, Terminal, expect_files, launch, limited
 from model import BLOCK, Store, put, reply
-from program import DEADLINE, GET_A, LAUNCHER, PUT_A, StoreFile, bytes_of, complaint, expect, fed, hexed, wants, wants_check
+from program import DEADLINE, GET_A, LAUNCHER, PUT_A, StoreFile, bytes_of, complaint, expect, fed, hexed, wants_check
 
 
 def the_launcher_passes_words_input_and_status_on(folder):
@@ -145,8 +145,6 @@ def serve_says_at_a_terminal_what_it_waits_for(folder):
 
 
 def lead_and_follow_say_at_a_terminal_what_they_wait_for(folder):
-    wants("lead")
-    wants("follow")
     expect_said_at_a_terminal(folder, "lead", "castle-shell")
     expect_said_at_a_terminal(folder, "follow", "castle-replicate feed")
 
