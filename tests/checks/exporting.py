@@ -56,9 +56,8 @@ def an_export_that_is_served_makes_the_version_again(folder):
     expect("the export", (status, said), (0, b""))
     expect("what it has", frames == exported(workloads.store_after(workloads.changes(1, 2000)).pairs[0]), True)
     fresh = StoreFile(folder, 64, 100_000, 1)
-    out, status = fresh.model.serve(frames)
-    fresh.expect_served("served again", [frames])
-    expect("every reply", {body[4] for body in bodies_of(out)}, {model.DONE})
+    done = b"".join(model.reply(tag, model.DONE) for tag in range(1, len(bodies_of(frames)) + 1))
+    fresh.expect_served("served again", [frames], (done, 0))
     expect("the export of that", run(["export", fresh.path, "0"]), (frames, 0, b""))
 
 
