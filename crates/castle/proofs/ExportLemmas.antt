@@ -17,12 +17,14 @@ use Rattle.def_recovery.specs.Opening.{recover}
 use Rattle.strat_base.specs.Tree.{Parents, is_known}
 use Rattle.strat_base.specs.declared.descriptors.ArrayDesc.{ArrayDesc}
 use Rattle.strat_base.specs.declared.descriptors.LevelDesc.{LevelDesc}
+use Rattle.strat_bulk.specs.Runs.{AreLawful}
 use Rattle.strat_bulk.specs.Ending.{AreTold, EndsExport, EndsStanding, ExportHasCause, IsUnbegun, WritesPairs}
 use Rattle.strat_cursor.specs.Looking.{NamesNoBlock, arrays_asked}
 use Rattle.strat_io.specs.Streams.{Appends}
 use Rattle.strat_level.specs.Levels.{desc_for}
 use Rattle.strat_memory.specs.Held.{Held, IsConsistent, StandsWith, head_held}
 use Rattle.strat_model.specs.Ended.{status_of}
+use Rattle.strat_model.specs.Kept.{IsMap}
 use Rattle.strat_model.specs.Pairs.{Pairs}
 use Rattle.strat_model.specs.Step.{pairs_at}
 use Rattle.strat_model.specs.Table.{Table}
@@ -133,6 +135,8 @@ module _ (version : ℕ) (e : AttachFault) (left held : Option (List ℕ)) (sour
         ends = gave_ends e;
         told = [];
         writes = gave_writes e held;
+        lawful = tt;
+        ordered = λ done. absurd (gave_other e (inl done));
         map = λ f t exposed shows. gave_told e (pairs_at t version);
         unknown = λ x. absurd (gave_other e (inr (inr (inl x))));
         known = λ x. absurd (elim x [
@@ -194,7 +198,8 @@ known_by false how unknown (inr sink) = let x : ended.Sink ≡ ended.UnknownVers
 module _ (version : ℕ) (how : Ended) (left held_old held_new : Option (List ℕ)) (source_faults sink_old sink_new disk_old disk_mid disk_new : ℕ) (old mid new : DiskView) (s : Held)
     (opened : IsOpenedAs old mid s) (whole : IsConsistent s) (passes : Passes old mid) (same : disk_mid ≡ disk_old)
     (trail : (f : Image) → old.content ≡ Some f → EachShows old → (c : Image) → Since mid old.moment c → ShowsOneOf old c)
-    (told : Pairs) (writes : WritesPairs how held_old held_new told) (are : (x : Contents) → StandsWith mid s x → AreTold how told (pairs_at (table_of (contents_state x)) version))
+    (told : Pairs) (writes : WritesPairs how held_old held_new told) (lawful : AreLawful told) (are : (x : Contents) → StandsWith mid s x → AreTold how told (pairs_at (table_of (contents_state x)) version))
+    (sorted : (x : Contents) → StandsWith mid s x → how ≡ ended.Done → IsMap (pairs_at (table_of (contents_state x)) version))
     (unknown : how ≡ ended.UnknownVersion → is_known s.memory.parents version ≡ false) (only : is_known s.memory.parents version ≡ false → how ≡ ended.UnknownVersion)
     (ends : EndsExport how) (found : (x : Contents) → StandsWith mid s x → ¬ Rose disk_mid disk_new → ¬ Rose sink_old sink_new → EndsStanding how)
     (damaged : (b : ℕ) → how ≡ ended.Damaged b → NamesNoBlock mid.content (arrays_asked s.memory.parents s.levels version) b)
@@ -236,6 +241,8 @@ module _ (version : ℕ) (how : Ended) (left held_old held_new : Option (List �
     ends = export_ends how ends;
     told = told;
     writes = writes;
+    lawful = lawful;
+    ordered = λ done f t exposed shows. let at = opened.stands f t exposed shows in subst (λ (u : Table). IsMap (pairs_at u version)) at.2 (sorted at.0 at.1 done);
     map = λ f t exposed shows. let at = opened.stands f t exposed shows in subst (λ (u : Table). AreTold how told (pairs_at u version)) at.2 (are at.0 at.1);
     unknown = λ x. finds false (unknown x);
     known = λ x. finds true (known_by (is_known s.memory.parents version) how only x);

@@ -7,6 +7,7 @@ use Rattle.def_crash.specs.Image.{Image}
 use Rattle.def_crash.specs.Moments.{DiskView, Exposes, Since}
 use Rattle.def_bytes.specs.Arrays.{blocks_of, block_on}
 use Rattle.strat_level.specs.Levels.{desc_for}
+use Rattle.strat_model.specs.Kept.{IsMap}
 use Rattle.strat_model.specs.Pairs.{Pairs}
 use Rattle.strat_model.specs.Step.{pairs_at}
 use Rattle.strat_model.specs.Table.{Table}
@@ -18,6 +19,7 @@ use Rattle.def_recovery.specs.Opening.{recover}
 use Rattle.def_publish.specs.Several.{EachShows, ShowsOneOf}
 use Rattle.def_publish.specs.Standing.{ShowsTable}
 use Rattle.strat_bulk.specs.Ending.{WritesPairs, AreTold}
+use Rattle.strat_bulk.specs.Runs.{AreLawful}
 use Rattle.strat_loop.specs.Session.{EndHasCause}
 use Rattle.strat_loop.specs.World.{World, IsCalm}
 
@@ -52,9 +54,12 @@ pub record ExportsVersion (version : ℕ) (how : Ended) (before now : World) : T
   -- it wrote the frames of these pairs
   pub told : Pairs
   pub writes : WritesPairs how before.held now.held told
+  pub lawful : AreLawful told
   -- which are the version's map in the table that the content shows, or as far as it came its first ones
   pub map : (f : Image) (t : Table) → Exposes before.disk f → ShowsTable f t
       → AreTold how told (pairs_at t version)
+  pub ordered : how ≡ ended.Done → (f : Image) (t : Table) → Exposes before.disk f
+      → ShowsTable f t → IsMap (pairs_at t version)
   -- there is no such version, and there is one where it was done or the sink failed
   pub unknown : how ≡ ended.UnknownVersion → FindsVersion before.disk version false
   pub known : (how ≡ ended.Done) ⊎ (how ≡ ended.Sink) → FindsVersion before.disk version true

@@ -1,16 +1,19 @@
 -- Frames of puts, one behind the other.
-use Rattle.std.proofs.Common.{◌≡◌, ◌≤◌, ◌<◌, ℕ, suc, get_or, take, ◌+◌, ◌/◌, ◌%◌, List, [], ◌∷◌, ◌++◌, length, sym, ap, ◌∙◌, arith}
+use Rattle.std.proofs.Common.{◌≡◌, ◌≤◌, ◌<◌, ℕ, suc, true, leb, get_or, take, ◌+◌, ◌/◌, ◌%◌, List, [], ◌∷◌, ◌++◌, length, sym, ap, subst, ◌∙◌, arith}
 use Rattle.std.specs.List.{flat_map}
 use Rattle.std.proofs.lemmas.Grind.{flat_map-append}
 use Rattle.std.proofs.lemmas.List.{append-nil, length-append, length-take-le, take_more}
+use Rattle.std.proofs.lemmas.Bool.{and_from, le-leb}
 use Rattle.strat_base.specs.Numbers.{be}
 use Rattle.strat_base.specs.Numbers as numbers
 use Rattle.strat_base.proofs.NumberLemmas.{length-be}
+use Rattle.strat_base.specs.Sizes.{is_key, is_value}
 use Rattle.strat_model.specs.Pairs.{Pair, Pairs}
 use Rattle.strat_model.specs.Request.{Request, Put}
 use Rattle.strat_model.specs.Spelling.{command_body, command_bytes, counted}
 use Rattle.strat_model.specs.Stream.{frame}
 use Rattle.def_bulk.specs.Exporting.{put_bodies}
+use Rattle.strat_bulk.specs.Runs.{AreLawful}
 
 -- four bytes are those of the lowest 32 bits
 be_low : (n : ℕ) → be 4 (n % 4294967296) ≡ be 4 n
@@ -61,6 +64,20 @@ frames_then n xs ys = ap (λ (l : List (List ℕ)). flat_map frame l) (bodies_th
 -- the frame of one
 pub frame_one : (n : ℕ) (p : Pair) → flat_map frame (put_bodies n (p ∷ [])) ≡ frame (command_body n (Put 0 p.0 p.1))
 frame_one n p = append-nil (frame (command_body n (Put 0 p.0 p.1)))
+
+-- pairs and others behind them have lawful sizes
+pub lawful_both : (xs ys : Pairs) → AreLawful xs → AreLawful ys → AreLawful (xs ++ ys)
+lawful_both [] ys first rest = rest
+lawful_both (p ∷ xs) ys first rest = (first.0, lawful_both xs ys first.1 rest)
+
+-- so has a page with one pair more
+pub lawful_more : (page : Pairs) (i : ℕ) (key value : List ℕ) → i < length page → AreLawful (take i page) → key ≡ (get_or page i ([], [])).0 → value ≡ (get_or page i ([], [])).1 → 1 ≤ length key → length key ≤ 255
+    → length value ≤ 1024 → AreLawful (take (i + 1) page)
+lawful_more page i key value low so_far of_key of_value some few short =
+    let p : Pair = get_or page i ([], []) in
+    let key_is : is_key p.0 ≡ true = subst (λ (k : List ℕ). is_key k ≡ true) of_key (and_from (leb 1 (length key)) (leb (length key) 255) (le-leb 1 (length key) some) (le-leb (length key) 255 few)) in
+    let value_is : is_value p.1 ≡ true = subst (λ (v : List ℕ). is_value v ≡ true) of_value (le-leb (length value) 1024 short) in
+    subst (λ (l : Pairs). AreLawful l) (sym (take_more page i ([], []) low)) (lawful_both (take i page) (p ∷ []) so_far ((key_is, value_is), tt))
 
 -- one pair of a page more
 pub page_more : (n : ℕ) (page : Pairs) (i : ℕ) (bytes key value : List ℕ) → i < length page → bytes ≡ flat_map frame (put_bodies n (take i page)) → key ≡ (get_or page i ([], [])).0 → value ≡ (get_or page i ([], [])).1

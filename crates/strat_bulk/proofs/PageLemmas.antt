@@ -19,7 +19,8 @@ use Rattle.strat_model.specs.Stream.{frame}
 use Rattle.strat_model.specs.Faults.{broken_by}
 use Rattle.strat_model.specs.declared.ended.Ended.TheVariants as ended
 use Rattle.strat_bulk.specs.Ending.{AreTold, WritesPairs}
-use Rattle.strat_bulk.proofs.FramingLemmas.{frames_then}
+use Rattle.strat_bulk.specs.Runs.{AreLawful}
+use Rattle.strat_bulk.proofs.FramingLemmas.{frames_then, lawful_both}
 
 -- a sink's bytes, and others behind them
 pub appends_then : (a b c : Option (List ℕ)) (x y : List ℕ) → Appends a b x → Appends b c y → Appends a c (x ++ y)
@@ -36,6 +37,7 @@ appends_none a = record { exposed = λ held is. is ∙ ap (λ (l : List ℕ). So
 pub record PagesSoFar (content : Option Image) (held now : Option (List ℕ)) (first walk : Walk) (c d : Blocks) (tag : ℕ) : Type 0 where
   pub told : Pairs
   pub wrote : Appends held now (exported told)
+  pub lawful : AreLawful told
   pub next : (1 + length told) % 4294967296 ≡ tag
   pub left : (f : Image) (m : Pairs) → content ≡ Some f → HasPairsLeft f c first m → (rest : Pairs) × (m ≡ told ++ rest) × HasPairsLeft f d walk rest
 
@@ -44,6 +46,7 @@ pub none_written : (content : Option Image) (held : Option (List ℕ)) (walk : W
 none_written content held walk c tag is = record {
   told = [];
   wrote = appends_none held;
+  lawful = tt;
   next = sym is;
   left = λ f m exposed has. (m, refl, has);
 }
@@ -79,16 +82,20 @@ module _ (content : Option Image) (held now : Option (List ℕ)) (first walk : W
   both page = frames_then 1 so_far.told page
 
   -- no page more
-  pub stopped : (e : Fault) → (told : Pairs) × WritesPairs (broken_by e) held now told × ((f : Image) (m : Pairs) → content ≡ Some f → HasPairsLeft f c first m → AreTold (broken_by e) told m)
-  stopped fault.Device = (so_far.told, so_far.wrote, λ f m exposed has. let left = so_far.left f m exposed has in (left.0, left.1))
-  stopped (fault.Damaged b) = (so_far.told, so_far.wrote, λ f m exposed has. let left = so_far.left f m exposed has in (left.0, left.1))
+  pub stopped : (e : Fault) → (told : Pairs) × WritesPairs (broken_by e) held now told × AreLawful told × ((f : Image) (m : Pairs) → content ≡ Some f → HasPairsLeft f c first m → AreTold (broken_by e) told m)
+  stopped fault.Device = (so_far.told, so_far.wrote, so_far.lawful, λ f m exposed has. let left = so_far.left f m exposed has in (left.0, left.1))
+  stopped (fault.Damaged b) = (so_far.told, so_far.wrote, so_far.lawful, λ f m exposed has. let left = so_far.left f m exposed has in (left.0, left.1))
 
-  module _ (page : Pairs) where
+  module _ (page : Pairs) (lawful : AreLawful page) where
+    lawful_now : AreLawful (so_far.told ++ page)
+    lawful_now = lawful_both so_far.told page so_far.lawful lawful
+
     -- a page was written, and others follow
     pub page_written : (new : Option (List ℕ)) (next : Walk) (e : Blocks) (after : ℕ) → Appends now new (flat_map frame (put_bodies (1 + length so_far.told) page)) → ((1 + length so_far.told) + length page) % 4294967296 ≡ after
         → ((f : Image) (m : Pairs) → content ≡ Some f → HasPairsLeft f d walk m → GivesPage f e next m page true) → PagesSoFar content held new first next c e after
     page_written new next e after wrote tags gives = record {
       told = so_far.told ++ page;
+      lawful = lawful_now;
       wrote = subst (λ (bytes : List ℕ). Appends held new bytes) (sym (both page)) (appends_then held now new (exported so_far.told) (flat_map frame (put_bodies (1 + length so_far.told) page)) so_far.wrote wrote);
       next = (ap (λ (n : ℕ). n % 4294967296) (omega (arith, length-append so_far.told page))) ∙ tags;
       left = λ f m exposed has.
@@ -103,17 +110,18 @@ module _ (content : Option Image) (held now : Option (List ℕ)) (first walk : W
     -- the last one was
     pub all_written : (new : Option (List ℕ)) (next : Walk) (e : Blocks) → Appends now new (flat_map frame (put_bodies (1 + length so_far.told) page))
         → ((f : Image) (m : Pairs) → content ≡ Some f → HasPairsLeft f d walk m → GivesPage f e next m page false)
-        → (told : Pairs) × Appends held new (exported told) × ((f : Image) (m : Pairs) → content ≡ Some f → HasPairsLeft f c first m → told ≡ m)
+        → (told : Pairs) × Appends held new (exported told) × AreLawful told × ((f : Image) (m : Pairs) → content ≡ Some f → HasPairsLeft f c first m → told ≡ m)
     all_written new next e wrote gives = (
       so_far.told ++ page,
       subst (λ (bytes : List ℕ). Appends held new bytes) (sym (both page)) (appends_then held now new (exported so_far.told) (flat_map frame (put_bodies (1 + length so_far.told) page)) so_far.wrote wrote),
+      lawful_now,
       λ f m exposed has. let left = so_far.left f m exposed has in ap (λ (l : Pairs). so_far.told ++ l) (gives f left.0 exposed left.2) ∙ sym left.1,
     )
 
     -- the sink failed at it
     pub cut : (new : Option (List ℕ)) (next : Walk) (e : Blocks) (more : Bool) (n : ℕ) → n < length (flat_map frame (put_bodies (1 + length so_far.told) page)) → Appends now new (take n (flat_map frame (put_bodies (1 + length so_far.told) page)))
         → ((f : Image) (m : Pairs) → content ≡ Some f → HasPairsLeft f d walk m → GivesPage f e next m page more)
-        → (told : Pairs) × WritesPairs ended.Sink held new told × ((f : Image) (m : Pairs) → content ≡ Some f → HasPairsLeft f c first m → AreTold ended.Sink told m)
+        → (told : Pairs) × WritesPairs ended.Sink held new told × AreLawful told × ((f : Image) (m : Pairs) → content ≡ Some f → HasPairsLeft f c first m → AreTold ended.Sink told m)
     cut new next e more n less wrote gives =
         let front = exported so_far.told in
         let bytes = flat_map frame (put_bodies (1 + length so_far.told) page) in
@@ -126,6 +134,7 @@ module _ (content : Option Image) (held now : Option (List ℕ)) (first walk : W
             omega (arith, long, less),
             subst (λ (l : List ℕ). Appends held new l) (sym taken) (appends_then held now new front (take n bytes) so_far.wrote wrote),
           ),
+          lawful_now,
           λ f m exposed has.
               let left = so_far.left f m exposed has in
               let page_is = page_front f e next left.0 page more (gives f left.0 exposed left.2) in (

@@ -8,10 +8,12 @@ ghost use Rattle.def_meaning.specs.StateTable.{table_of};
 ghost use Rattle.def_publish.specs.Contents.{Contents, contents_state};
 ghost use Rattle.strat_cursor.specs.Looking.{NamesNoBlock, arrays_asked, blocks_of_arrays};
 ghost use Rattle.strat_memory.specs.Held.{IsConsistent, StandsWith};
+ghost use Rattle.strat_model.specs.Kept.{IsMap};
 ghost use Rattle.strat_model.specs.Pairs.{Pairs};
 ghost use Rattle.strat_model.specs.Step.{pairs_at};
 ghost use Rattle.strat_model.specs.declared.ended.Ended.TheVariants as ended;
 ghost use Rattle.strat_bulk.specs.Ending.{WritesPairs, AreTold, EndsExport, EndsStanding, IsUnbegun, ExportHasCause};
+ghost use Rattle.strat_bulk.specs.Runs.{AreLawful};
 
 use crate::pages::{Room, write_version};
 use std::alloc::Global;
@@ -42,8 +44,10 @@ pub fn export_pairs<K: Sink, D: Disk>(
 ) -> Ended
     requires kept { IsConsistent store.now × (store.now.spent ≡ false) }
     ensures ok { (told : Pairs) × WritesPairs result (K.held sink.old) (K.held sink.new) told
-        × ((x : Contents) → StandsWith (D.view disk.old) store.now x
+        × AreLawful told × ((x : Contents) → StandsWith (D.view disk.old) store.now x
         → AreTold result told (pairs_at (table_of (contents_state x)) version)) }
+    ensures kept { (x : Contents) → StandsWith (D.view disk.old) store.now x → result ≡ ended.Done
+        → IsMap (pairs_at (table_of (contents_state x)) version) }
     ensures none { (result ≡ ended.UnknownVersion)
         ↔ (is_known store.now.memory.parents version ≡ false) }
     ensures end { EndsExport result }

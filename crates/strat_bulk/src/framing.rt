@@ -7,6 +7,7 @@ ghost use Rattle.strat_model.specs.Request.{Put};
 ghost use Rattle.strat_model.specs.Spelling.{command_body};
 ghost use Rattle.strat_model.specs.Stream.{frame};
 ghost use Rattle.def_bulk.specs.Exporting.{put_bodies};
+ghost use Rattle.strat_bulk.specs.Runs.{AreLawful};
 
 use std::alloc::Global;
 use std::marker::Model;
@@ -93,6 +94,7 @@ impl PutFrames {
         ensures ok { (n : ℕ) → n % 4294967296 ≡ self.old.tag
             → (self.new.bytes ≡ flat_map frame (put_bodies n page.now))
             × ((n + length page.now) % 4294967296 ≡ self.new.tag) }
+        ensures fits { AreLawful page.now }
     {
         self.bytes.clear();
         for i in 0..page.len() {

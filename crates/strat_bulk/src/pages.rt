@@ -11,6 +11,7 @@ ghost use Rattle.strat_cursor.specs.Walking.{IsWalk, HasPairsLeft, arrays_walked
 ghost use Rattle.strat_model.specs.Pairs.{Pairs};
 ghost use Rattle.strat_model.specs.declared.ended.Ended.TheVariants as ended;
 ghost use Rattle.strat_bulk.specs.Ending.{WritesPairs, AreTold, EndsWalk, ExportHasCause};
+ghost use Rattle.strat_bulk.specs.Runs.{AreLawful};
 
 use crate::framing::PutFrames;
 use std::alloc::Global;
@@ -60,7 +61,7 @@ fn write_pages<K: Sink, D: Disk>(
     requires kept { IsWalk walk.old }
     requires none { frames.old.tag ≡ 1 }
     ensures ok { (told : Pairs) × WritesPairs result (K.held sink.old) (K.held sink.new) told
-        × ((f : Image) (m : Pairs) → Exposes (D.view disk.old) f
+        × AreLawful told × ((f : Image) (m : Pairs) → Exposes (D.view disk.old) f
         → HasPairsLeft f cache.old walk.old m → AreTold result told m) }
     ensures end { EndsWalk result }
     ensures damaged { (b : ℕ) → result ≡ ended.Damaged b
@@ -97,7 +98,7 @@ pub(crate) fn write_version<K: Sink, D: Disk>(
     requires found { version < length view.now.tree.now.parents }
     requires none { (room.frames.tag ≡ 1) × (room.cache.entries ≡ []) }
     ensures ok { (told : Pairs) × WritesPairs result (K.held sink.old) (K.held sink.new) told
-        × ((f : Image) (m : Pairs) → Exposes (D.view disk.old) f
+        × AreLawful told × ((f : Image) (m : Pairs) → Exposes (D.view disk.old) f
         → AreInOrder f (arrays_read view.now version) → HaveOwnIds (arrays_read view.now version)
         → IsMapSeen f view.now.tree.now.parents (zeros_in view.now)
         (arrays_read view.now version) version m → AreTold result told m) }

@@ -17,7 +17,7 @@ returns-clause-ok g c = λ left source_faults.
     let opened = c.in-Ok.ensures.ok in
     exported_so c.args.version c.export_pairs.result left (g.K.Sink.held c.args.sink.now) (g.K.Sink.held c.export_pairs.new.sink) source_faults (g.K.Sink.faults c.args.sink.now) (g.K.Sink.faults c.export_pairs.new.sink)
     (g.D.Disk.faults c.args.disk.now) (g.D.Disk.faults c.attach.new.disk) (g.D.Disk.faults c.export_pairs.new.disk) (g.D.Disk.view c.args.disk.now) (g.D.Disk.view c.attach.new.disk) (g.D.Disk.view c.export_pairs.new.disk) c.in-Ok.store
-    opened.0 opened.2 c.attach.ensures.time c.in-Ok.ensures.cause.ok c.attach.ensures.trail ran.ok.0 ran.ok.1 ran.ok.2 ran.none.0 ran.none.1 ran.end ran.found ran.damaged ran.same.0 ran.cause
+    opened.0 opened.2 c.attach.ensures.time c.in-Ok.ensures.cause.ok c.attach.ensures.trail ran.ok.0 ran.ok.1 ran.ok.2 ran.ok.3 ran.kept ran.none.0 ran.none.1 ran.end ran.found ran.damaged ran.same.0 ran.cause
 
 pub returns-clause-same : goal.returns-clause-same
 returns-clause-same g c = λ is. (c.export_pairs.ensures.same.1 (export_unbegun c.export_pairs.result c.export_pairs.ensures.end is)).0

@@ -16,13 +16,18 @@ returns-clause-ok g c =
     let known = sym c.known.ensures.ok ∙ c.if-not-known.false in (
       wrote.0,
       wrote.1,
+      wrote.2,
       λ x stands.
           let f = stands.stands.content in
           let m = pairs_at (table_of (contents_state x)) c.args.version in
           let whole = c.a_version_is_read_from_its_arrays.ensures.ok c.args.disk.now c.args.store.now x f c.args.version c.requires.kept.0 stands stands.stands.exposed known in
-          wrote.2 f m stands.stands.exposed (read_ordered f view c.args.store.now c.args.version m whole lent.0 lent.1 read)
+          wrote.3 f m stands.stands.exposed (read_ordered f view c.args.store.now c.args.version m whole lent.0 lent.1 read)
           (read_own f view c.args.store.now c.args.version m whole lent.0 lent.1 read) (read_seen f view c.args.store.now c.args.version m whole lent.0 lent.1 read),
     )
+
+pub returns-clause-kept : goal.returns-clause-kept
+returns-clause-kept g c = λ x stands done.
+    (c.a_version_is_read_from_its_arrays.ensures.ok c.args.disk.now c.args.store.now x stands.stands.content c.args.version c.requires.kept.0 stands stands.stands.exposed (sym c.known.ensures.ok ∙ c.if-not-known.false)).seen.ordered
 
 pub returns-clause-found : goal.returns-clause-found
 returns-clause-found g c = λ x stands disk sink.

@@ -7,6 +7,7 @@ use Rattle.strat_io.specs.Streams.{Appends}
 use Rattle.strat_model.specs.Pairs.{Pairs}
 use Rattle.strat_model.specs.declared.ended.Ended.{Ended}
 use Rattle.strat_bulk.specs.Ending.{AreTold, WritesPairs}
+use Rattle.strat_bulk.specs.Runs.{AreLawful}
 use Rattle.strat_bulk.proofs.PageLemmas.{all_written, cut, page_written, stopped}
 use Rattle.strat_bulk.proofs.pages.write_pages.Goals as goal
 
@@ -15,7 +16,7 @@ returns-in-Err-clause-ok g c =
     let v = g.D.Disk.view c.args.disk.now in
     let before = g.K.Sink.held c.args.sink.now in
     let now = g.K.Sink.held c.loop-more.sink in
-    subst (λ (how : Ended). (told : Pairs) × WritesPairs how before now told × ((f : Image) (m : Pairs) → v.content ≡ Some f → HasPairsLeft f c.args.cache.now c.args.walk.now m → AreTold how told m)) (sym c.from.ensures)
+    subst (λ (how : Ended). (told : Pairs) × WritesPairs how before now told × AreLawful told × ((f : Image) (m : Pairs) → v.content ≡ Some f → HasPairsLeft f c.args.cache.now c.args.walk.now m → AreTold how told m)) (sym c.from.ensures)
     (stopped v.content before now c.args.walk.now c.loop-more.walk c.args.cache.now c.loop-more.cache c.loop-more.frames.tag c.loop-more.invariant.so_far c.in-Err.fault)
 
 pub returns-in-Err-clause-same : goal.returns-in-Err-clause-same
@@ -28,7 +29,7 @@ returns-in_default-clause-ok g c =
     let bytes = c.bytes.ensures.ok ∙ framed.0 in
     let short = c.in_default.ensures.err in
     cut (g.D.Disk.view c.args.disk.now).content (g.K.Sink.held c.args.sink.now) (g.K.Sink.held c.loop-more.sink) c.args.walk.now c.loop-more.walk c.args.cache.now c.loop-more.cache c.loop-more.frames.tag inv.so_far
-    c.next_page.new.out (g.K.Sink.held c.put_all.new.sink) c.next_page.new.self c.next_page.new.cache c.in-Ok.more short.0 (rw (← bytes) short.1) (rw (← bytes) short.2)
+    c.next_page.new.out c.frame_page.ensures.fits (g.K.Sink.held c.put_all.new.sink) c.next_page.new.self c.next_page.new.cache c.in-Ok.more short.0 (rw (← bytes) short.1) (rw (← bytes) short.2)
     (λ f m exposed has. c.in-Ok.ensures.ok f m (inv.reads_only.same ∙ exposed) has)
 
 pub returns-in_default-clause-same : goal.returns-in_default-clause-same
@@ -40,7 +41,7 @@ returns-then-not-more-clause-ok g c =
     let framed = c.frame_page.ensures.ok _ inv.so_far.next in
     let bytes = c.bytes.ensures.ok ∙ framed.0 in
     all_written (g.D.Disk.view c.args.disk.now).content (g.K.Sink.held c.args.sink.now) (g.K.Sink.held c.loop-more.sink) c.args.walk.now c.loop-more.walk c.args.cache.now c.loop-more.cache c.loop-more.frames.tag inv.so_far
-    c.next_page.new.out (g.K.Sink.held c.put_all.new.sink) c.next_page.new.self c.next_page.new.cache (subst (λ (l : List ℕ). Appends (g.K.Sink.held c.loop-more.sink) (g.K.Sink.held c.put_all.new.sink) l) bytes c.in-Ok-put_all.ensures.ok)
+    c.next_page.new.out c.frame_page.ensures.fits (g.K.Sink.held c.put_all.new.sink) c.next_page.new.self c.next_page.new.cache (subst (λ (l : List ℕ). Appends (g.K.Sink.held c.loop-more.sink) (g.K.Sink.held c.put_all.new.sink) l) bytes c.in-Ok-put_all.ensures.ok)
     (λ f m exposed has. subst (λ (b : Bool). GivesPage f c.next_page.new.cache c.next_page.new.self m c.next_page.new.out b) c.if-not-more.true (c.in-Ok.ensures.ok f m (inv.reads_only.same ∙ exposed) has))
 
 pub returns-then-not-more-clause-same : goal.returns-then-not-more-clause-same
@@ -53,7 +54,7 @@ loop-more-preserved g c =
     let bytes = c.bytes.ensures.ok ∙ framed.0 in
     record {
       so_far = page_written (g.D.Disk.view c.args.disk.now).content (g.K.Sink.held c.args.sink.now) (g.K.Sink.held c.loop-more.sink) c.args.walk.now c.loop-more.walk c.args.cache.now c.loop-more.cache c.loop-more.frames.tag inv.so_far
-          c.next_page.new.out (g.K.Sink.held c.put_all.new.sink) c.next_page.new.self c.next_page.new.cache c.frame_page.new.self.tag (subst (λ (l : List ℕ). Appends (g.K.Sink.held c.loop-more.sink) (g.K.Sink.held c.put_all.new.sink) l) bytes c.in-Ok-put_all.ensures.ok) framed.1
+          c.next_page.new.out c.frame_page.ensures.fits (g.K.Sink.held c.put_all.new.sink) c.next_page.new.self c.next_page.new.cache c.frame_page.new.self.tag (subst (λ (l : List ℕ). Appends (g.K.Sink.held c.loop-more.sink) (g.K.Sink.held c.put_all.new.sink) l) bytes c.in-Ok-put_all.ensures.ok) framed.1
           (λ f m exposed has. subst (λ (b : Bool). GivesPage f c.next_page.new.cache c.next_page.new.self m c.next_page.new.out b) c.if-not-more.false (c.in-Ok.ensures.ok f m (inv.reads_only.same ∙ exposed) has));
       walk = c.in-Ok.ensures.kept c.if-not-more.false;
       arrays = c.next_page.ensures.same.1 ∙ inv.arrays;

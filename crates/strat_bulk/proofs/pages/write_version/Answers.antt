@@ -11,7 +11,7 @@ pub returns-in-Err-clause-ok : goal.returns-in-Err-clause-ok
 returns-in-Err-clause-ok g c =
     let h = g.K.Sink.held c.args.sink.now in
     let both = subst (λ (how : Ended). WritesPairs how h h [] × ((m : Pairs) → AreTold how [] m)) (sym c.from.ensures) (unbegun c.in-Err.fault h) in
-    ([], both.0, λ f m exposed ordered ids seen. both.1 m)
+    ([], both.0, tt, λ f m exposed ordered ids seen. both.1 m)
 
 pub returns-in-Err-clause-damaged : goal.returns-in-Err-clause-damaged
 returns-in-Err-clause-damaged g c = λ b is. c.in-Err.ensures.damaged b (err_damaged c.in-Err.fault b (sym c.from.ensures ∙ is))
@@ -21,8 +21,9 @@ returns-clause-ok g c =
     let wrote = c.write_pages.ensures.ok in (
       wrote.0,
       wrote.1,
+      wrote.2,
       λ f m exposed ordered ids seen.
-          wrote.2 f m (c.begin.ensures.same.disk.same ∙ exposed)
+          wrote.3 f m (c.begin.ensures.same.disk.same ∙ exposed)
           (c.in-Ok.ensures.ok f 0 m exposed (record {
             ordered = ordered;
             ids = ids;

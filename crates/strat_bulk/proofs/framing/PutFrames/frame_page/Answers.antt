@@ -1,5 +1,5 @@
 use Rattle.std.proofs.Common.{◌≡◌, ◌+◌, ◌%◌, ℕ, suc, ap, sym, ◌∙◌, arith}
-use Rattle.strat_bulk.proofs.FramingLemmas.{page_more}
+use Rattle.strat_bulk.proofs.FramingLemmas.{lawful_more, page_more}
 use Rattle.strat_bulk.proofs.framing.PutFrames.frame_page.Goals as goal
 
 pub loop-i-preserved : goal.loop-i-preserved
@@ -12,4 +12,6 @@ loop-i-preserved c = record {
         ap (λ (k : ℕ). k % 4294967296) (sym next) ∙ put.1,
       );
   len = omega (arith, c.put.ensures.len, c.loop-i.invariant.len);
+  lawful = lawful_more c.args.page.now c.loop-i.i c.key.result.now c.value.result.now (omega (arith, c.loop-i-test.true, c.len-i-end.ensures.ok)) c.loop-i.invariant.lawful c.key.ensures.ok c.value.ensures.ok c.key.ensures.len
+      c.key.ensures.fits c.value.ensures.fits;
 }
