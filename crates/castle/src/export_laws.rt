@@ -26,8 +26,7 @@ use strat_bulk::laws::an_export_is_served_again;
 /// A run that exports a version of a store whose content shows a table writes the frames of that version's map, if it is done:
 /// a put of each pair, the keys in order. If the device failed or a block is damaged, it wrote the frames of the first pairs;
 /// if the sink failed, a front of these bytes. It says that there is no such version exactly if recovery finds none. A crash
-/// meanwhile leaves a table that one before might have left. What was written whole, served on a new store that may make so
-/// many changes, makes this map there. It ends for a cause, and where nothing failed, done, without such
+/// meanwhile leaves a table that one before might have left. It ends for a cause, and where nothing failed, done, without such
 /// a version, or for want of memory.
 pub fn an_exporting_run_writes_the_map_of_its_version<D: Viewed>()
     ensures done { (path : List ℕ) (version status : ℕ) (x y : Streams) (d e : D) (f : Image)
@@ -35,17 +34,6 @@ pub fn an_exporting_run_writes_the_map_of_its_version<D: Viewed>()
         → Runs (Some (Export path version)) 1099511627776 status
         (beside x (D.view d)) (beside y (D.view e)) → status ≡ 0
         → Appends x.held y.held (exported (pairs_at t version)) }
-    ensures again { (path : List ℕ) (version status : ℕ) (x y : Streams) (d e : D) (f : Image)
-        (t : Table) (mem changes_max versions_max : ℕ) (xs : List Exchange) (start after : Position)
-        → ShowsTable f t → Exposes (D.view d) f
-        → Runs (Some (Export path version)) 1099511627776 status
-        (beside x (D.view d)) (beside y (D.view e)) → status ≡ 0
-        → length (pairs_at t version) ≤ changes_max → changes_max ≤ 16777216
-        → start.table ≡ fresh changes_max versions_max
-        → map (λ z. z.body) xs ≡ put_bodies 1 (pairs_at t version)
-        → IsRunByTable mem start xs after
-        → after.table ≡ sole_version changes_max versions_max (length (pairs_at t version))
-        (pairs_at t version) }
     ensures front { (path : List ℕ) (version status : ℕ) (x y : Streams) (d e : D) (f : Image)
         (t : Table) → ShowsTable f t → Exposes (D.view d) f
         → Runs (Some (Export path version)) 1099511627776 status
@@ -99,6 +87,22 @@ pub fn an_exporting_run_writes_the_map_of_its_version<D: Viewed>()
     ensures same { (path : List ℕ) (version : ℕ) (d : D) (status a b i j m n : ℕ)
         → LeavesAlone (Some (Export path version)) (D.view d) status (a ≡ b) (i ≡ j) (m ≡ n)
         → (a ≡ b) × ((status ≡ 2) ⊎ (status ≡ 8) ⊎ (status ≡ 12) → i ≡ j) }
+{}
+
+/// What such a run wrote that was done makes the map again: a run over its bodies, each carried out as the table says, from a
+/// new store that may make so many changes, ends with a table whose only version has this map.
+pub fn what_an_export_wrote_makes_its_map_again<D: Viewed>()
+    ensures end { (path : List ℕ) (version status : ℕ) (x y : Streams) (d e : D) (f : Image)
+        (t : Table) (mem changes_max versions_max : ℕ) (xs : List Exchange) (start after : Position)
+        → ShowsTable f t → Exposes (D.view d) f
+        → Runs (Some (Export path version)) 1099511627776 status
+        (beside x (D.view d)) (beside y (D.view e)) → status ≡ 0
+        → length (pairs_at t version) ≤ changes_max → changes_max ≤ 16777216
+        → start.table ≡ fresh changes_max versions_max
+        → map (λ z. z.body) xs ≡ put_bodies 1 (pairs_at t version)
+        → IsRunByTable mem start xs after
+        → after.table ≡ sole_version changes_max versions_max (length (pairs_at t version))
+        (pairs_at t version) }
 {
     an_export_is_served_again();
 }

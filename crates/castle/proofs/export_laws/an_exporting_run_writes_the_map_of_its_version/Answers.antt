@@ -2,7 +2,6 @@ use Rattle.std.proofs.Common.{◌≡◌, ◌⊎◌, ℕ, inl, inr, ◌∙◌, ap
 use Rattle.strat_io.specs.Streams.{Appends}
 use Rattle.def_bulk.specs.Exporting.{exported}
 use Rattle.strat_bulk.specs.Ending.{AreTold, WritesPairs}
-use Rattle.strat_bulk.specs.Runs.{AreLawful}
 use Rattle.strat_model.specs.Pairs.{Pairs}
 use Rattle.strat_model.specs.Step.{pairs_at}
 use Rattle.strat_model.specs.Ended.{status_of}
@@ -17,12 +16,6 @@ returns-clause-done g c = λ path version status x y d e f t shows exposed ran i
     let how = ended_by status 0 ran.0 ran.1 is (λ nine. omega (arith, nine)) in
     let told = subst (λ (h : Ended). AreTold h ran.2.told (pairs_at t version)) how (ran.2.map f t exposed shows) in
     subst (λ (ps : Pairs). Appends x.held y.held (exported ps)) told (subst (λ (h : Ended). WritesPairs h x.held y.held ran.2.told) how ran.2.writes)
-
-pub returns-clause-again : goal.returns-clause-again
-returns-clause-again g c = λ path version status x y d e f t mem changes versions xs start after shows exposed ran is few most from bodies run.
-    let how = ended_by status 0 ran.0 ran.1 is (λ nine. omega (arith, nine)) in
-    let told = subst (λ (h : Ended). AreTold h ran.2.told (pairs_at t version)) how (ran.2.map f t exposed shows) in
-    c.an_export_is_served_again.ensures.end mem changes versions (pairs_at t version) xs start after (ran.2.ordered how f t exposed shows) (subst (λ (ps : Pairs). AreLawful ps) told ran.2.lawful) few most from bodies run
 
 pub returns-clause-front : goal.returns-clause-front
 returns-clause-front g c = λ path version status x y d e f t shows exposed ran is.
