@@ -1,3 +1,0 @@
-pub mod Framing
-pub mod Ending
-pub mod Runs
