@@ -12,7 +12,7 @@ import subprocess
 import sys
 
 import model
-from program import PROGRAM, TOP, StoreFile, Wrong, expect, run_checks
+from program import PROGRAM, TOP, Skipped, StoreFile, Wrong, expect, run_checks
 
 CASTLE, SQLITE = "castle", "SQLite"
 
@@ -167,6 +167,16 @@ def the_wear_is_within_its_bounds(folder):
     expect("its rows", rows, [(b"100", b"0.54", b"4", b"0.91"), (b"2,000", b"3.55", b"20", b"1.19")])
 
 
+def an_export_is_measured_beside_a_copy(folder):
+    ran = subprocess.run([sys.executable, str(TOP / "bench" / "export"), "--pairs", "100,3000", "--runs", "1", "--folder", folder],
+                         capture_output=True, timeout=60)
+    if b"has no word export yet" in ran.stderr:
+        raise Skipped("the program has no word export yet")
+    expect("its status", (ran.returncode, ran.stderr.count(b"\n")), (0, 2))
+    rows = re.findall(rb"^\| ([\d,]+) \| ([\d,]+) \|(?: \d+\.\d{3} \|){3}$", ran.stdout, re.MULTILINE)
+    expect("its rows", rows, [(b"100", b"6,900"), (b"3,000", b"207,000")])
+
+
 # bench/clones
 
 SMALL = ["--pairs", "300", "--clones", "3", "--edits", "40", "--looks", "2"]
@@ -267,6 +277,7 @@ CHECKS = [
     a_power_is_the_slope_of_logarithms,
     the_plain_store_makes_each_change_durable_too,
     the_wear_is_within_its_bounds,
+    an_export_is_measured_beside_a_copy,
     many_clones_are_measured_beside_other_stores,
     a_wrong_answer_over_clones_is_noticed,
     the_answers_over_clones_are_those_of_dictionaries,

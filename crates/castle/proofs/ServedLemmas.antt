@@ -24,11 +24,12 @@ use Rattle.strat_open.specs.Following.{FollowsFrom, IsUnchanged, LeavesOpening}
 use Rattle.strat_open.specs.Format.{IsBlank, IsNewDisk, IsNewStore, IsNoneOrNew, head_for}
 use Rattle.strat_serve.specs.Generated.{workload_bytes, workload_bodies}
 use Rattle.strat_model.proofs.BatchLemmas.{over_nothing}
-use Rattle.strat_serve.specs.Session.{Took, AreNextIn, IsAtEnd, Session, EndsFor, FollowsRun, GaveUp, Served, RunOutcome, RefusesFor, EndHasCause}
-use Rattle.strat_serve.specs.World.{World, world}
+use Rattle.strat_loop.specs.Session.{Took, AreNextIn, IsAtEnd, Session, EndsFor, GaveUp, RefusesFor, EndHasCause}
+use Rattle.strat_serve.specs.Serving.{FollowsRun, Served, RunOutcome}
+use Rattle.strat_loop.specs.World.{World, world}
 use Rattle.strat_serve.proofs.StreamedLemmas.{few_bytes, front_of, all_of_it}
 use Rattle.castle.specs.Working.{EndsWorkload, EndsAfterAll, workload_start, FollowsNew, CarriesOutWorkload, LeavesWorkload}
-use Rattle.castle.proofs.CompleteLemmas.{finds_none, never_damaged}
+use Rattle.castle.proofs.CompleteLemmas.{finds_none, never_damaged, of_run}
 
 -- what is taken of the front of a list
 take_less : {A : Type 0} (n m : ℕ) (xs : List A) → n ≤ m → take n (take m xs) ≡ take n xs
@@ -94,6 +95,7 @@ module _ (seed count : ℕ) (few : count < 2 ^ 32) where
   served_end ended.NotAStore b n left s0 s1 k0 k1 cause served = absurd served.ends
   served_end ended.NoMemory b n left s0 s1 k0 k1 cause served = absurd served.ends
   served_end ended.Unsound b n left s0 s1 k0 k1 cause served = absurd served.ends
+  served_end ended.UnknownVersion b n left s0 s1 k0 k1 cause served = absurd served.ends
 
   gave_up_end : (how : Ended) (before now : World) → GaveUp how before now → EndsWorkload how × (how ≢ ended.Sink)
   gave_up_end ended.NotAStore b n gave = (tt, λ is. let f : ended.NotAStore ≡ ended.Sink = is in cc)
@@ -108,6 +110,7 @@ module _ (seed count : ℕ) (few : count < 2 ^ 32) where
   gave_up_end ended.Sink b n gave = absurd gave.ends
   gave_up_end ended.Budget b n gave = absurd gave.ends
   gave_up_end ended.Unsound b n gave = absurd gave.ends
+  gave_up_end ended.UnknownVersion b n gave = absurd gave.ends
 
   pub workload_end : (how : Ended) (before now : World) → before.left ≡ Some (workload_bytes seed count) → before.source_faults ≡ 0 → now.source_faults ≡ 0 → before.sink_faults ≡ 0 → now.sink_faults ≡ 0
       → EndHasCause how before now → RunOutcome 1099511627776 how before now → EndsWorkload how × (how ≢ ended.Sink)
@@ -232,6 +235,7 @@ module _ (d0 d1 d2 : DiskView) (later : Passes d0 d1) (passes : Passes d1 d2)
     gave_up_leaves ended.Sink gave refuses = absurd gave.ends
     gave_up_leaves ended.Budget gave refuses = absurd gave.ends
     gave_up_leaves ended.Unsound gave refuses = absurd gave.ends
+    gave_up_leaves ended.UnknownVersion gave refuses = absurd gave.ends
 
     module _ (how : Ended) (served : Served 1099511627776 how before now) where
       abbrev s : Session
@@ -305,7 +309,7 @@ module _ (d0 d1 d2 : DiskView) (later : Passes d0 d1) (passes : Passes d1 d2)
     served_leaves ended.Done ends no_sink served = record { ends = tt; made = inr (carried ended.Done served (λ is. served.ends) (inr served.ends)) }
     served_leaves ended.Device ends no_sink served = record { ends = tt; made = inr (carried ended.Device served (λ is. absurd is) (inl refl)) }
     served_leaves (ended.Damaged block) ends no_sink served =
-        absurd (never_damaged 1099511627776 (ended.Damaged block) before now content (fresh 16777216 16384) (inr served) disk.rest.exposed disk.new.shows block refl)
+        absurd (never_damaged 1099511627776 (ended.Damaged block) before now content (fresh 16777216 16384) (of_run 1099511627776 (ended.Damaged block) before now (inr served)) disk.rest.exposed disk.new.shows block refl)
     served_leaves ended.Sink ends no_sink served = absurd (no_sink refl)
     served_leaves ended.NotAStore ends no_sink served = absurd served.ends
     served_leaves ended.NoMemory ends no_sink served = absurd served.ends
@@ -315,6 +319,7 @@ module _ (d0 d1 d2 : DiskView) (later : Passes d0 d1) (passes : Passes d1 d2)
     served_leaves ended.Source ends no_sink served = absurd ends
     served_leaves ended.Budget ends no_sink served = absurd ends
     served_leaves ended.Unsound ends no_sink served = absurd ends
+    served_leaves ended.UnknownVersion ends no_sink served = absurd ends
 
     pub workload_leaves : (how : Ended) → EndsWorkload how → how ≢ ended.Sink → RunOutcome 1099511627776 how before now → RefusesFor how d1 d2 → LeavesWorkload seed count how d0 d2
     workload_leaves how ends no_sink (inl gave) refuses = gave_up_leaves how gave refuses

@@ -173,8 +173,8 @@ fn begin(alloc: Global, store: &Reading) -> Result<(Tables, Findings), NoMemory>
     let first = first_children(alloc, tree)?;
     let (zero, _pool) = store.zero();
     let lowest = lower_by_items(tree.count(), &first, zero.items());
-    let leads = Sights::new(alloc, tree.count())?;
-    let array = Sights::new(alloc, tree.count())?;
+    let leads = Sights::new(alloc, tree)?;
+    let array = Sights::new(alloc, tree)?;
     let found = Findings {
         places: Places::new(),
         lowest,

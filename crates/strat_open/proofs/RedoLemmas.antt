@@ -1,7 +1,7 @@
 -- A journal's changes carried out one by one on what is in memory.
-use Rattle.std.proofs.Common.{◌≡◌, ◌≤◌, ◌<◌, ◌+◌, ℕ, suc, true, not, List, [], ◌∷◌, ◌++◌, length, map, take, drop, get_or, Option, None, Ok, Err, refl, sym, ap, ◌∙◌, subst, arith, append_assoc, append-nil, Bool, false, cond, eqb, ◌&&◌, Some}
+use Rattle.std.proofs.Common.{◌≡◌, ◌≤◌, ◌<◌, ◌+◌, ℕ, suc, true, not, List, [], ◌∷◌, ◌++◌, length, map, take, drop, get_or, Option, None, Ok, Err, refl, sym, ap, ◌∙◌, subst, arith, append_assoc, append-nil, length-append, Bool, false, cond, eqb, ◌&&◌, Some}
 use Rattle.std.specs.Prelude.{fold, is_some}
-use Rattle.std.specs.List.{list_all}
+use Rattle.std.specs.List.{filter_map, list_all}
 use Rattle.std.proofs.lemmas.Bool.{and_from, and_parts, cond-true, cond-false}
 use Rattle.std.proofs.lemmas.List.{map_more, drop_more, take_all, drop_all}
 use Rattle.strat_base.proofs.ListFacts.{fold-push}
@@ -13,9 +13,11 @@ use Rattle.def_bytes.specs.Records.{Logged}
 use Rattle.def_bytes.specs.SuperBlock.{Super}
 use Rattle.strat_model.specs.declared.replies.Refusal.{Refusal}
 use Rattle.def_recovery.specs.Opening.{accepted_in}
-use Rattle.def_state.specs.State.{tree_after, marks_after}
-use Rattle.strat_memory.specs.Memory.{Memory, refusal_of_change, memory_after, HasRoomFor, IsMemoryOf}
-use Rattle.strat_memory.proofs.MemoryLawLemmas.{accepted_same, memory_follows}
+use Rattle.def_recovery.specs.Head.{Head}
+use Rattle.def_state.specs.Setting.{set_all}
+use Rattle.def_state.specs.State.{tree_after, marks_after, update_of}
+use Rattle.strat_memory.specs.Memory.{Memory, refusal_of_change, memory_after, oldest_entries, HasRoomFor, IsMemoryOf}
+use Rattle.strat_memory.proofs.MemoryLawLemmas.{accepted_same, memory_follows, oldest_whole}
 use Rattle.strat_base.specs.Marks.{Marks, none_dropped}
 use Rattle.def_state.specs.Sound.{is_accepted, are_accepted}
 use Rattle.def_state.proofs.UndroppedLemmas.{there_made, open_made, none_after}
@@ -172,12 +174,14 @@ free_from m marks c none accepted = unrefused (refusal_of_change m c) (sym (acce
     unrefused None e = refl
     unrefused (Some r) e = absurd (cc)
 
--- memory after changes that are accepted in turn is that of the head with them in its journal
+-- memory after changes that are accepted in turn, and which fit a region with those before, is that of the head with them in
+-- its journal
 pub memory_follows_all : (sb : Super) (manifest : Manifest) (before changes : List Change) (m : Memory) (marks : Marks) → IsMemoryOf (record { sb = sb; manifest = manifest; journal = before }) m
-    → none_dropped marks ≡ true → are_accepted m.changes_max m.versions_max m.parents marks m.changes changes ≡ true
+    → none_dropped marks ≡ true → are_accepted m.changes_max m.versions_max m.parents marks m.changes changes ≡ true → length before + length changes ≤ sb.mem
     → IsMemoryOf (record { sb = sb; manifest = manifest; journal = before ++ changes }) (fold memory_after m changes)
-memory_follows_all sb manifest before [] m marks of none accepted = subst (λ (js : List Change). IsMemoryOf (record { sb = sb; manifest = manifest; journal = js }) m) (sym (append-nil before)) of
-memory_follows_all sb manifest before (c ∷ changes) m marks of none accepted =
+memory_follows_all sb manifest before [] m marks of none accepted few = subst (λ (js : List Change). IsMemoryOf (record { sb = sb; manifest = manifest; journal = js }) m) (sym (append-nil before)) of
+memory_follows_all sb manifest before (c ∷ changes) m marks of none accepted few =
+    let size = length-append before (c ∷ []) in
     let parts = and_parts (is_accepted m.changes_max m.versions_max m.parents marks m.changes c) (are_accepted m.changes_max m.versions_max (tree_after m.parents c) (marks_after marks c) (suc m.changes) changes) accepted in
     let free = free_from m marks c none parts.0 in
     let limits = after_limits m c in
@@ -185,8 +189,13 @@ memory_follows_all sb manifest before (c ∷ changes) m marks of none accepted =
     let later : are_accepted (memory_after m c).changes_max (memory_after m c).versions_max (memory_after m c).parents (marks_after marks c) (memory_after m c).changes changes ≡ true =
     (λ i. are_accepted (limits.0 i) (limits.1 i) (after_parents m c i) (marks_after marks c) (sym count i) changes) ∙ parts.1 in
     subst (λ (js : List Change). IsMemoryOf (record { sb = sb; manifest = manifest; journal = js }) (fold memory_after (memory_after m c) changes)) (append_assoc before (c ∷ []) changes)
-    (memory_follows_all sb manifest (before ++ c ∷ []) changes (memory_after m c) (marks_after marks c) (memory_follows (record { sb = sb; manifest = manifest; journal = before }) m of c free)
-    (none_after m.changes_max m.versions_max m.parents marks m.changes c none parts.0) later)
+    (memory_follows_all sb manifest (before ++ c ∷ []) changes (memory_after m c) (marks_after marks c)
+    (memory_follows (record { sb = sb; manifest = manifest; journal = before }) m of c free (λ unsealed. omega (arith, few)))
+    (none_after m.changes_max m.versions_max m.parents marks m.changes c none parts.0) later (omega (arith, few, size)))
+
+-- what a promotion would take of memory is what the journal says, where that fits a region
+pub oldest_read : (h : Head) (m : Memory) → IsMemoryOf h m → length h.journal ≤ h.sb.mem → oldest_entries m ≡ set_all (filter_map update_of h.journal)
+oldest_read h m of few = oldest_whole h m of few
 
 -- changes leave the cursors
 pub cursors_redone : (changes : List Change) (m : Memory) → (fold memory_after m changes).cursors ≡ m.cursors

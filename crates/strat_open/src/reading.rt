@@ -1,6 +1,6 @@
 //! Reading a store without opening it: what recovery finds is taken into memory, and nothing is written.
 
-ghost use Rattle.std.specs.Prelude.{◌≡◌, ◌≤◌, ◌+◌, ℕ, length, filter_map, Ok, Err, Some, None, IfOk, IsErrOf};
+ghost use Rattle.std.specs.Prelude.{◌≡◌, ◌≤◌, ◌+◌, ◌*◌, ℕ, length, filter_map, Ok, Err, Some, None, IfOk, IsErrOf};
 ghost use Rattle.def_crash.specs.Faults.{HasCause, ReadsAtMost};
 ghost use Rattle.def_crash.specs.Image.{Image};
 ghost use Rattle.def_crash.specs.Moments.{Exposes, OnlyReads};
@@ -106,7 +106,7 @@ impl Reading {
             ≡ set_all (filter_map update_of self.now.journal) }
         ensures kept { ListStands result.1.now result.0.now }
     {
-        let (zero, pool, _) = self.found.memory.parts();
+        let (zero, pool, _) = self.found.memory.sealed_parts();
         (zero.view(), pool)
     }
 
@@ -133,7 +133,7 @@ pub fn read_store<D: Disk>(alloc: Global, disk: &mut D) -> Result<Reading, Attac
     ensures same { OnlyReads (D.view disk.old) (D.view disk.new) }
     ensures cause { HasCause fault.Device (D.faults disk.old) (D.faults disk.new) result }
     ensures reads { ReadsAtMost 1052183 (D.reads disk.old) (D.reads disk.new)
-        × IfOk result (λ r. ReadsAtMost (chain_length r.sb.length + region_blocks r.sb.mem + 3)
+        × IfOk result (λ r. ReadsAtMost (chain_length r.sb.length + 2 * region_blocks r.sb.mem + 2)
         (D.reads disk.old) (D.reads disk.new)) }
 {
     sync_first(disk)?;

@@ -2,7 +2,8 @@
 use Rattle.std.proofs.Common.{◌≡◌, ◌≢◌, ◌≤◌, ◌<◌, ◌+◌, ◌*◌, ℕ, zero, suc, eqb, eqb-true, cond, Bool, true, false, List, [], ◌∷◌, ◌++◌, length, take, map, Option, Some, None, refl, sym, ap, subst, ◌∙◌, inl, inr, append-nil, length-append, true≢false, arith}
 use Rattle.std.specs.Prelude.{option_map, slice_get, IfSome, IsSome}
 use Rattle.std.specs.List.{flat_map, list_all, AllByRecursion}
-use Rattle.std.proofs.lemmas.Bool.{and_from, cases_lt, eq-eqb}
+use Rattle.std.proofs.lemmas.Bool.{and_from, cases_lt, eq-eqb, lt-ltb, le-ltb}
+use Rattle.strat_base.specs.Numbers.{number}
 use Rattle.std.proofs.lemmas.List.{take_all, length-map}
 use Rattle.strat_base.specs.Tree.{Parents}
 use Rattle.strat_base.specs.declared.failures.Fault.{Fault}
@@ -20,17 +21,31 @@ use Rattle.strat_model.specs.Answer.{Answer, refusal}
 use Rattle.strat_model.specs.Batch.{Continuation, tables_continued}
 use Rattle.strat_model.specs.Ended.{status_of}
 use Rattle.strat_model.specs.Run.{Position, Response, Exchange, Interruption, Transcript, IsTranscript, UsesOneRegion, bodies_of, responses_of, of_interruption, sent_bytes}
-use Rattle.strat_model.specs.Stream.{frame, Splits, Whole, Rest, Long, ending_of, is_too_long}
+use Rattle.strat_model.specs.Stream.{frame, Splits, Whole, Rest, Long, ending_of, is_partial, is_too_long}
 use Rattle.strat_model.specs.Table.{Table}
 use Rattle.def_publish.specs.Standing.{ShowsTable}
 use Rattle.def_state.specs.Level.{Level, IsStratified, is_dense}
 use Rattle.def_state.specs.State.{State, stored, updates_of, versions_of}
 use Rattle.strat_open.specs.Following.{FollowsFrom}
 use Rattle.strat_memory.specs.Paying.{IsPaidIn}
-use Rattle.strat_serve.specs.Session.{AreAnsweredBy, AreNextIn, Begins, RespondsTo, Session, SendsAllButBatch, AnswersAll, WaitsForNone, Served, FollowsRun, all_responses, listed_response, last_output, output, too_long_bytes, EndsWithFault, EndsFor}
+use Rattle.strat_loop.specs.Session.{AreNextIn, Begins, Session, AnswersAll, WaitsForNone, EndsWithFault, EndsFor}
+use Rattle.strat_serve.specs.Serving.{AreAnsweredBy, RespondsTo, SendsAllButBatch, Served, FollowsRun, all_responses, listed_response, last_output, output, too_long_bytes}
 use Rattle.strat_serve.specs.Tables.{AnswersAllTaken, AnswersUntilFault, AnswersUntilCut, RefusesNext, AnswersUntil, AnswersAsTable, EndsAtTables, GoesThroughTables, IsThrifty, KeepsSpace, begins_at}
-use Rattle.strat_serve.proofs.StreamLemmas.{partial_short}
-use Rattle.strat_serve.specs.World.{Streams, beside}
+use Rattle.strat_loop.specs.World.{Streams, beside}
+
+-- less than a whole frame is few bytes
+partial_short : (bytes : List ℕ) → is_partial bytes ≡ true → length bytes < 2052
+partial_short bytes part =
+    elim (cases_lt (length bytes) 4) [
+      | inl few ↦ omega arith
+      | inr some ↦ elim (cases_lt 2048 (number 4 bytes)) [
+        | inl big ↦ absurd (let p : is_partial bytes ≡ false = rw (le-ltb (length bytes) 4 some, lt-ltb 2048 (number 4 bytes) big) refl in let f : true ≡ false = sym part ∙ p in cc)
+        | inr small ↦ elim (cases_lt (length bytes) (4 + number 4 bytes)) [
+          | inl less ↦ omega arith
+          | inr whole ↦ absurd (let p : is_partial bytes ≡ false = rw (le-ltb (length bytes) 4 some, le-ltb 2048 (number 4 bytes) small, le-ltb (length bytes) (4 + number 4 bytes) whole) refl in let f : true ≡ false = sym part ∙ p in cc)
+        ]
+      ]
+    ]
 
 -- a rest after which a stream ends whole is none
 whole_none : (rest : List ℕ) → ending_of rest ≡ Whole → rest ≡ []
@@ -333,6 +348,7 @@ module _ (budget : ℕ) (before now : Streams) (v w : DiskView) (f : Image) (t :
   answers_as_table ended.NotAStore served run = absurd served.ends
   answers_as_table ended.Usage served run = absurd served.ends
   answers_as_table ended.Unsound served run = absurd served.ends
+  answers_as_table ended.UnknownVersion served run = absurd served.ends
 
 -- what is there is something
 pub there : {A : Type 0} (o : Option A) → IsSome o → (x : A) × (o ≡ Some x)
@@ -363,6 +379,7 @@ no_device_at_end how budget s left ends device sink told = go how ends device si
     go ended.NotAStore ends device sink = ends
     go ended.Usage ends device sink = ends
     go ended.Unsound ends device sink = ends
+    go ended.UnknownVersion ends device sink = ends
 
 -- the frames of fewer bodies are fewer bytes
 frames_within : (bodies : List (List ℕ)) (n m : ℕ) → n ≤ m → length (flat_map frame (take n bodies)) ≤ length (flat_map frame (take m bodies))

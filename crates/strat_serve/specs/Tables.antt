@@ -21,8 +21,9 @@ use Rattle.def_state.specs.Level.{is_dense}
 use Rattle.def_state.specs.Sound.{IsSound}
 use Rattle.def_state.specs.State.{State, stored, updates_of, versions_of}
 use Rattle.strat_memory.specs.Paying.{IsPaidIn}
-use Rattle.strat_serve.specs.Session.{Took, AreNextIn, IsAtEnd, WaitsForNone, too_long_bytes}
-use Rattle.strat_serve.specs.World.{Streams}
+use Rattle.strat_loop.specs.Session.{Took, AreNextIn, IsAtEnd, WaitsForNone}
+use Rattle.strat_serve.specs.Serving.{too_long_bytes}
+use Rattle.strat_loop.specs.World.{Streams}
 
 -- a run answered every frame that was taken whole, none of them by a fault, and a rest with no whole frame was taken
 -- behind them; its replies were sent, and these bytes behind them

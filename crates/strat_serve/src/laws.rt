@@ -34,20 +34,12 @@ ghost use Rattle.strat_publish.specs.Outcomes.{IsDamagedIn};
 ghost use Rattle.strat_store.specs.Applying.{is_fault};
 ghost use Rattle.strat_memory.specs.Held.{Held, IsConsistent, IsOnDisk, arrays_held};
 ghost use Rattle.strat_store.specs.Ranging.{HasPairsFor};
-ghost use Rattle.strat_serve.specs.Session.{Begins, AreCalm, GaveUp, IsSession, IsTaggedFor, RespondsTo, Served, Session, WasPublished, all_responses};
+ghost use Rattle.strat_loop.specs.Session.{GaveUp, Session, WasPublished};
+ghost use Rattle.strat_serve.specs.Serving.{AreCalm, IsSession, IsTaggedFor, RespondsTo, Served, all_responses};
 ghost use Rattle.strat_serve.specs.Tables.{AnswersAsTable, EndsAtTables, GoesThroughTables, KeepsSpace, begins_at};
-ghost use Rattle.strat_serve.specs.World.{Streams, beside};
+ghost use Rattle.strat_loop.specs.World.{Streams, beside};
 
 use def_crash::laws::Viewed;
-
-/// An image shows one table, and a run that is served from it begins there. What a run leaves at each
-/// moment shows one of its tables, at or after the last that it acknowledged by then: so where a run
-/// is cut off, the next one goes on from that table.
-pub fn a_run_begins_where_the_last_one_was_cut_off()
-    ensures one { (c : Image) (t other : Table) → ShowsTable c t → ShowsTable c other → t ≡ other }
-    ensures ok { (c : Image) (t : Table) (mem : ℕ) (start : Position) → ShowsTable c t
-        → Begins c mem start → start.table ≡ t }
-{}
 
 /// A run that was served over a disk that shows a table answers what it took as a run of that table does. At its
 /// end a crash leaves the table after all that was answered, or after one command more that met a fault and the whole

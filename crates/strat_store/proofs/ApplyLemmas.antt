@@ -490,7 +490,7 @@ next_fits cursor limit lawful =
 -- a store stands with its cursors whether it is spent or not
 pub spent_at : (v : DiskView) (s : Held) (x : Contents) (rows : List Cursor) (b : Bool) → StandsAt v (record s { spent = b }) x rows → StandsAt v s x rows
 spent_at v s x rows b at = record {
-  stands = record { stands = at.stands.stands; held = at.stands.held; cached = at.stands.cached };
+  stands = record { stands = at.stands.stands; held = at.stands.held; cached = at.stands.cached; filtered = at.stands.filtered };
   rows_are = at.rows_are;
   going = at.going;
 }

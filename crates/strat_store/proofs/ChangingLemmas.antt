@@ -174,7 +174,7 @@ module _ (r : OpenStore) (cached : Blocks) (kept : IsConsistent (held_of r cache
           };
           accepted = subst (λ (cs : List Change). are_accepted r.sb.changes_max r.sb.versions_max (parents_in (chained_of r.published).manifest) (chained_of r.published).manifest.marks (chained_of r.published).manifest.changes cs ≡ true) list accepted_last;
           memory =
-              let of : IsMemoryOf (record (head_held (held_of r cached)) { journal = r.journal.list ++ c ∷ [] }) (memory_after r.memory c) = memory_follows (head_held (held_of r cached)) r.memory kept.memory c free in
+              let of : IsMemoryOf (record (head_held (held_of r cached)) { journal = r.journal.list ++ c ∷ [] }) (memory_after r.memory c) = memory_follows (head_held (held_of r cached)) r.memory kept.memory c free (λ unsealed. room) in
               subst (λ (m : Memory). IsMemoryOf (record (head_held (held_of r cached)) { journal = j.list }) m) (sym follows)
               (subst (λ (cs : List Change). IsMemoryOf (record (head_held (held_of r cached)) { journal = cs }) (memory_after r.memory c)) list of);
           placed = kept.placed;
@@ -258,6 +258,7 @@ module _ (r : OpenStore) (cached : Blocks) (kept : IsConsistent (held_of r cache
             held = more_held j grown;
             cached = cached_behind stands.stands.content now.content (held_of r cached) kept
                 (subst (λ (n : ℕ). KeepsTaken (is_in_front n) stands.stands.content now.content) kept.log.mem (keeps stands.stands.content now.content stands.stands.exposed now.exposed)) stands.cached;
+            filtered = stands.filtered;
           };
           place = record {
             table = sym (steps_to (contents_state x) c takes);

@@ -1,5 +1,6 @@
 -- A change that meets a full journal, which a publication empties first.
-use Rattle.std.proofs.Common.{◌≡◌, ◌≤◌, ◌+◌, ℕ, Bool, true, false, inl, inr, eqb, not, if◌then◌else◌, [], ◌∷◌, length, Some, None, refl, sym, ap, ◌∙◌, subst, true≢false, arith}
+use Rattle.std.proofs.Common.{◌≡◌, ◌≤◌, ◌+◌, ℕ, Bool, true, false, inl, inr, eqb, not, if◌then◌else◌, List, [], ◌∷◌, drop, length, Some, None, refl, sym, ap, ◌∙◌, subst, true≢false, arith}
+use Rattle.std.proofs.lemmas.List.{drop_all}
 use Rattle.strat_array.specs.Kept.{Blocks}
 use Rattle.strat_base.specs.Change.{Change}
 use Rattle.strat_base.specs.Change as change
@@ -67,7 +68,7 @@ module _ (r : OpenStore) (cached : Blocks) (kept : IsConsistent (held_of r cache
         told = sym (ap (λ (o : Outcome). o.answer) same);
         going = refused_calm r.memory c q refused;
         after = x;
-        stands = record { stands = stands.stands; held = stands.held; cached = stands.cached };
+        stands = record { stands = stands.stands; held = stands.held; cached = stands.cached; filtered = stands.filtered };
         place = stays r.journal.mem at after (request_for c) off (λ i. (sym same i).table) refl;
         fill = empties_none r.journal.mem at after (request_for c) off;
       })
@@ -106,7 +107,7 @@ module _ (r : OpenStore) (cached : Blocks) (kept : IsConsistent (held_of r cache
         full = omega (arith, full, kept.log.mem);
         told = refl;
         going = refl;
-        stands = record { stands = now.stands; held = now.held; cached = now.cached };
+        stands = record { stands = now.stands; held = now.held; cached = now.cached; filtered = now.filtered };
         place = λ i. record { table = table_of (contents_state x); fill = length (same refl i).list };
       }))
   gives_up new w trouble.Device still same whole = breaks r cached kept v x stands c free new w
@@ -168,6 +169,10 @@ module _ (r : OpenStore) (cached : Blocks) (kept : IsConsistent (held_of r cache
         let sum : 0 + n ≡ n = omega arith in
         subst (λ (k : ℕ). Trail ShowsTable w v.moment (t ∷ table_left t (request_for c) told ∷ []) k) sum
         (trail_join ShowsTable u w v.moment [] (table_left t (request_for c) told ∷ []) t n passes before more)
+
+-- once a region is just full, nothing is behind it
+pub none_left : (mem : ℕ) (list left : List Change) → left ≡ drop mem list → length list ≡ mem → left ≡ []
+none_left mem list left is full = is ∙ drop_all mem list (omega (arith, full))
 
 -- where the publication gave up each image shows the table of before
 pub trail_so_far : (v w : DiskView) (x : Contents) (after : Table) → Trail ShowsTable w v.moment (table_of (contents_state x) ∷ []) 0 → Trail ShowsTable w v.moment (table_of (contents_state x) ∷ after ∷ []) 0

@@ -1,7 +1,7 @@
 -- Changes that wait to become durable together: what a store with them holds, and what their table tells.
-use Rattle.std.proofs.Common.{◌≡◌, ◌≤◌, ◌<◌, ◌+◌, ◌-◌, ℕ, suc, zero, Bool, true, ltb, inl, inr, List, [], ◌∷◌, ◌++◌, length, Option, Some, None, refl, sym, ap, ◌∙◌, subst, true≢false, arith, append_assoc, length-append}
+use Rattle.std.proofs.Common.{◌≡◌, ◌≤◌, ◌<◌, ◌+◌, ℕ, suc, zero, Bool, true, ltb, inl, List, [], ◌∷◌, ◌++◌, length, Option, Some, None, refl, sym, ap, ◌∙◌, subst, true≢false, arith, append_assoc, length-append}
 use Rattle.std.specs.Prelude.{Contains, fold, option_map, is_none, slice_get, unwrap_or}
-use Rattle.std.proofs.lemmas.Bool.{and_parts, cases_lt, le-ltb, lt-ltb, ltb-true}
+use Rattle.std.proofs.lemmas.Bool.{and_parts, ltb-true}
 use Rattle.std.proofs.lemmas.List.{append-nil}
 use Rattle.std.proofs.lemmas.List.Sums.{fold-append}
 use Rattle.strat_array.specs.Kept.{Blocks}
@@ -256,7 +256,7 @@ stands_staged v s x rows c keeps at =
     let m = memory_after s.memory c in
     let same : m.cursors.opened ≡ s.memory.cursors.opened = ap (λ (k : HeldCursors). k.opened) (cursors_stay s.memory c) in
     record {
-      stands = record { stands = at.stands.stands; held = at.stands.held; cached = at.stands.cached };
+      stands = record { stands = at.stands.stands; held = at.stands.held; cached = at.stands.cached; filtered = at.stands.filtered };
       rows_are = subst (λ (cs : List HeldCursor). AreRowsOf f m.parents cs rows) (sym same) (keeps f rows at.rows_are);
       going = λ k of. at.going k (subst (λ (cs : List HeldCursor). Contains cs k) same of);
     }
@@ -275,12 +275,6 @@ pub place_room : (log : Log) → has_place log ≡ true → (length log.batch < 
 place_room log place =
     let parts = and_parts (ltb (length log.batch) 16) (ltb (length log.list + length log.batch) log.mem) place in
     (ltb-true (length log.batch) 16 parts.0, ltb-true (length log.list + length log.batch) log.mem parts.1)
-
-pub place_is : (list batch mem : ℕ) → ltb batch (mem - list) ≡ ltb (list + batch) mem
-place_is list batch mem = elim (cases_lt (list + batch) mem) [
-  | inl low ↦ lt-ltb batch (mem - list) (omega (arith, low)) ∙ sym (lt-ltb (list + batch) mem low)
-  | inr high ↦ le-ltb batch (mem - list) (omega (arith, high)) ∙ sym (le-ltb (list + batch) mem high)
-]
 
 -- a change that is staged is the step of the table
 pub staged_at : (v : DiskView) (s : Held) (x : Contents) (rows : List Cursor) (request : Request) (c : Change) → IsStaged s → StandsAt v s x rows → change_wanted request ≡ Some c → may_stage s request ≡ true

@@ -25,7 +25,7 @@ use Rattle.def_publish.specs.Standing.{ShowsTable}
 use Rattle.strat_memory.specs.Held.{Held, StandsWith, arrays_held, position_with}
 use Rattle.strat_cursor.specs.Cursors.{is_opened}
 use Rattle.strat_cursor.specs.Looking.{LooksThrough}
-use Rattle.strat_memory.specs.Memory.{Memory, prepared, refusal_of_change}
+use Rattle.strat_memory.specs.Memory.{Memory, IsReadyFrom, refusal_of_change}
 use Rattle.strat_array.specs.Kept.{Blocks}
 use Rattle.strat_memory.specs.declared.open_store.OpenStore.{OpenStore}
 use Rattle.strat_memory.specs.RecoveredFields.{held_of}
@@ -152,12 +152,11 @@ IsLookedUp now new x request answer =
     ⊎ ((answer ≡ refusal why.DeviceFault) × (reaches_disk request ≡ true)
     × (accepts (step (table_of (contents_state x)) request).answer.reply ≡ true))
 
--- a store holds what it held, but for the memory that stands ready for the next time, and may be spent
+-- a store holds what it held, but for the memory that stands ready for the next time; level 0 may be sealed, and the store
+-- may be spent
 abbrev pub HoldsTheSame : Held → Held → Type 0
-HoldsTheSame old new = new ≡ record old {
-  memory = prepared old.memory new.memory.ready new.memory.cursors.room;
-  spent = new.spent;
-}
+HoldsTheSame old new = IsReadyFrom old.sb.mem old.memory new.memory
+    × (new ≡ record old { memory = new.memory; spent = new.spent })
 
 -- a command that asks for no change leaves the disk as it was, and the cache but for blocks that it adds as they
 -- stand there; a change that memory refuses leaves all as it was, and one that it takes is told that it is done, or of want of

@@ -212,7 +212,7 @@ pub(crate) fn change<D: Disk>(
     if let Some(refusal) = held.memory.refusal(change) {
         return Reply::Refused(refusal);
     }
-    if held.journal.room() == 0 {
+    if held.journal.count() >= held.sb.mem {
         return carry_out_anew(alloc, held, disk, change);
     }
     carry_out(held, disk, change)

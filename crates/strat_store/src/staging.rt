@@ -93,12 +93,11 @@ impl Replies {
 }
 
 /// Whether one more change may be staged behind so many.
-#[tactic(auto, using(crate::proofs::StagingLemmas::place_is))]
-fn has_place(journal: &Journal, staged: usize) -> bool
-    requires len { staged ≡ length journal.now.batch }
+fn has_place(journal: &Journal, mem: u32, staged: usize) -> bool
+    requires len { (staged ≡ length journal.now.batch) × (mem ≡ journal.now.mem) }
     ensures ok { result ≡ has_place journal.now }
 {
-    staged < STAGED_MAX && staged < journal.room() as usize
+    staged < STAGED_MAX && journal.count() as usize + staged < mem as usize
 }
 
 /// Stages a change after so many others, and has memory make it. Answers the reply that waits for it; or `None` if it may
@@ -125,7 +124,7 @@ pub(crate) fn stage_change(
     ensures kept { (cached : Blocks) → IsConsistent (held_joined (held_of held.new cached)) }
     ensures same { KeepsRows held.old.memory held.new.memory }
 {
-    if !has_place(&held.journal, staged) {
+    if !has_place(&held.journal, held.sb.mem, staged) {
         return None;
     }
     let None = held.memory.refusal(change) else {

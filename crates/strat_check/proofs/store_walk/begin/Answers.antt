@@ -26,5 +26,5 @@ returns-clause-ok c = λ f s made found.
       children,
       found_none s c.in_ok-first.first.items pairs c.items.result.now _ children tree (living f c.args.store.now s found made) held
           (c.lower_by_items-lowest.ensures.ok ∙ (λ i. fold (λ n' (item : Item). lowered_to_child (c.deref.ensures.value i) n' item.version) ((c.count.ensures.ok ∙ n) i) c.items.result.now))
-          (c.count-4.ensures.ok ∙ n) refl c.new-3.ensures.ok,
+          (c.count-2.ensures.ok ∙ n) refl c.new-3.ensures.ok,
     )

@@ -1,4 +1,5 @@
-use Rattle.std.proofs.Common.{◌≡◌, ℕ, map, Result, Err, ap, sym, ◌∙◌, []}
+use Rattle.std.proofs.Common.{◌≡◌, ℕ, map, Result, Err, ap, sym, ◌∙◌, [], arith}
+use Rattle.std.proofs.lemmas.List.{length-map}
 use Rattle.std.proofs.lemmas.Result.{err_from_is_err_and}
 use Rattle.strat_base.specs.declared.failures.Trouble.{Trouble}
 use Rattle.strat_base.specs.declared.failures.Trouble.TheVariants.{Damaged}
@@ -16,6 +17,7 @@ returns-clause-ok c =
     (map (λ l. l.change) c.args.logged.now)
     (accepted_in_turn c.in_ok-memory.memory.changes_max c.in_ok-memory.memory.versions_max c.in_ok-memory.memory.parents [] c.in_ok-memory.memory.changes
     (map logged_of c.args.logged.now) (map (λ l. l.change) c.args.logged.now) c.in_ok-replay.ensures.found)
+    (omega (arith, c.requires.room, length-map c.args.logged.now (λ l. l.change)))
     c.in_ok-replay.ensures.ok
 
 pub returns-clause-found : goal.returns-clause-found

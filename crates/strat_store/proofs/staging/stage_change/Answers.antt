@@ -6,6 +6,11 @@ use Rattle.strat_store.proofs.ChangingLemmas.{kept_more, room_kept}
 use Rattle.strat_store.proofs.StagingLemmas.{joined_more, place_room}
 use Rattle.strat_store.proofs.staging.stage_change.Goals as goal
 
+pub has_place-requires : goal.has_place-requires
+has_place-requires c =
+    let whole = c.requires.kept (empty_cache 0) in
+    record { len = (c.requires.len, sym whole.log.mem) }
+
 pub take-requires-clause-room : goal.take-requires-clause-room
 take-requires-clause-room c =
     let whole = c.requires.kept (empty_cache 0) in

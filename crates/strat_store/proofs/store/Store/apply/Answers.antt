@@ -63,10 +63,11 @@ returns-clause-found g c =
 pub returns-clause-trail : goal.returns-clause-trail
 returns-clause-trail g c =
     rw (← c.self.view_is) (λ x stands.
-    let trail = c.answer-told.ensures.trail x (record { stands = stands.stands; held = stands.held; cached = stands.cached }) in
+    let trail = c.answer-told.ensures.trail x (record { stands = stands.stands; held = stands.held; cached = stands.cached; filtered = stands.filtered }) in
     (trail, stored_since (g.D.Disk.view c.answer-told.new.disk) (g.D.Disk.view c.args.disk.now).moment _ _ trail))
 
 pub returns-clause-reads : goal.returns-clause-reads
 returns-clause-reads g c =
-    rw (← c.self.view_is)
-    (spent_reads (held_of c.self.inside.held c.self.inside.cache) c.self.inside.spent (request_of c.args.command.now) (g.D.Disk.reads c.args.disk.now) (g.D.Disk.reads c.answer-told.new.disk) c.answer-told.ensures.same.3)
+    let before = g.D.Disk.reads c.args.disk.now in
+    let now = g.D.Disk.reads c.answer-told.new.disk in
+    rw (← c.self.view_is) (spent_reads (held_of c.self.inside.held c.self.inside.cache) c.self.inside.spent (request_of c.args.command.now) before now c.answer-told.ensures.same.3)

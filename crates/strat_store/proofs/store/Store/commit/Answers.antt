@@ -19,7 +19,7 @@ append_staged-requires-clause-kept g c =
 pub returns-in_default-clause-trail : goal.returns-in_default-clause-trail
 returns-in_default-clause-trail g c =
     rw (← c.self.view_is) (λ x stands.
-    let trail = c.in_default.ensures.trail x c.self.inside.cache (record { stands = stands.stands; held = stands.held; cached = stands.cached }) in
+    let trail = c.in_default.ensures.trail x c.self.inside.cache (record { stands = stands.stands; held = stands.held; cached = stands.cached; filtered = stands.filtered }) in
     (trail, batch_stored (g.D.Disk.view c.append_staged.new.disk) (g.D.Disk.view c.args.disk.now).moment _ _ trail))
 
 pub returns-in_default-clause-same : goal.returns-in_default-clause-same
@@ -57,7 +57,7 @@ returns-clause-state g c =
 pub returns-clause-trail : goal.returns-clause-trail
 returns-clause-trail g c =
     rw (← c.self.view_is) (λ x stands.
-    let trail = c.in-Ok.ensures.trail x c.self.inside.cache (record { stands = stands.stands; held = stands.held; cached = stands.cached }) in
+    let trail = c.in-Ok.ensures.trail x c.self.inside.cache (record { stands = stands.stands; held = stands.held; cached = stands.cached; filtered = stands.filtered }) in
     (trail, batch_stored (g.D.Disk.view c.append_staged.new.disk) (g.D.Disk.view c.args.disk.now).moment _ _ trail))
 
 pub returns-clause-same : goal.returns-clause-same

@@ -1,0 +1,5 @@
+pub mod FramingLemmas
+pub mod PageLemmas
+pub mod RunLemmas
+pub mod ExportLemmas
+pub mod DenseLemmas
