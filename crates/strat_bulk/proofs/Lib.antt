@@ -3,3 +3,4 @@ pub mod PageLemmas
 pub mod RunLemmas
 pub mod ExportLemmas
 pub mod DenseLemmas
+pub mod ThirdLemmas

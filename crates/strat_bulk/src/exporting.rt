@@ -1,9 +1,10 @@
 //! The export of a version.
 
-ghost use Rattle.std.specs.Prelude.{◌≡◌, ℕ, false, ◌↔◌};
+ghost use Rattle.std.specs.Prelude.{◌≡◌, ℕ, true, false, ◌↔◌};
 ghost use Rattle.strat_base.specs.Tree.{is_known};
 ghost use Rattle.def_crash.specs.Faults.{ReadsAtMost, Rose};
-ghost use Rattle.def_crash.specs.Moments.{OnlyReads};
+ghost use Rattle.def_crash.specs.Image.{Image};
+ghost use Rattle.def_crash.specs.Moments.{Exposes, OnlyReads};
 ghost use Rattle.def_meaning.specs.StateTable.{table_of};
 ghost use Rattle.def_publish.specs.Contents.{Contents, contents_state};
 ghost use Rattle.strat_cursor.specs.Looking.{NamesNoBlock, arrays_asked, blocks_of_arrays};
@@ -12,6 +13,7 @@ ghost use Rattle.strat_model.specs.Kept.{IsMap};
 ghost use Rattle.strat_model.specs.Pairs.{Pairs};
 ghost use Rattle.strat_model.specs.Step.{pairs_at};
 ghost use Rattle.strat_model.specs.declared.ended.Ended.TheVariants as ended;
+ghost use Rattle.strat_bulk.specs.Density.{AreThirdLive};
 ghost use Rattle.strat_bulk.specs.Ending.{WritesPairs, AreTold, EndsExport, EndsStanding, IsUnbegun, ExportHasCause};
 ghost use Rattle.strat_bulk.specs.Runs.{AreLawful};
 
@@ -64,6 +66,10 @@ pub fn export_pairs<K: Sink, D: Disk>(
     ensures reads { ReadsAtMost
         (blocks_of_arrays (arrays_asked store.now.memory.parents store.now.levels version))
         (D.reads disk.old) (D.reads disk.new) }
+    ensures fits { (x : Contents) (f : Image) → StandsWith (D.view disk.old) store.now x
+        → Exposes (D.view disk.old) f → is_known store.now.memory.parents version ≡ true
+        → AreThirdLive f store.now.memory.parents version
+        (arrays_asked store.now.memory.parents store.now.levels version) }
 {
     if !store.known(version) {
         return Ended::UnknownVersion;

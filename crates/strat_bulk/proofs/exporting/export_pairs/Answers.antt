@@ -5,6 +5,7 @@ use Rattle.strat_base.specs.declared.descriptors.ArrayDesc.{ArrayDesc}
 use Rattle.strat_cursor.specs.Looking.{NamesNoBlock}
 use Rattle.strat_model.specs.Step.{pairs_at}
 use Rattle.strat_bulk.proofs.ExportLemmas.{read_ordered, read_own, read_seen, stands_calm}
+use Rattle.strat_bulk.proofs.ThirdLemmas.{asked_thirds}
 use Rattle.strat_bulk.proofs.exporting.export_pairs.Goals as goal
 
 pub returns-clause-ok : goal.returns-clause-ok
@@ -40,3 +41,12 @@ pub returns-clause-damaged : goal.returns-clause-damaged
 returns-clause-damaged g c = λ b is.
     let read = c.view-view.ensures.ok.2 c.args.version ∙ c.in-Ok-picked.ensures.ok in
     subst (λ (l : List ArrayDesc). NamesNoBlock (g.D.Disk.view c.args.disk.now).content l b) read (c.write_version.ensures.damaged b is)
+
+pub returns-clause-fits : goal.returns-clause-fits
+returns-clause-fits g c = λ x f stands exposed is. asked_thirds (g.D.Disk.view c.args.disk.now) c.args.store.now x f c.args.version c.requires.kept.0 stands exposed is
+
+pub returns-in_default-clause-fits : goal.returns-in_default-clause-fits
+returns-in_default-clause-fits g c = λ x f stands exposed is. asked_thirds (g.D.Disk.view c.args.disk.now) c.args.store.now x f c.args.version c.requires.kept.0 stands exposed is
+
+pub returns-in_default-picked-clause-fits : goal.returns-in_default-picked-clause-fits
+returns-in_default-picked-clause-fits g c = λ x f stands exposed is. asked_thirds (g.D.Disk.view c.args.disk.now) c.args.store.now x f c.args.version c.requires.kept.0 stands exposed is
