@@ -65,7 +65,7 @@ module _ (speech : Speech) where
       rest : IsStagedRun speech mid.disk mem second staged x rows others more
       rest =
           staged_run speech mid.disk law x rows mem second staged others more all.2 (one_at speech mid.disk law x rows mem base second body response all.1 stands same_mem).stands
-          (ap (λ (s : Held). s.log.mem) all.1.after ∙ same_mem)
+          (ap (λ (s : Held). s.log.mem) all.1.after ∙ same_mem) (one_few_after speech mid.disk law x rows mem base second body response all.1 stands same_mem)
 
       at : position_staged base x rows ≡ position_at base x rows
       at = staged_none base x rows none
@@ -119,6 +119,7 @@ module _ (speech : Speech) where
                 subst (λ (p : Position). p.fill ≤ mem) (at x rows stands) (one_few speech mid.disk law x rows mem base second body response all.1 stands same_mem),
                 other.region,
               );
+              fill = subst (λ (p : Position). p.fill ≤ mem) (sym end) other.fill;
               bodies_are = ap (λ (l : List (List ℕ)). body ∷ l) other.bodies_are;
               answers_are = ap (λ (l : List Response). response_of response ∷ l) other.answers_are;
               stands = stand x rows other.stands;

@@ -40,7 +40,8 @@ use Rattle.strat_loop.specs.Progress.{ServesPending, ServesSoFar, RunSoFar, Meet
 use Rattle.strat_loop.specs.Session.{EndsFor, Took, WaitsForNone}
 use Rattle.strat_loop.specs.World.{World}
 use Rattle.strat_loop.proofs.PendingLemmas.{ahead_more, ahead_within, appends_behind, are_more, sends_but, sent_then, took_behind}
-use Rattle.strat_loop.proofs.ProgressLemmas.{as_many, calm_front, few_all, few_held, follows_more, goes_from, paid_so_far}
+use Rattle.def_slice.specs.Filling.{IsFillFrom}
+use Rattle.strat_loop.proofs.ProgressLemmas.{as_many, calm_front, few_all, follows_more, goes_from, paid_so_far}
 use Rattle.strat_loop.proofs.PublishedLemmas.{held_then}
 use Rattle.strat_loop.proofs.SessionLemmas.{answered_front, each_then, whole_taken}
 use Rattle.strat_loop.proofs.StreamLemmas.{Frames, frames_of}
@@ -63,10 +64,14 @@ frames_waiting next.Frame d meets fits =
 frames_waiting next.NotYet d meets fits = record { bodies = []; rest = d.held; splits = record { whole = refl; each = tt; last = or_right (is_too_long d.held) (is_partial d.held) meets } }
 frames_waiting (next.TooLong n) d meets fits = record { bodies = []; rest = d.held; splits = record { whole = refl; each = tt; last = or_left (is_too_long d.held) (is_partial d.held) meets } }
 
-few_then : (mem : ℕ) (xs ys : List Exchange) → AllByRecursion (λ (e : Exchange). e.at.fill ≤ mem) xs → AllByRecursion (λ (e : Exchange). e.at.fill ≤ mem) ys
-    → AllByRecursion (λ (e : Exchange). e.at.fill ≤ mem) (xs ++ ys)
-few_then mem [] ys all next = next
-few_then mem (x ∷ xs) ys all next = (all.0, few_then mem xs ys all.1 next)
+few_then : (mem first : ℕ) (xs ys : List Exchange) → AllByRecursion (λ (e : Exchange). IsFillFrom mem first e.at.fill) xs → AllByRecursion (λ (e : Exchange). IsFillFrom mem first e.at.fill) ys
+    → AllByRecursion (λ (e : Exchange). IsFillFrom mem first e.at.fill) (xs ++ ys)
+few_then mem first [] ys all next = next
+few_then mem first (x ∷ xs) ys all next = (all.0, few_then mem first xs ys all.1 next)
+
+few_from : (mem first : ℕ) (xs : List Exchange) → AllByRecursion (λ (e : Exchange). e.at.fill ≤ mem) xs → AllByRecursion (λ (e : Exchange). IsFillFrom mem first e.at.fill) xs
+few_from mem first [] all = tt
+few_from mem first (x ∷ xs) all = (inl all.0, few_from mem first xs all.1)
 
 -- the disk followed the tables of a batch
 follows_batch : (before mid now : DiskView) (f : Image) (xs gs : List Exchange) (g : Exchange) (t u : Table) → bare g.at.table ≡ t → Passes mid now
@@ -122,6 +127,7 @@ module _ (speech : Speech) where
     pub begins : first.at ≡ position_at old x rows
     pub run : IsSpokenRun speech mem (position_at old x rows) (first ∷ later) responses (position_at new after rows)
     pub region : AllByRecursion (λ (e : Exchange). e.at.fill ≤ mem) (first ∷ later)
+    pub fill : length new.log.list ≤ mem
     pub bodies_are : map (λ (e : Exchange). e.body) (first ∷ later) ≡ bodies
     pub answers_are : map response_of responses ≡ map (λ (e : Exchange). e.response) (first ∷ later)
     pub stands : StandsAt now new after rows
@@ -161,7 +167,8 @@ module _ (speech : Speech) where
           rows = so_far.rows;
           exchanges = so_far.exchanges ++ group;
           run = run_then start.log.mem so_far.from (position_at old so_far.contents so_far.rows) (position_at new is.after so_far.rows) so_far.exchanges group p.answers responses so_far.run is.run;
-          region = few_then start.log.mem so_far.exchanges group so_far.region is.region;
+          region = few_then start.log.mem so_far.from.fill so_far.exchanges group so_far.region (few_from start.log.mem so_far.from.fill group is.region);
+          fill = inl is.fill;
           bodies_are = map-append (λ (x : Exchange). x.body) so_far.exchanges group ∙ (λ i. so_far.bodies_are i ++ is.bodies_are i);
           answers_are = map-append response_of p.answers responses ∙ (λ i. so_far.answers_are i ++ is.answers_are i) ∙ sym (map-append (λ (x : Exchange). x.response) so_far.exchanges group);
           stands = is.stands;
@@ -336,7 +343,7 @@ module _ (speech : Speech) where
           table = so_far.table;
           transcript = transcript;
           is = record { run = so_far.run; interrupted = (response, refl, refl, is.fault) };
-          region = inr (few_all start.log.mem so_far.exchanges (transcript.after ∷ is.done ∷ []) so_far.region (few_held start old p.mem p.lawful, (is.few, tt)));
+          region = few_all start.log.mem so_far.from.fill so_far.exchanges (transcript.after ∷ is.done ∷ []) so_far.region (so_far.fill, (inl is.few, tt));
           front = ap (take (length (bodies_of transcript))) one_more
               ∙ take_at (p.bodies ++ body ∷ []) (others ++ frames.bodies) (length (bodies_of transcript)) (sym (ap length bodies_all)) ∙ sym bodies_all;
           answers_are = so_far.answers_are;

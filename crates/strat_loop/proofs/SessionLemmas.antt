@@ -18,22 +18,25 @@ use Rattle.strat_model.specs.declared.ended.Ended.TheVariants as ended
 use Rattle.strat_model.specs.Answer.{Answer}
 use Rattle.strat_model.specs.Stream.{frame, IsBody, is_partial, is_too_long, Splits, Whole, Rest, Long, ending_of}
 use Rattle.strat_model.specs.Table.{Table, bare}
+use Rattle.def_state.specs.State.{State}
+use Rattle.def_slice.specs.Filling.{IsFillFrom}
+use Rattle.def_slice.proofs.FillingLemmas.{fill_then}
 use Rattle.strat_model.specs.Batch.{tables_before}
-use Rattle.strat_model.specs.Run.{Exchange, Interruption, Transcript, bodies_of}
+use Rattle.strat_model.specs.Run.{Exchange, Interruption, Position, Transcript, bodies_of}
 use Rattle.def_meaning.specs.StateTable.{table_of}
 use Rattle.def_publish.specs.Contents.{contents_state}
 use Rattle.def_publish.specs.Standing.{ShowsTable}
 use Rattle.strat_open.specs.Following.{FollowsFrom}
 use Rattle.strat_memory.specs.Held.{Held, IsConsistent, IsOnDisk, head_held, position_at}
 use Rattle.strat_memory.proofs.PayingLemmas.{paid_now}
-use Rattle.strat_loop.specs.Session.{Took, IsAtEnd, SendsPrefix, AnswersAll, EndsFor, IsFoundAs, WaitsForNone}
+use Rattle.strat_loop.specs.Session.{Begins, Took, IsAtEnd, SendsPrefix, AnswersAll, EndsFor, IsFoundAs, WaitsForNone}
 use Rattle.strat_loop.specs.Pending.{Pending, ArePending, SendsAtEnd, with_sent}
 use Rattle.strat_loop.specs.World.{World}
 use Rattle.strat_loop.proofs.BatchedLemmas.{continues_over_nothing}
 use Rattle.strat_loop.proofs.BeginLemmas.{found_as}
 use Rattle.strat_loop.specs.Progress.{ServesSoFar, RunSoFar}
 use Rattle.strat_loop.proofs.PendingLemmas.{ahead_more, appends_behind, sends_but, sent_then}
-use Rattle.strat_loop.proofs.ProgressLemmas.{Answered, few_all, few_held, follows_more, answered_more, as_many, step_responds, step_damaged, step_paid, step_reads, gate_still, calm_front, calm_parts}
+use Rattle.strat_loop.proofs.ProgressLemmas.{Answered, few_all, follows_more, answered_more, as_many, step_responds, step_damaged, step_paid, step_reads, gate_still, calm_front, calm_parts}
 use Rattle.strat_loop.proofs.PublishedLemmas.{published_still}
 use Rattle.strat_loop.proofs.StreamLemmas.{Frames, frames_of, partial_not_long}
 use Rattle.strat_loop.specs.Speech.{Said, SaysFault, Speech, said_bytes, response_of}
@@ -62,6 +65,15 @@ still_some before mid f passes e = go mid.content refl (passes.exposed (some bef
     go : (o : Option Image) → mid.content ≡ o → IsSome o → (g : Image) × (mid.content ≡ Some g)
     go (Some g) is there = (g, is)
     go None is there = absurd cc
+
+-- a journal has no more changes than a region takes, or as many as that of the content at the start
+found_fill : (f : Image) (mem other count : ℕ) (t : Table) (from : Position) (shows : ShowsTable f t) → Begins f mem from → mem ≡ other → IsFillFrom mem from.fill count
+    → IsFillFrom other (length shows.state.journal) count
+found_fill f mem other count t from shows begins same fill =
+    let both : Some begins.shows.state ≡ Some shows.state = sym begins.shows.reads ∙ shows.reads in
+    let state : begins.shows.state ≡ shows.state = cc in
+    let first : from.fill ≡ length shows.state.journal = begins.fill ∙ ap (λ (s : State). length s.journal) state in
+    subst (λ (n : ℕ). IsFillFrom other n count) first (subst (λ (m : ℕ). IsFillFrom m from.fill count) same fill)
 
 module _ (speech : Speech) where
   -- the responses to the first of some bodies
@@ -120,7 +132,7 @@ module _ (speech : Speech) where
           table = so_far.table;
           transcript = transcript;
           is = record { run = so_far.run; interrupted = tt };
-          region = inr (few_all start.log.mem so_far.exchanges (transcript.after ∷ []) so_far.region (few_held start current p.mem p.lawful, tt));
+          region = few_all start.log.mem so_far.from.fill so_far.exchanges (transcript.after ∷ []) so_far.region (so_far.fill, tt);
           front = front;
           answers_are = so_far.answers_are;
           broken_is = refl;
@@ -153,7 +165,11 @@ module _ (speech : Speech) where
         current,
         p.lawful,
         p.on_disk f exposed,
-        λ t shows. let so_far = p.runs f t exposed shows in found_as now.disk current so_far.contents so_far.stands.stands,
+        λ t shows.
+            let so_far = p.runs f t exposed shows in (
+              found_as now.disk current so_far.contents so_far.stands.stands,
+              found_fill f start.log.mem current.sb.mem (length current.log.list) t so_far.from shows so_far.begins (sym p.mem ∙ p.lawful.log.mem) so_far.fill,
+            ),
       );
       still = λ calm. p.still (calm_front speech p.bodies others p.answers p.answered (subst (λ (l : List Said). AreSaidCalmly speech (p.bodies ++ others) l) tolds_all calm));
       follows = follows_unbroken others rest;
@@ -306,7 +322,13 @@ module _ (speech : Speech) where
             table = so_far.table;
             transcript = transcript;
             is = record { run = so_far.run; interrupted = (response, refl, refl, subst (λ (m : ℕ). SaysFault speech m (position_at old so_far.contents so_far.rows) body response stops.done) p.mem stops.fault) };
-            region = inr (few_all start.log.mem so_far.exchanges (transcript.after ∷ stops.done ∷ []) so_far.region (few_held start old p.mem p.lawful, (omega (arith, stops.few, p.mem), tt)));
+            region = few_all start.log.mem so_far.from.fill so_far.exchanges (transcript.after ∷ stops.done ∷ []) so_far.region (
+            so_far.fill,
+            (
+              fill_then start.log.mem so_far.from.fill (length old.log.list) stops.done.fill so_far.fill (subst (λ (m : ℕ). IsFillFrom m (length old.log.list) stops.done.fill) p.mem stops.fill),
+              tt,
+            ),
+            );
             front = front;
             answers_are = so_far.answers_are;
             broken_is = refl;
@@ -328,7 +350,7 @@ module _ (speech : Speech) where
 
       -- the superblock and the manifest of the store, unless the device failed
       left_on : (k : Fault) → f ≡ k → (fault_told response.answer.reply ≡ Some fault.Device → ⊥) → (g : Image) → before.disk.content ≡ Some g
-          → (store : Held) × IsConsistent store × IsOnDisk now.disk store × ((t : Table) → ShowsTable g t → IsFoundAs now.disk store)
+          → (store : Held) × IsConsistent store × IsOnDisk now.disk store × ((t : Table) (shows : ShowsTable g t) → IsFoundAs now.disk store × IsFillFrom store.sb.mem (length shows.state.journal) (length store.log.list))
       left_on fault.Device same other g exposed = absurd (other (tells ∙ ap (λ (x : Fault). Some x) same))
       left_on (fault.Damaged b) same other g exposed = (
         old,

@@ -228,6 +228,7 @@ module _ (speech : Speech) where
     pub run : IsSpokenRun speech mem (position_staged old x rows) exchanges responses (position_staged new x rows)
     pub made : AllByRecursion (IsSpokenChange speech mem) exchanges
     pub region : AllByRecursion (λ (e : Exchange). e.at.fill ≤ mem) exchanges
+    pub fill : (position_staged new x rows).fill ≤ mem
     pub bodies_are : map (λ (e : Exchange). e.body) exchanges ≡ bodies
     pub answers_are : map response_of responses ≡ map (λ (e : Exchange). e.response) exchanges
     pub stands : StandsAt v new x rows
@@ -262,27 +263,29 @@ module _ (speech : Speech) where
       one_made = record { said = response; response = refl; after = position_staged new x rows; by = one_by; made = one_at.carried }
 
     pub staged_run : (old new : Held) (bodies : List (List ℕ)) (responses : List Said) → StagesBodies speech old bodies responses new → StandsAt v old x rows → old.log.mem ≡ mem
-        → IsStagedRun v mem old new x rows bodies responses
-    staged_run old new [] [] all stands same = record {
+        → (position_staged old x rows).fill ≤ mem → IsStagedRun v mem old new x rows bodies responses
+    staged_run old new [] [] all stands same few = record {
       exchanges = [];
       run = ap (λ (s : Held). position_staged s x rows) all;
       made = tt;
       region = tt;
+      fill = subst (λ (s : Held). (position_staged s x rows).fill ≤ mem) (sym all) few;
       bodies_are = refl;
       answers_are = refl;
       stands = subst (λ (s : Held). StandsAt v s x rows) (sym all) stands;
     }
-    staged_run old new [] (r ∷ rs) all stands same = absurd all
-    staged_run old new (b ∷ bs) [] all stands same = absurd all
-    staged_run old new (b ∷ bs) (r ∷ rs) all stands same =
+    staged_run old new [] (r ∷ rs) all stands same few = absurd all
+    staged_run old new (b ∷ bs) [] all stands same few = absurd all
+    staged_run old new (b ∷ bs) (r ∷ rs) all stands same few =
         let mid = all.0 in
         let one = all.1 in
-        let rest = staged_run mid new bs rs all.2 (one_at old mid b r one stands same).stands (ap (λ (s : Held). s.log.mem) one.after ∙ same) in
+        let rest = staged_run mid new bs rs all.2 (one_at old mid b r one stands same).stands (ap (λ (s : Held). s.log.mem) one.after ∙ same) (one_few_after old mid b r one stands same) in
         record {
           exchanges = exchange old mid b r one stands same ∷ rest.exchanges;
           run = (refl, refl, (position_staged mid x rows, inr (inl (one_by old mid b r one stands same)), rest.run));
           made = (one_made old mid b r one stands same, rest.made);
           region = (one_few old mid b r one stands same, rest.region);
+          fill = rest.fill;
           bodies_are = ap (λ (l : List (List ℕ)). b ∷ l) rest.bodies_are;
           answers_are = ap (λ (l : List Response). response_of r ∷ l) rest.answers_are;
           stands = rest.stands;

@@ -19,7 +19,7 @@ use Rattle.strat_model.specs.Request.{Request}
 use Rattle.strat_model.specs.Stream.{Splits, is_too_long}
 use Rattle.strat_model.specs.Table.{Cursor, Table, bare}
 use Rattle.strat_model.specs.Batch.{tables_continued}
-use Rattle.strat_model.specs.Run.{is_change, reaches_disk, takes_memory, Exchange, Position, Transcript, UsesOneRegion, bodies_of}
+use Rattle.strat_model.specs.Run.{is_change, reaches_disk, takes_memory, Exchange, Position, Transcript, bodies_of, positions_of}
 use Rattle.def_recovery.specs.Head.{Head}
 use Rattle.def_recovery.specs.Opening.{recover}
 use Rattle.def_meaning.specs.StateTable.{table_of}
@@ -27,6 +27,7 @@ use Rattle.def_publish.specs.Contents.{Contents, contents_state}
 use Rattle.def_publish.specs.Standing.{ShowsTable}
 use Rattle.strat_store.specs.Applying.{IsUntouched, TellsTroubleOf, is_fault, may_write}
 use Rattle.strat_store.specs.Cursoring.{LeavesCursors}
+use Rattle.def_slice.specs.Filling.{IsFillFrom}
 use Rattle.strat_open.specs.Following.{ChangesGateAlone, FollowsFrom}
 use Rattle.strat_memory.specs.Held.{Held, IsConsistent, IsOnDisk, StandsAt, position_at}
 use Rattle.strat_store.specs.Ranging.{HasPairsFor, TellsFrom}
@@ -69,7 +70,8 @@ AreSaidCalmly speech (body ∷ bodies) (said ∷ more) =
     SaysCalmly speech body said × AreSaidCalmly speech bodies more
 AreSaidCalmly speech _ _ = Unit {0}
 
--- so was said to a body, and a store that stood with these contents and cursors goes on
+-- so was said to a body, and a store that stood with these contents and cursors goes on; its journal has no more changes
+-- than a region takes, or as many as before
 pub record ContinuesWith (speech : Speech) (before now : DiskView) (old : Held) (x : Contents)
     (rows : List Cursor) (body : List ℕ) (said : Said) (new : Held) : Type 0 where
   pub going : new.spent ≡ false
@@ -78,6 +80,7 @@ pub record ContinuesWith (speech : Speech) (before now : DiskView) (old : Held) 
   pub stands : StandsAt now new after left
   pub answers : Says speech old.log.mem (position_at old x rows) body said
       (position_at new after left)
+  pub fill : IsFillFrom old.log.mem (length old.log.list) (length new.log.list)
   pub trail : Trail ShowsTable now before.moment
       (table_of (contents_state x) ∷ table_of (contents_state after) ∷ []) 1
 
@@ -86,7 +89,7 @@ pub record StopsWith (speech : Speech) (before now : DiskView) (old : Held) (x :
     (rows : List Cursor) (body : List ℕ) (said : Said) : Type 0 where
   pub done : Position
   pub fault : SaysFault speech old.log.mem (position_at old x rows) body said done
-  pub few : done.fill ≤ old.log.mem
+  pub fill : IsFillFrom old.log.mem (length old.log.list) done.fill
   pub answer : said.answer ≡ refusal why.DeviceFault
   pub trail : Trail ShowsTable now before.moment
       (table_of (contents_state x) ∷ bare done.table ∷ []) 0
@@ -196,6 +199,12 @@ abbrev pub SendsSaid :
 SendsSaid speech ended.Sink before now s = SendsAllButLast speech before now s
 SendsSaid speech _ before now s = Appends before now (output_of speech s)
 
+-- a region of the journal that is full is emptied at once: at each position of a run the journal has no more changes than a
+-- region takes, or as many as at its start
+abbrev pub EmptiesFullRegion : ℕ → Position → Transcript → Type 0
+EmptiesFullRegion mem start transcript =
+    AllByRecursion (λ p. IsFillFrom mem start.fill p.fill) (positions_of transcript)
+
 -- what was said in a sitting is what a run of the table that a content shows says, and the disk followed the run's tables up
 -- to all that was answered otherwise than by a fault
 pub record FollowsSpokenRun (speech : Speech) (before now : DiskView) (f : Image) (t : Table)
@@ -209,7 +218,7 @@ pub record FollowsSpokenRun (speech : Speech) (before now : DiskView) (f : Image
   pub transcript : Transcript
   pub is : IsSpokenTranscript speech mem start transcript s.answers s.broken
   -- a full region of the journal was emptied at once
-  pub region : UsesOneRegion mem transcript
+  pub region : EmptiesFullRegion mem start transcript
   pub front : take (length (bodies_of transcript)) s.bodies ≡ bodies_of transcript
   pub answers_are : map response_of s.answers ≡ map (λ x. x.response) transcript.exchanges
   pub broken_is : option_map response_of s.broken
@@ -257,10 +266,11 @@ pub record ServedBy (speech : Speech) (budget : ℕ) (how : Ended) (before now :
       → IsFoundDamaged before.disk now.disk block
   -- where the disk exposes its content, each crash at the end leaves the superblock and the manifest
   -- of a store as an opening may find it, unless the device failed; where that content shows
-  -- a table, its journal too
+  -- a table, its journal too, of no more changes than a region takes, or of as many as the content's
   pub left : (EndsWithFault (session_of sitting).broken fault.Device → ⊥) → (f : Image)
       → Exposes before.disk f → (store : Held) × IsConsistent store × IsOnDisk now.disk store
-      × ((t : Table) → ShowsTable f t → IsFoundAs now.disk store)
+      × ((t : Table) (shows : ShowsTable f t) → IsFoundAs now.disk store
+      × IsFillFrom store.sb.mem (length shows.state.journal) (length store.log.list))
   -- and where nothing was told to a change after which a store may have written, a crash leaves what it
   -- might have left before, or the content but for one gate
   pub still : AreSaidCalmly speech sitting.bodies (all_said sitting) → (f : Image)

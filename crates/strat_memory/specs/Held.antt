@@ -25,7 +25,7 @@ use Rattle.def_publish.specs.Contents.{Contents, contents_state}
 use Rattle.def_publish.specs.Occupied.{extents_of}
 use Rattle.def_publish.specs.Standing.{ContentsStand}
 use Rattle.def_state.specs.Level.{Level}
-use Rattle.def_state.specs.Sound.{are_accepted}
+use Rattle.def_state.specs.Sound.{are_accepted, journal_max}
 use Rattle.strat_cursor.specs.Cursors.{MayGoOn, are_named, arrays_named}
 use Rattle.strat_cursor.specs.Held.{HeldCursor, AreRowsOf}
 use Rattle.strat_cursor.specs.Looking.{AreCachedFrom, HaveOwnIds, levels_there, arrays_there}
@@ -67,13 +67,13 @@ pub record ArePlaced (listed : List LevelDesc) (levels : List (Option LevelDesc)
   pub numbered : (n : ℕ) (level : LevelDesc) → level_numbered levels n ≡ Some level
       → level.number ≡ n
 
--- a journal in memory goes on behind a superblock: it has no batch, and no more changes than a region, of sizes that a
--- change may have
+-- a journal in memory goes on behind a superblock: it has no batch, and no more changes than recovery takes from both
+-- regions, of sizes that a change may have
 pub record IsLogBehind (sb : Super) (log : Log) : Type 0 where
   pub mem : log.mem ≡ sb.mem
   pub active : log.active ≡ sb.region
   pub batch : log.batch ≡ []
-  pub few : length log.list ≤ sb.mem
+  pub few : length log.list ≤ journal_max sb.mem
   pub lawful : IsTrue (list_all is_lawful log.list)
 
 -- the arrays of levels, and those that no level names any more but a cursor does

@@ -90,7 +90,7 @@ module _ (sb : Super) (manifest : Manifest) (m : Memory) (of : IsMemoryOf (recor
   memory_room n few = omega (arith, spare_all sb.mem m.entries (sealed_entries m) m.spare of.lists, few)
 
   pub memory_redone : (now : Memory) (changes : List Change) → are_accepted m.changes_max m.versions_max m.parents [] m.changes changes ≡ true → length changes ≤ sb.mem → now ≡ fold memory_after m changes → IsMemoryOf (record { sb = sb; manifest = manifest; journal = changes }) now
-  memory_redone now changes accepted few is = subst (IsMemoryOf (record { sb = sb; manifest = manifest; journal = changes })) (sym is) (memory_follows_all sb manifest [] changes m [] of refl accepted (omega (arith, few)))
+  memory_redone now changes accepted few is = subst (IsMemoryOf (record { sb = sb; manifest = manifest; journal = changes })) (sym is) (memory_follows_all sb manifest [] changes m [] of refl accepted (λ unsealed. omega (arith, few)))
 
 -- changes that are accepted as records are accepted each in its turn
 pub accepted_in_turn : (changes_max versions_max : ℕ) (parents : Parents) (marks : Marks) (n : ℕ) (logged : List Logged) (journal : List Change)

@@ -19,7 +19,7 @@ use Rattle.strat_model.specs.Spelling.{Spells, IsRefusedAs, reply_body}
 use Rattle.strat_model.specs.Stream.{frame, Splits, is_too_long}
 use Rattle.strat_model.specs.Table.{Table}
 use Rattle.strat_model.specs.Batch.{Continuation, tables_continued}
-use Rattle.strat_model.specs.Run.{is_change, reaches_disk, takes_memory, Position, Response, Transcript, IsTranscript, UsesOneRegion, bodies_of, sent_bytes}
+use Rattle.strat_model.specs.Run.{is_change, reaches_disk, takes_memory, Position, Response, Transcript, IsTranscript, bodies_of, sent_bytes}
 use Rattle.def_recovery.specs.Head.{Head}
 use Rattle.def_recovery.specs.Opening.{recover}
 use Rattle.def_publish.specs.Standing.{ShowsTable}
@@ -27,7 +27,9 @@ use Rattle.strat_store.specs.Applying.{is_fault, may_write}
 use Rattle.strat_open.specs.Following.{ChangesGateAlone, FollowsFrom}
 use Rattle.strat_memory.specs.Held.{Held, IsConsistent, IsOnDisk}
 use Rattle.strat_store.specs.Ranging.{HasPairsFor}
+use Rattle.strat_loop.specs.Spoken.{EmptiesFullRegion}
 use Rattle.strat_loop.specs.World.{World}
+use Rattle.def_slice.specs.Filling.{IsFillFrom}
 use Rattle.strat_loop.specs.Session.{Took, SendsPrefix, IsFoundAs, IsFoundDamaged, Begins, Session, WaitsForNone, EndsWithFault, EndsFor, AreNextIn, GaveUp}
 
 -- the reply to a frame that is too long
@@ -137,7 +139,7 @@ pub record FollowsRun (before now : DiskView) (f : Image) (t : Table) (s : Sessi
   pub transcript : Transcript
   pub is : IsTranscript mem start transcript
   -- a full region of the journal was emptied at once
-  pub region : UsesOneRegion mem transcript
+  pub region : EmptiesFullRegion mem start transcript
   pub front : take (length (bodies_of transcript)) s.bodies ≡ bodies_of transcript
   pub answers_are : s.answers ≡ map (λ x. x.response) transcript.exchanges
   pub broken_is : s.broken ≡ option_map (λ h. h.response) transcript.interruption
@@ -170,10 +172,11 @@ pub record Served (budget : ℕ) (how : Ended) (before now : World) : Type 0 whe
       → IsFoundDamaged before.disk now.disk block
   -- where the disk exposes its content, each crash at the end leaves the superblock and the manifest
   -- of a store as an opening may find it, unless the device failed at a command; where that content shows
-  -- a table, its journal too
+  -- a table, its journal too, of no more changes than a region takes, or of as many as the content's
   pub left : (EndsWithFault session.broken fault.Device → ⊥) → (f : Image)
       → Exposes before.disk f → (store : Held) × IsConsistent store × IsOnDisk now.disk store
-      × ((t : Table) → ShowsTable f t → IsFoundAs now.disk store)
+      × ((t : Table) (shows : ShowsTable f t) → IsFoundAs now.disk store
+      × IsFillFrom store.sb.mem (length shows.state.journal) (length store.log.list))
   -- and where no change has a response after which a store may have written, a crash leaves what it
   -- might have left before, or the content but for one gate
   pub still : AreCalm session.bodies (all_responses session) → (f : Image) → Exposes before.disk f

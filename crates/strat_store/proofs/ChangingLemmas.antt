@@ -26,7 +26,7 @@ use Rattle.strat_gate.specs.SuperView.{super_of}
 use Rattle.strat_journal.specs.Log.{Log}
 use Rattle.strat_model.specs.Answer.{plain, accepts}
 use Rattle.strat_model.specs.Run.{is_carried_out, is_change, reaches_disk}
-use Rattle.strat_model.proofs.FillLemmas.{carried, filled_below}
+use Rattle.strat_model.proofs.FillLemmas.{carried}
 use Rattle.strat_model.specs.Step.{step}
 use Rattle.strat_model.specs.Table.{Table, bare}
 use Rattle.strat_model.specs.declared.replies.Refusal.TheVariants as why
@@ -55,6 +55,7 @@ use Rattle.strat_memory.specs.RecoveredFields.{held_of}
 use Rattle.strat_store.specs.Applying.{held_after}
 use Rattle.strat_memory.specs.declared.open_store.OpenStore.{OpenStore}
 use Rattle.strat_publish.proofs.KeptLemmas.{named_behind}
+use Rattle.def_slice.proofs.FillingLemmas.{left_below}
 use Rattle.strat_memory.proofs.MemoryLawLemmas.{accepted_same, change_answered, change_taken, memory_follows, room_for}
 use Rattle.strat_base.specs.Marks.{Marks}
 
@@ -168,7 +169,7 @@ module _ (r : OpenStore) (cached : Blocks) (kept : IsConsistent (held_of r cache
             mem = ap (λ (l : Log). l.mem) grown ∙ kept.log.mem;
             active = ap (λ (l : Log). l.active) grown ∙ kept.log.active;
             batch = ap (λ (l : Log). l.batch) grown ∙ kept.log.batch;
-            few = omega (arith, room, ap length list, length-append r.journal.list (c ∷ []));
+            few = omega (arith, room, ap length list, length-append r.journal.list (c ∷ []), kept.lawful.mem_least);
             lawful = subst (λ (cs : List Change). list_all is_lawful cs ≡ true) list
                 (list_all-append is_lawful r.journal.list (c ∷ []) ∙ and_from (list_all is_lawful r.journal.list) (list_all is_lawful (c ∷ [])) kept.log.lawful (and_from (is_lawful c) true lawful refl));
           };
@@ -265,5 +266,5 @@ module _ (r : OpenStore) (cached : Blocks) (kept : IsConsistent (held_of r cache
             fill = λ done. inl (low, one_more j grown);
             same = λ off. absurd (true≢false (sym done_so ∙ off));
           };
-          fill = λ done. one_more j grown ∙ sym (filled_below r.journal.mem (length r.journal.list) under);
+          fill = λ done. one_more j grown ∙ sym (left_below r.journal.mem (length r.journal.list) under);
         })

@@ -516,12 +516,14 @@ impl Store {
     }
 
     /// Opens the store on a disk. It syncs; it reads both superblock slots, each block of the manifest's chain, each
-    /// block of the active journal region up to its first closed gate, and one gate of the other region. It reads no
-    /// block of an array. If that gate is open while the active region has room, it shuts the gate (a run that was
-    /// killed in a checkpoint leaves it open): at most one read, one write and one sync more. Linear in the manifest
-    /// and the journal, but for O(log) at each array and each version. Until the first sync succeeds a crash leaves
-    /// only what it might have left before. After an error other than `Device` the disk is as it was; after `Device` it
-    /// is so too, unless it was the last step that failed, which shuts the gate.
+    /// block of the active journal region up to its first closed gate, and one gate of the other region, or that region in
+    /// the same way where the active one is full. It reads no block of an array. If that gate is open while the active
+    /// region has room, it shuts the gate (a run that was killed in a checkpoint leaves it open): at most one read, one
+    /// write and one sync more. Where the journal goes on in the other region, level 0 is sealed with what fills the active
+    /// one, and the next change empties that first. Linear in the manifest and the journal, but for O(log) at each array
+    /// and each version. Until the first sync succeeds a crash leaves only what it might have left before. After an error
+    /// other than `Device` the disk is as it was; after `Device` it is so too, unless it was the last step that failed,
+    /// which shuts the gate.
     ///
     /// A disk that crashed, or that an earlier run or opening failed on, may be opened as it is. If each of its crash
     /// states shows a table, each crash meanwhile leaves one of these tables, and afterwards that of the content.
@@ -529,7 +531,8 @@ impl Store {
     /// It takes the memory of all changes that do not meet a full journal: 3.9 KB for each of `mem` and 83 bytes for
     /// each of `versions_max`; 25 blocks, one for gets and 24 for scans; 0.5 MB for hints where blocks begin; and the
     /// levels' descriptors twice, once with an index of versions. While it recovers it takes more: 2.6 KB for each of
-    /// `mem`, 0.3 MB, and 8 bytes for each block in use. Up to 1 MiB of blocks is cached later.
+    /// `mem`, 0.3 MB, and 8 bytes for each block in use. Where the journal goes on in the other region, it takes 1.3 KB for
+    /// each of `mem` for the sealed level 0. Up to 1 MiB of blocks is cached later.
     pub fn attach<D: Disk>(alloc: Global, disk: &mut D) -> Result<Store, AttachFault>
         ensures ok { IfOk result (λ s. IsOpenedAs (D.view disk.old) (D.view disk.new) s
             × (s.cached ≡ empty_cache 256) × IsConsistent s) }

@@ -1,7 +1,5 @@
 use Rattle.std.proofs.Common.{◌≡◌, List, length, map, arith, true, Ok, sym, ap, subst, ◌∙◌}
 use Rattle.std.specs.List.{list_all}
-use Rattle.std.proofs.lemmas.List.{length-map}
-use Rattle.strat_journal.specs.declared.journal.Logged.{Logged as Owned}
 use Rattle.strat_base.specs.Change.{Change, is_lawful}
 use Rattle.strat_gate.specs.SuperView.{super_of}
 use Rattle.strat_journal.specs.Records.{logged_of}
@@ -27,7 +25,7 @@ returns-clause-kept g c =
       mem = is.mem_is;
       active = is.active_is;
       batch = is.batch_is;
-      few = omega (arith, c.if-len-sb.false, c.len.ensures, ap length is.list_is, length-map c.in_ok-journal.logged.items (λ (l : Owned). l.change), c.in_ok-journal.logged.ok.0);
+      few = is.few;
       lawful = subst (λ (xs : List Change). list_all is_lawful xs ≡ true) (sym is.list_is) own;
     }
 
