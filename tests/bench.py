@@ -3,6 +3,7 @@
 
 import argparse
 import contextlib
+import gc
 import importlib.machinery
 import importlib.util
 import io
@@ -95,6 +96,56 @@ def a_program_that_fails_behind_its_replies_is_noticed(folder):
     with changed(bench, "PROGRAM", stub):
         status, out, errors = measured(folder)
     expect("its status", (status, out.count("|"), "the program ended with status 9" in errors), (1, 0, True))
+
+
+# A made-up program that answers as the model does, except that a statement is carried out before one reply to a change is sent
+ANSWERER = """\
+#!{python}
+import sys, time
+sys.path.insert(0, {tests!r})
+import model
+
+store = model.Store(16, 1000, 1000)
+place = -1  # of the change, behind a frame that asks for the counts
+while sys.argv[1] == "serve" and (head := sys.stdin.buffer.read(4)):
+    reply = store.answer(sys.stdin.buffer.read(int.from_bytes(head, "big")))
+    if place == {place}:
+        {statement}
+    sys.stdout.buffer.write(reply)
+    sys.stdout.buffer.flush()
+    place += 1
+"""
+
+
+def answerer(folder, place, statement):
+    """The program of the bench is such a one for a while."""
+    path = os.path.join(folder, "answerer")
+    with open(path, "w") as file:
+        file.write(ANSWERER.format(python=sys.executable, tests=str(TOP / "tests"), place=place, statement=statement))
+    os.chmod(path, 0o755)
+    return changed(bench, "PROGRAM", path)
+
+
+def a_wrong_answer_to_a_change_that_is_sent_alone_is_noticed(folder):
+    for place in (0, 39):
+        with answerer(folder, place, "reply = reply if sys.argv[2].endswith('bench.store') else reply[:8] + b'\\2' + reply[9:]"):
+            status, out, errors = measured(folder)
+        expect(f"change {place}", (status, out.count("|"), "sent one by one" in errors), (1, 0, True))
+
+
+def a_wait_is_from_a_question_to_its_answer(folder):
+    """The clock of this test stands still except while questions are answered."""
+    now, collects = [1000], []
+
+    def ask(question):
+        now[0] += question
+        collects.append(gc.isenabled())
+        return -question
+
+    with changed(bench.time, "perf_counter_ns", lambda: now[0]):
+        waits, answers = bench.timed(ask, [3, 5, 900])
+    expect("waits and answers", (list(waits), answers), ([3, 5, 900], [-3, -5, -900]))
+    expect("garbage is collected meanwhile, and afterwards", (collects, gc.isenabled()), ([False] * 3, True))
 
 
 def the_clock_of_commands_starts_when_the_store_is_open(folder):
@@ -271,6 +322,8 @@ CHECKS = [
     one_wrong_answer_is_noticed_wherever_it_comes,
     answers_that_are_missing_are_noticed,
     a_program_that_fails_behind_its_replies_is_noticed,
+    a_wrong_answer_to_a_change_that_is_sent_alone_is_noticed,
+    a_wait_is_from_a_question_to_its_answer,
     the_clock_of_commands_starts_when_the_store_is_open,
     replies_are_no_bytes_of_the_file,
     a_table_shows_what_was_measured,
