@@ -189,10 +189,11 @@ TABLE = """\
 def a_table_shows_what_was_measured(folder):
     new = bench.Measured
     plain = new(change=1e-6, together=5e-7, get=2e-6, scan=3e-6, pair=4e-6, cursor=None, opening=5e-3, size=6, written=None)
-    rows = [(count, {CASTLE: (new(1e-3, 1e-4, 1, 1, 1, 1, 1, size, written), new(None, fast, get, 4e-4, 5e-7, 6e-7, opening, 1, 1)),
-                     SQLITE: (plain, None)})
+    rows = [(count, {CASTLE: bench.values_of(new(1e-3, 1e-4, 1, 1, 1, 1, 1, size, written),
+                                             new(None, fast, get, 4e-4, 5e-7, 6e-7, opening, 1, 1)),
+                     SQLITE: bench.values_of(plain, None)})
             for count, opening, size, written, fast, get in ((10, 7e-3, 8000, 90, 2e-5, 3e-5), (1000, 7e-2, 80_000_000, 9, 2e-4, 3e-3))]
-    expect("the table", "\n".join(bench.table("chain", rows)), TABLE.format(bench.chain.__doc__))
+    expect("the table", "\n".join(bench.table("chain", bench.COLUMNS, rows)), TABLE.format(bench.chain.__doc__))
 
 
 def a_power_is_the_slope_of_logarithms(folder):
