@@ -119,7 +119,7 @@ module _ (x y : Streams) (v w : DiskView) (f : Image) (t : Table) (shows : Shows
     ended = refl;
     run = nothing;
     is = record { run = refl; interrupted = tt };
-    region = inl refl;
+    region = (inr refl, tt);
     broken = tt;
     taken = [];
     took = took_nothing x.left y.left gave.source;
@@ -208,16 +208,17 @@ module _ (x y : Streams) (v w : DiskView) (f : Image) (t : Table) (shows : Shows
   pub trail_by : (b : With status) × (GoesThroughTables b.run b.continued.end f v w ⊎ HasNotBegun status b.run v w)
   trail_by = subst (λ (n : ℕ). (b : With n) × (GoesThroughTables b.run b.continued.end f v w ⊎ HasNotBegun n b.run v w)) (sym is) (a.answers, a.trail)
 
--- after a run over a disk that shows a table recovery finds no more changes in the journal than one region takes, unless
--- the device or the sink failed, or memory ran out before the store was open
+-- after a run over a disk that shows a table recovery finds no more changes in the journal than one region takes, or as many
+-- as before, unless the device or the sink failed, or memory ran out before the store was open
 module _ (x y : Streams) (v w : DiskView) (f : Image) (t : Table) (shows : ShowsTable f t) (exposed : Exposes v f) where
   abbrev FindsFew : Image → Type 0
-  FindsFew c = (head : Head) × (recover c ≡ Ok (Some head)) × (length head.journal ≤ head.sb.mem)
+  FindsFew c = (head : Head) × (recover c ≡ Ok (Some head)) × ((length head.journal ≤ head.sb.mem) ⊎ (length head.journal ≡ length shows.state.journal))
 
   pub finds_few : (how : Ended) → RunOutcome 1099511627776 how (beside x v) (beside y w) → RefusesFor how v w → how ≢ ended.Device → how ≢ ended.Sink → how ≢ ended.NoMemory → (c : Image) → Images w c → FindsFew c
   finds_few how (inr served) refuses device sink memory c image =
       let found = served.left (no_device_at_end how 1099511627776 served.session y.left served.ends device sink) f exposed in
-      (head_held found.0, found.3 t shows c image, found.1.log.few)
+      let there = found.3 t shows in
+      (head_held found.0, there.0 c image, there.1)
   finds_few how (inl gave) refuses device sink memory c image = go how gave refuses device memory
     where
       go : (e : Ended) → GaveUp e (beside x v) (beside y w) → RefusesFor e v w → e ≢ ended.Device → e ≢ ended.NoMemory → FindsFew c

@@ -32,7 +32,8 @@ use def_crash::laws::Viewed;
 
 /// A change that was carried out at a full journal left the other slot, with the next generation and the other region, and a
 /// manifest of what memory counted at the seal, in the newest format and with no version dropped. In a consistent store that is
-/// all that memory counts. The levels deeper than the one that it filled have the filters that they had.
+/// all that memory counts, where nothing is behind the full region. The levels deeper than the one that it filled have the
+/// filters that they had.
 pub fn a_full_journal_is_published<D: Viewed>()
     ensures ok { (d e : D) (old new : Held) (told : Reply)
         → LeavesPublished (D.view d) (D.view e) old true told new
@@ -43,7 +44,8 @@ pub fn a_full_journal_is_published<D: Viewed>()
         × (new.chained.manifest.changes ≡ oldest_changes old.memory)
         × (new.chained.manifest.updates ≡ oldest_updates old.memory)
         × (new.chained.manifest.parents ≡ parent_numbers (oldest_parents old.memory)) }
-    ensures found { (s : Held) → IsConsistent s → (oldest_changes s.memory ≡ s.memory.changes)
+    ensures found { (s : Held) → IsConsistent s → length s.log.list ≤ s.sb.mem
+        → (oldest_changes s.memory ≡ s.memory.changes)
         × (oldest_updates s.memory ≡ s.memory.updates)
         × (oldest_parents s.memory ≡ s.memory.parents) }
     ensures same { (d e : D) (old new : Held) (told : Reply)

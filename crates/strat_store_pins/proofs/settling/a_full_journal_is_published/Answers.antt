@@ -20,7 +20,7 @@ returns-clause-same g c = λ d e old new told leaves full.
     (ap (λ (x : Super). x.format) has.after.are.sb_is, ap (λ (x : Manifest). x.compacted) m, ap (λ (x : Manifest). x.marks) m)
 
 pub returns-clause-found : goal.returns-clause-found
-returns-clause-found g c = λ s whole. sealed_all (head_held s) s.memory whole.memory whole.log.few s.memory.sealed whole.memory.counted
+returns-clause-found g c = λ s whole few. sealed_all (head_held s) s.memory whole.memory few s.memory.sealed whole.memory.counted
 
 pub returns-clause-room : goal.returns-clause-room
 returns-clause-room g c = λ old new has. has.full
