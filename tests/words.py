@@ -418,8 +418,8 @@ def crates_are_in_the_architecture(tree):
 
 def crates_list_what_they_name(tree):
     """A line of crates.txt has the crates that the sources of its crate name, and no others: rt goes each way down from a
-    crate, and some kits sum up the sources anew on each. That of castle has all below it, since its launcher looks there
-    for what the program is made of."""
+    crate, and some kits sum up the sources anew on each. A line of tests has all below it, since a test may use an impl of
+    a crate that it does not name, and so has that of castle, whose launcher looks there for what the program is made of."""
     listed = {}
     for line, text in enumerate(tree.text("crates.txt").splitlines(), 1):
         crate, _, rest = text.partition(":")
@@ -430,7 +430,7 @@ def crates_list_what_they_name(tree):
         texts = (re.sub(r"--.*", "", tree.code(name)) for name in tree.sources_of(crate))
         named = {it for text in texts for it in re.findall(r"\w+", text) if it in listed} - {crate}
         below[crate] = named.union(*(below.get(it, set()) for it in named))
-        wanted = below[crate] if crate == "castle" else named
+        wanted = below[crate] if crate == "castle" or crate.endswith("_tests") else named
         for it in sorted(has ^ wanted):
             yield "crates.txt", line, f"{crate} {'lacks' if it in wanted else 'does not name'} {it}"
 
