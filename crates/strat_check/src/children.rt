@@ -70,12 +70,7 @@ fn lower_by_items(lowest: u32, first: &[u32], items: &[Item]) -> u32
 
 /// The least of a number and the least children of the versions of level 0's items, and of those of the sealed one, where
 /// there is one. O(items).
-pub fn lower_by_zeros(
-    lowest: u32,
-    first: &[u32],
-    zero: &ZeroView,
-    sealed: Option<&ZeroView>,
-) -> u32
+pub fn lower_by_zeros(lowest: u32, first: &[u32], zero: &ZeroView, sealed: Option<&ZeroView>) -> u32
     ensures ok { result ≡ lowered_by_zeros first.now lowest zero.now
         (option_map (λ z. z.now) sealed.entry) }
 {

@@ -323,11 +323,11 @@ module _ (speech : Speech) where
             transcript = transcript;
             is = record { run = so_far.run; interrupted = (response, refl, refl, subst (λ (m : ℕ). SaysFault speech m (position_at old so_far.contents so_far.rows) body response stops.done) p.mem stops.fault) };
             region = few_all start.log.mem so_far.from.fill so_far.exchanges (transcript.after ∷ stops.done ∷ []) so_far.region (
-            so_far.fill,
-            (
-              fill_then start.log.mem so_far.from.fill (length old.log.list) stops.done.fill so_far.fill (subst (λ (m : ℕ). IsFillFrom m (length old.log.list) stops.done.fill) p.mem stops.fill),
-              tt,
-            ),
+              so_far.fill,
+              (
+                fill_then start.log.mem so_far.from.fill (length old.log.list) stops.done.fill so_far.fill (subst (λ (m : ℕ). IsFillFrom m (length old.log.list) stops.done.fill) p.mem stops.fill),
+                tt,
+              ),
             );
             front = front;
             answers_are = so_far.answers_are;
