@@ -17,8 +17,6 @@ mod formatting;
 #[cfg(test)]
 mod openings;
 #[cfg(test)]
-mod regions;
-#[cfg(test)]
 mod replies;
 #[cfg(test)]
 mod scripts;

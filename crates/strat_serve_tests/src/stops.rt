@@ -117,13 +117,7 @@ fn survives(alloc: Global, disk: &MemDisk, choice: u8, plan: Plan, done: u32, ca
 }
 
 /// Whether each crash does.
-pub(crate) fn survives_each(
-    alloc: Global,
-    disk: &MemDisk,
-    plan: Plan,
-    done: u32,
-    calls: u64,
-) -> bool {
+fn survives_each(alloc: Global, disk: &MemDisk, plan: Plan, done: u32, calls: u64) -> bool {
     for choice in 0..3 {
         if !survives(alloc, disk, choice, plan, done, calls) {
             return false;
@@ -177,7 +171,7 @@ fn served(alloc: Global, store: &MemDisk, plan: Plan, calls: u64) -> Option<u32>
 }
 
 /// How many of the replies to puts say that one was done.
-pub(crate) fn done_in(replies: &[u8]) -> u32 {
+fn done_in(replies: &[u8]) -> u32 {
     let done = replies
         .chunks(9)
         .filter(|reply| reply.last() == Some(&0))
