@@ -43,6 +43,10 @@ class Damaged(Exception):
         self.block = block
 
 
+class NoRoom(Exception):
+    """A file whose journal has more changes than one region takes, which the program has no memory for."""
+
+
 def region_blocks(mem):
     return -(-(RECORD_MAX * mem + 1) // BLOCK)
 
@@ -292,7 +296,8 @@ def journal_in(data, head):
         later = region_in(data, head.mem, 1 - head.region, head.mem - 1)
         if len(later) == head.mem - 1:
             raise Damaged(region_start(head.mem, 1 - head.region), "both regions have too many changes")
-        logged += later
+        if later:
+            raise NoRoom
     return logged
 
 
@@ -446,6 +451,8 @@ def opened(data):
         return model.ENDED, store_of(data, contents)
     except Damaged:
         return model.DAMAGED, None
+    except NoRoom:
+        return model.NO_MEMORY, None
 
 
 # What the job `levels` prints
@@ -503,6 +510,8 @@ def levels_printed(data):
         return "".join(f"{line}\n" for line in levels_text(contents)).encode(), model.ENDED
     except Damaged as damaged:
         return b"damaged block %d\n" % damaged.block, model.DAMAGED
+    except NoRoom:
+        return b"", model.NO_MEMORY
 
 
 # Writing a file

@@ -9,4 +9,3 @@ pub mod ArgumentLemmas
 pub mod HeadlineLemmas
 pub mod AnyImageLemmas
 pub mod OutcomeLemmas
-pub mod ExportLemmas

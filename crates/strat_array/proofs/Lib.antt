@@ -3,7 +3,6 @@ pub mod BlockFacts
 pub mod CacheLemmas
 pub mod EntriesOnLemmas
 pub mod ExtentLemmas
-pub mod FilterLemmas
 pub mod FindLemmas
 pub mod FoundLemmas
 pub mod HoldLemmas

@@ -3,6 +3,7 @@ pub mod ArrayLemmas
 pub mod BareLemmas
 pub mod BeginLemmas
 pub mod ChildLemmas
+pub mod CountedArrayLemmas
 pub mod FitFound
 pub mod FitLemmas
 pub mod FoundLemmas
@@ -11,7 +12,6 @@ pub mod GrowthLemmas
 pub mod HeadLemmas
 pub mod HeldLemmas
 pub mod HideLemmas
-pub mod KeyWalkLemmas
 pub mod LeastLemmas
 pub mod LevelLemmas
 pub mod LevelOnLemmas

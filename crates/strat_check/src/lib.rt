@@ -1,24 +1,23 @@
 //! The check of a store: what is wrong with it, if anything, told from its bytes.
 #![tactic(auto)]
 
-mod array_count;
-mod array_rules;
+pub mod array_count;
+pub mod array_rules;
 mod bare;
-mod children;
-mod fit;
-mod key_walk;
-mod level_count;
-mod level_rules;
+pub mod children;
+pub mod fit;
+pub mod level_count;
+pub mod level_rules;
 mod level_runs;
-mod level_walk;
+pub mod level_walk;
 mod marked_group;
-mod marked_run;
+pub mod marked_run;
 mod marking;
 mod owners;
-mod places;
-mod scan;
-mod sights;
-mod store_walk;
+pub mod places;
+pub mod scan;
+pub mod sights;
+pub mod store_walk;
 mod stray_group;
-mod strays;
+pub mod strays;
 pub mod verdict;

@@ -22,5 +22,3 @@ pub mod RowLemmas
 pub mod StartLemmas
 pub mod TableRows
 pub mod ThereLemmas
-pub mod FirstLemmas
-pub mod WalkLemmas

@@ -14,4 +14,3 @@ pub mod Ranges
 pub mod Sources
 pub mod Emitting
 pub mod Views
-pub mod Walking

@@ -1,3 +1,2 @@
 pub mod Bits
 pub mod FilterFields
-pub mod Keys

@@ -1,4 +1,3 @@
-pub mod Buffered
 pub mod Records
 pub mod Log
 pub mod RegionReader

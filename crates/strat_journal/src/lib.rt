@@ -19,7 +19,6 @@ mod closing;
 mod journal;
 pub mod laws;
 mod read;
-mod record_buf;
 mod region_reader;
 mod text;
 

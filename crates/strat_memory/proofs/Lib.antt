@@ -12,5 +12,3 @@ pub mod ThreeTests
 pub mod NumbersLemmas
 pub mod PayingLemmas
 pub mod OnDiskLemmas
-pub mod ClearLemmas
-pub mod FilterLemmas

@@ -5,7 +5,6 @@ pub mod ShutLemmas
 pub mod OtherLemmas
 pub mod RedoLemmas
 pub mod RecoverLemmas
-pub mod BothLemmas
 pub mod OpenLemmas
 pub mod SeveralLemmas
 pub mod ReadingLemmas

@@ -26,4 +26,3 @@ pub mod StateInputsLemmas
 pub mod OwnedLemmas
 pub mod BoundLemmas
 pub mod PlanBlocksLemmas
-pub mod FilterLemmas

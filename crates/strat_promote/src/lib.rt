@@ -3,7 +3,6 @@
 
 mod edges;
 mod filling;
-mod filters;
 mod first_pass;
 pub mod input;
 mod input_run;

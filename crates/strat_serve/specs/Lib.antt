@@ -1,4 +1,7 @@
 pub mod Generated
-pub mod Serving
-pub mod Replying
+pub mod Session
+pub mod World
 pub mod Tables
+pub mod Pending
+pub mod Progress
+pub mod Grouping

@@ -11,8 +11,6 @@ mod damaged;
 #[cfg(test)]
 mod disks;
 #[cfg(test)]
-mod filters;
-#[cfg(test)]
 mod formatting;
 #[cfg(test)]
 mod openings;

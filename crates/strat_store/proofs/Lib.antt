@@ -1,5 +1,4 @@
 pub mod BadLemmas
-pub mod FilteringLemmas
 pub mod GettingLemmas
 pub mod KeepingLemmas
 pub mod CursoringLemmas

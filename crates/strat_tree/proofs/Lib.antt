@@ -5,4 +5,3 @@ pub mod LivingLemmas
 pub mod PreorderLemmas
 pub mod PassLemmas
 pub mod DepthLemmas
-pub mod OrderLemmas

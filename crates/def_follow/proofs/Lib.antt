@@ -1,4 +1,0 @@
-pub mod DiskLemmas
-pub mod FollowLemmas
-pub mod LogLemmas
-pub mod ReceiptLemmas

@@ -1,4 +1,0 @@
-pub mod Framing
-pub mod Density
-pub mod Ending
-pub mod Runs
