@@ -1,4 +1,4 @@
-# Completion for bash of castle, castle-shell and castle-hub: `. completion/castle.bash`, or where ./install puts it.
+# Completion for bash of castle, castle-shell, castle-hub and castle-replicate: `. completion/castle.bash`, or where ./install puts it.
 
 _castle_shell() {
     local word=${COMP_WORDS[COMP_CWORD]} place=0 each
@@ -10,8 +10,8 @@ _castle_shell() {
     fi
     case $place:$word in
         [01]:-*) COMPREPLY=($(compgen -W "--json --keep-going -c --help --version" -- "$word")) ;;
-        1:*) COMPREPLY=($(compgen -W "put get exists delete scan use clone switch snapshot release merge names info tree diff stat levels check dump load help" -- "$word")) ;;
-        *:-*) COMPREPLY=($(compgen -W "--limit --stat -p --svg --long --all --csv --json-lines --ours --theirs" -- "$word")) ;;
+        1:*) COMPREPLY=($(compgen -W "put get exists delete scan use clone switch snapshot release merge names info tree diff stat levels check report dump load export import backup salvage help" -- "$word")) ;;
+        *:-*) COMPREPLY=($(compgen -W "--limit --stat -p --svg --long --all --csv --json-lines --frames --overwrite --doubtful --ours --theirs" -- "$word")) ;;
         *)
             compopt -o filenames 2>/dev/null
             local IFS=$'\n'
@@ -33,6 +33,20 @@ _castle() {
         fi
         return
     fi
+    if [ "${COMP_WORDS[0]##*/}" = castle-replicate ]; then
+        if [ "$at" -eq 1 ]; then
+            COMPREPLY=($(compgen -W "record feed read status commands show --help --version" -- "$word"))
+        elif [ "${COMP_WORDS[1]}" = show ]; then
+            COMPREPLY=($(compgen -W "changes receipts" -- "$word"))
+        elif [[ $word == -* ]]; then
+            COMPREPLY=($(compgen -W "--pass --until --stay --retries --command --help" -- "$word"))
+        else
+            compopt -o filenames 2>/dev/null
+            local IFS=$'\n'
+            COMPREPLY=($(compgen -f -- "$word"))
+        fi
+        return
+    fi
     if [ "${COMP_WORDS[0]##*/}" = castle-shell ]; then
         _castle_shell
         return
@@ -43,7 +57,7 @@ _castle() {
             return
         fi
     elif [ "$at" -eq 1 ]; then
-        COMPREPLY=($(compgen -W "format serve levels check workload --overwrite --build --help --version" -- "$word"))
+        COMPREPLY=($(compgen -W "format serve levels check workload lead follow export --overwrite --build --help --version" -- "$word"))
         return
     fi
     if [ "$at" -eq 2 ]; then
@@ -56,4 +70,4 @@ _castle() {
         fi
     fi
 }
-complete -F _castle castle castle-shell castle-hub
+complete -F _castle castle castle-shell castle-hub castle-replicate

@@ -21,7 +21,8 @@ forget_lock() {
 
 # The program's own line. It stands here too, so that nothing has to be built to say it.
 usage() {
-    refuse 1 "usage: castle format FILE M C V, serve FILE, levels FILE, check FILE, workload FILE SEED COUNT"
+    refuse 1 "usage: castle format FILE M C V, serve FILE, levels FILE, check FILE, workload FILE SEED COUNT, lead FILE, \
+follow FILE, export FILE VERSION"
 }
 
 show_help() {
@@ -34,6 +35,9 @@ castle keeps dictionaries whose versions form a tree, in one file.
     castle levels FILE                prints what is in which level of a store
     castle check FILE                 tells whether a store's file keeps every rule, and which one it breaks
     castle workload FILE SEED COUNT   makes a store of COUNT drawn changes, and prints a summary
+    castle lead FILE                  serves a store, and sends its changes in place of replies
+    castle follow FILE                carries out the changes of a leader on a store
+    castle export FILE VERSION        writes the pairs of a version as frames that put them, at version 0
     castle --overwrite format ..      the same where FILE is not empty, which is lost; also workload
     castle --build                    proves and builds the program, where that has to be done
     castle --version, castle --help   say what this is
@@ -54,7 +58,8 @@ is_number() {
 # Ends with the usage, unless the program takes these words.
 check_words() {
     case ${1-}:$#:$overwrite in
-        serve:2: | levels:2: | check:2:) ;;
+        serve:2: | levels:2: | check:2: | lead:2: | follow:2:) ;;
+        export:3:) is_number "$3" 0 4294967295 || usage ;;
         format:5:*) is_number "$3" 4 4096 && is_number "$4" 1 16777216 && is_number "$5" 1 16384 || usage ;;
         workload:4:*) is_number "$3" 0 18446744073709551615 && is_number "$4" 0 1000000 || usage ;;
         *) usage ;;
@@ -75,7 +80,7 @@ refuse_stream() {
 # Sets `real` to the path of FILE without symbolic links. Its last byte may be a line feed.
 resolve() {
     case $1 in
-        serve | levels | check)
+        serve | levels | check | lead | follow | export)
             if [ ! -e "$2" ]; then
                 folder=$(dirname -- "$2")
                 [ ! -d "$folder" ] || [ -x "$folder" ] || refuse 5 "$2: its folder can't be entered"
@@ -102,7 +107,7 @@ look_at_file() {
         refuse 5 "$2: it is no plain file"
     fi
     case $1 in
-        serve | levels | check)
+        serve | levels | check | lead | follow | export)
             [ -r "$real" ] && [ -w "$real" ] || refuse 5 "$2: it can't be read and written; castle-shell reads a copy"
             seems_store || refuse 2 "$2: not a store"
             ;;
@@ -298,8 +303,8 @@ run() {
         case $1 in
             format | workload) make_store "$@" ;;
         esac
-        # Behind `exec` nobody takes it away. `levels` is refused what `serve` is, and changes nothing. Where `serve` runs
-        # none the less, the lock on FILE itself keeps others away.
+        # Behind `exec` nobody takes it away. `levels` is refused what `serve` and `export` are, and changes nothing. Where
+        # one of these runs none the less, the lock on FILE itself keeps others away.
         if [ -n "$made_lock" ] && ! "$program" levels "$2" </dev/null >/dev/null 2>&1; then
             forget_lock
         fi
@@ -307,8 +312,13 @@ run() {
     if [ "$1" = check ] && [ -t 2 ]; then
         check_store "$@"
     fi
-    if [ "$1" = serve ] && [ -t 0 ]; then
-        echo "castle: serve reads frames from standard input, which is a terminal here; people use castle-shell" >&2
+    case $1 in
+        serve | lead) people=castle-shell ;;
+        follow) people="castle-replicate feed" ;;
+        *) people= ;;
+    esac
+    if [ -n "$people" ] && [ -t 0 ]; then
+        echo "castle: $1 reads frames from standard input, which is a terminal here; people use $people" >&2
     fi
     exec "$program" "$@"
 }

@@ -2,17 +2,20 @@
 """Tries the benches: that they notice a wrong answer, and print what they measured: `tests/bench.py [WORD..]` at the top."""
 
 import argparse
+import array
 import contextlib
+import gc
 import importlib.machinery
 import importlib.util
 import io
 import os
+import random
 import re
 import subprocess
 import sys
 
 import model
-from program import PROGRAM, TOP, StoreFile, Wrong, expect, run_checks
+from program import PROGRAM, TOP, Skipped, StoreFile, Wrong, expect, run_checks
 
 CASTLE, SQLITE = "castle", "SQLite"
 
@@ -39,11 +42,10 @@ def changed(owner, name, value):
         setattr(owner, name, before)
 
 
-def measured(folder, *words):
+def measured(folder, *words, looks=("--gets", "5", "--scans", "3", "--wholes", "2")):
     """Status, output and complaints of the bench over one small workload."""
     out, errors = io.StringIO(), io.StringIO()
-    given = ["run", "--counts", "40", "--gets", "5", "--scans", "3", "--wholes", "2", "--mem", "16", "--workloads", "chain",
-             "--disk", folder, "--memory", folder, *words]
+    given = ["run", "--counts", "40", *looks, "--mem", "16", "--workloads", "chain", "--disk", folder, "--memory", folder, *words]
     with changed(sys, "argv", given), contextlib.redirect_stdout(out), contextlib.redirect_stderr(errors):
         status = bench.main()
     return status, out.getvalue(), errors.getvalue()
@@ -97,6 +99,100 @@ def a_program_that_fails_behind_its_replies_is_noticed(folder):
     expect("its status", (status, out.count("|"), "the program ended with status 9" in errors), (1, 0, True))
 
 
+# A made-up program that answers as the model does, except that a statement is carried out before one reply to a change is sent
+ANSWERER = """\
+#!{python}
+import sys, time
+sys.path.insert(0, {tests!r})
+import model
+
+store = model.Store(16, 1000, 1000)
+place = -1  # of the change, behind a frame that asks for the counts
+while sys.argv[1] == "serve" and (head := sys.stdin.buffer.read(4)):
+    reply = store.answer(sys.stdin.buffer.read(int.from_bytes(head, "big")))
+    if place == {place}:
+        {statement}
+    sys.stdout.buffer.write(reply)
+    sys.stdout.buffer.flush()
+    place += 1
+"""
+
+
+def answerer(folder, place, statement):
+    """The program of the bench is such a one for a while."""
+    path = os.path.join(folder, "answerer")
+    with open(path, "w") as file:
+        file.write(ANSWERER.format(python=sys.executable, tests=str(TOP / "tests"), place=place, statement=statement))
+    os.chmod(path, 0o755)
+    return changed(bench, "PROGRAM", path)
+
+
+def a_wrong_answer_to_a_change_that_is_sent_alone_is_noticed(folder):
+    for place in (0, 39):
+        with answerer(folder, place, "reply = reply if sys.argv[2].endswith('bench.store') else reply[:8] + b'\\2' + reply[9:]"):
+            status, out, errors = measured(folder)
+        expect(f"change {place}", (status, out.count("|"), "sent one by one" in errors), (1, 0, True))
+
+
+def waited(folder, *words):
+    """The same of the waits for changes on a disk."""
+    return measured(folder, "--waits", "--memory", "", *words, looks=())
+
+
+# What may be wrong with a reply that is waited for
+WRONGS = [
+    ("another status", "reply = reply[:8] + b'\\2' + reply[9:]"),
+    ("another tag", "reply = reply[:7] + b'\\xff' + reply[8:]"),
+    ("a longer one", "reply = reply[:3] + bytes([reply[3] + 1]) + reply[4:] + b'x'"),
+    ("half of it, and the end", "sys.stdout.buffer.write(reply[:6]); break"),
+    ("none, and the end", "break"),
+    ("none", "reply = b''"),
+    ("two", "reply *= 2"),
+    ("one and a half", "reply += reply[:6]"),
+    ("two, and the second one late", "sys.stdout.buffer.write(reply); sys.stdout.buffer.flush(); time.sleep(0.1)"),
+]
+
+
+def a_reply_that_is_waited_for_has_to_be_there_and_right(folder):
+    with answerer(folder, None, "pass"):
+        expect("what is right", waited(folder)[0], 0)
+    for name, statement in WRONGS:
+        for place in (0, 39):
+            with answerer(folder, place, statement), changed(bench, "SILENCE", 1 if name == "none" else 60):
+                status, out, errors = waited(folder)
+            expect(f"{name}, change {place}", (status, out.count("|"), errors.count("bench: chain: ")), (1, 0, 1))
+
+
+def a_pipe_that_gives_something_else_back_is_noticed(folder):
+    alters = "import os\nwhile piece := os.read(0, 4096): os.write(1, piece[:-1] + b'x')"
+    for echo, said in ((["cat", "-u"], None), ([sys.executable, "-c", alters], "a pipe alone gave other frames back"),
+                       (["true"], "no whole reply came to a frame")):
+        with changed(bench, "ECHO", echo):
+            status, out, errors = waited(folder)
+        expect(f"{echo[0]}", (status, said is None or f"bench: chain: {said}" in errors), (1 if said else 0, True))
+
+
+def the_plain_stores_answers_are_waited_for_too(folder):
+    with changed(bench.PlainStore, "change", lambda store, change: True):
+        status, out, errors = waited(folder)
+    expect("its status", (status, out.count("|"), "the plain store" in errors), (1, 0, True))
+
+
+def a_wait_is_from_a_question_to_its_answer(folder):
+    """The clock of this test stands still except while questions are answered."""
+    now, collects = [1000], []
+
+    def ask(question):
+        now[0] += question
+        collects.append(gc.isenabled())
+        return -question
+
+    with changed(bench.time, "perf_counter_ns", lambda: now[0]):
+        waits, answers = bench.timed(ask, [3, 5, 900])
+    expect("waits and answers", (list(waits), answers), ([3, 5, 900], [-3, -5, -900]))
+    expect("garbage is collected meanwhile, and afterwards", (collects, gc.isenabled()), ([False] * 3, True))
+
+
 def the_clock_of_commands_starts_when_the_store_is_open(folder):
     """The clock of this test stands still, but while replies are waited for."""
     store, now = StoreFile(folder), [0.0]
@@ -138,10 +234,77 @@ TABLE = """\
 def a_table_shows_what_was_measured(folder):
     new = bench.Measured
     plain = new(change=1e-6, together=5e-7, get=2e-6, scan=3e-6, pair=4e-6, cursor=None, opening=5e-3, size=6, written=None)
-    rows = [(count, {CASTLE: (new(1e-3, 1e-4, 1, 1, 1, 1, 1, size, written), new(None, fast, get, 4e-4, 5e-7, 6e-7, opening, 1, 1)),
-                     SQLITE: (plain, None)})
+    rows = [(count, {CASTLE: bench.values_of(new(1e-3, 1e-4, 1, 1, 1, 1, 1, size, written),
+                                             new(None, fast, get, 4e-4, 5e-7, 6e-7, opening, 1, 1)),
+                     SQLITE: bench.values_of(plain, None)})
             for count, opening, size, written, fast, get in ((10, 7e-3, 8000, 90, 2e-5, 3e-5), (1000, 7e-2, 80_000_000, 9, 2e-4, 3e-3))]
-    expect("the table", "\n".join(bench.table("chain", rows)), TABLE.format(bench.chain.__doc__))
+    expect("the table", "\n".join(bench.table("chain", bench.COLUMNS, rows)), TABLE.format(bench.chain.__doc__))
+
+
+def percentiles_are_those_of_the_nearest_rank(folder):
+    waits = array.array("q", range(1, 2001))
+    random.Random(1).shuffle(waits)
+    expect("of 2,000", bench.values_of_waits(waits), (1000, 1980, 1998, 2000, 2, *[None] * 5))
+    expect("of 3", bench.values_of_waits(array.array("q", [9, 1, 4])), (4, 9, 9, 9, 9 / 4, *[None] * 5))
+    ten = list(range(1, 11))
+    ranks = [(1, 1), (100, 1), (101, 2), (500, 5), (501, 6), (900, 9), (901, 10), (1000, 10)]
+    expect("of 10", [bench.percentile(ten, thousandths) for thousandths, _ in ranks], [rank for _, rank in ranks])
+    expect("of one, and of none", (bench.percentile([7], 1), bench.percentile([], 500)), (7, None))
+
+
+def changes_that_empty_the_journal_are_told_apart(folder):
+    # with M 4 these are the changes 5 and 9, counted from 1
+    waits = array.array("q", [20, 10, 10, 10, 700, 10, 10, 10, 900, 30])
+    expect("two", bench.values_of_waits(waits, 4), (10, 900, 900, 900, 90, 2, 700, 900, 30, 3))
+    expect("what was given", list(waits), [20, 10, 10, 10, 700, 10, 10, 10, 900, 30])
+    expect("none", bench.values_of_waits(waits, 10), (10, 900, 900, 900, 90, 0, None, None, 900, 90))
+    expect("one, the last", bench.values_of_waits(waits, 9)[5:], (1, 30, 30, 900, 90))
+
+
+def a_table_shows_waits(folder):
+    waits = array.array("q", [2_000] * 10 + [1_234_567])
+    rows = [(11, {"castle, synced": bench.values_of_waits(waits, 10), "a pipe alone": bench.values_of_waits(waits[:10])})]
+    *_, castle, alone, end = bench.table("puts", bench.WAITS, rows)
+    expect("the rows", (castle, alone, end), (
+        "| 11 | castle, synced | 2.0 | 1,234.6 | 1,234.6 | 1,234.6 | 617.3 | 1 | 1,234.6 | 1,234.6 | 2.0 | 1.0 |",
+        "| 11 | a pipe alone | 2.0 | 2.0 | 2.0 | 2.0 | 1.0 |  |  |  |  |  |", ""))
+
+
+def the_waits_of_both_stores_and_a_pipe_are_told(folder):
+    ran = subprocess.run([sys.executable, str(TOP / "bench" / "run"), "--waits", "--counts", "40,80", "--mem", "16", "--workloads", "puts,star",
+                          "--disk", folder, "--memory", folder], capture_output=True, timeout=60, text=True)
+    expect("its status", (ran.returncode, ran.stderr.count("\n")), (0, 4))
+    rows = [line.strip("| ").split(" | ") for line in ran.stdout.splitlines() if re.match(r"\| [48]0 \|", line)]
+    stores = ["castle, synced", "SQLite, synced", "castle, in memory", "SQLite, in memory", "a pipe alone"]
+    expect("its rows", [row[:2] for row in rows], [[count, store] for count in ("40", "80") for store in stores] * 2)
+    for count, store, *cells in rows:
+        figures = [float(cell.replace(",", "")) for cell in cells if cell.strip(" |")]
+        expect(f"{store}, in order", figures[:4], sorted(figures[:4]))
+        emptied = [{"40": 2, "80": 4}[count]] if store.startswith("castle") else []
+        expect(f"{store}, its journal", (len(figures), figures[5:6]), (10 if emptied else 5, emptied))
+    expect("what is left behind", os.listdir(folder), [])
+
+
+def a_place_without_a_name_is_left_out(folder):
+    for words, filled in ((["--disk", ""], [False, False, True]), (["--memory", ""], [True, True, False])):
+        status, out, _ = measured(folder, *words)
+        rows = [row.split("|")[3:6] for row in out.splitlines() if row.startswith("| 40 |")]
+        expect(f"{words}", (status, [[bool(cell.strip()) for cell in row] for row in rows]), (0, [filled] * 2))
+    status, out, _ = waited(folder, "--disk", "", "--memory", folder)
+    expect("waits", (status, re.findall(r"^\| 40 \| ([\w, ]+) \|", out, re.M)), (0, ["castle, in memory", "SQLite, in memory", "a pipe alone"]))
+
+
+def wrong_words_of_the_bench_are_refused(folder):
+    for words in (["--gets", "5"], ["--wholes", "0"], ["--mem", "3"], ["--mem", "4097"], ["--counts", "9"], ["--counts", "x"],
+                  ["--counts", "16777217"], ["--workloads", "others"], ["--disk", ""], ["--disk", os.path.join(folder, "none")], ["--waits=5"]):
+        try:
+            waited(folder, *words)
+        except SystemExit as ended:
+            expect(f"{words}", ended.code, 2)
+        else:
+            raise Wrong(f"{words} are taken")
+    with changed(bench, "PROGRAM", os.path.join(folder, "none")):
+        expect("no program", waited(folder), (2, "", "bench: the program isn't built: run ./castle once\n"))
 
 
 def a_power_is_the_slope_of_logarithms(folder):
@@ -165,6 +328,16 @@ def the_wear_is_within_its_bounds(folder):
     expect("its status", (ran.returncode, ran.stderr.count(b"\n")), (0, 2))
     rows = re.findall(rb"^\| (100|2,000) \| ([\d.]+) \| (\d+) \| ([\d.]+) \| 2 \|", ran.stdout, re.MULTILINE)
     expect("its rows", rows, [(b"100", b"0.54", b"4", b"0.91"), (b"2,000", b"3.55", b"20", b"1.19")])
+
+
+def an_export_is_measured_beside_a_copy(folder):
+    ran = subprocess.run([sys.executable, str(TOP / "bench" / "export"), "--pairs", "100,3000", "--runs", "1", "--folder", folder],
+                         capture_output=True, timeout=60)
+    if b"has no word export yet" in ran.stderr:
+        raise Skipped("the program has no word export yet")
+    expect("its status", (ran.returncode, ran.stderr.count(b"\n")), (0, 2))
+    rows = re.findall(rb"^\| ([\d,]+) \| ([\d,]+) \|(?: \d+\.\d{3} \|){3}$", ran.stdout, re.MULTILINE)
+    expect("its rows", rows, [(b"100", b"6,900"), (b"3,000", b"207,000")])
 
 
 # bench/clones
@@ -261,12 +434,24 @@ CHECKS = [
     one_wrong_answer_is_noticed_wherever_it_comes,
     answers_that_are_missing_are_noticed,
     a_program_that_fails_behind_its_replies_is_noticed,
+    a_wrong_answer_to_a_change_that_is_sent_alone_is_noticed,
+    a_reply_that_is_waited_for_has_to_be_there_and_right,
+    a_pipe_that_gives_something_else_back_is_noticed,
+    the_plain_stores_answers_are_waited_for_too,
+    a_wait_is_from_a_question_to_its_answer,
     the_clock_of_commands_starts_when_the_store_is_open,
     replies_are_no_bytes_of_the_file,
     a_table_shows_what_was_measured,
+    percentiles_are_those_of_the_nearest_rank,
+    changes_that_empty_the_journal_are_told_apart,
+    a_table_shows_waits,
+    the_waits_of_both_stores_and_a_pipe_are_told,
+    a_place_without_a_name_is_left_out,
+    wrong_words_of_the_bench_are_refused,
     a_power_is_the_slope_of_logarithms,
     the_plain_store_makes_each_change_durable_too,
     the_wear_is_within_its_bounds,
+    an_export_is_measured_beside_a_copy,
     many_clones_are_measured_beside_other_stores,
     a_wrong_answer_over_clones_is_noticed,
     the_answers_over_clones_are_those_of_dictionaries,

@@ -32,10 +32,12 @@ CLAUSES = {
             r"length|len\b|[Cc]ount|used|entries|consumed|needed|Fills|PairsFor|Adds|≡ \[\]|\bmin\b|≤|0 <"),
     "used": ("how many blocks are in use afterwards", r"used_count"),
     "end": ("where a result or a position ends",
-            r"\b(at|end|place|places_ahead|steps_left|item|from|given|start)\b|End|length|\.1\b"),
+            r"\b(at|end|place|places_ahead|steps_\w+|item|from|given|start)\b|End|length|\.1\b"),
     "state": ("what an object is afterwards", r"\.new\b|\bstage\b"),
     "disk": ("what the device holds afterwards", r"\bdisk\.new\b"),
     "cursors": ("what became of the cursors", r"[Cc]ursors"),
+    "filter": ("what became of the filter of an array", r"[Ff]ilter"),
+    "filters": ("of which keys the filters of arrays are", r"[Ff]ilter"),
 }
 CLAUSES_MOST = 12  # of one function
 

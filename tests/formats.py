@@ -43,10 +43,6 @@ class Damaged(Exception):
         self.block = block
 
 
-class NoRoom(Exception):
-    """A file whose journal has more changes than one region takes, which the program has no memory for."""
-
-
 def region_blocks(mem):
     return -(-(RECORD_MAX * mem + 1) // BLOCK)
 
@@ -296,8 +292,7 @@ def journal_in(data, head):
         later = region_in(data, head.mem, 1 - head.region, head.mem - 1)
         if len(later) == head.mem - 1:
             raise Damaged(region_start(head.mem, 1 - head.region), "both regions have too many changes")
-        if later:
-            raise NoRoom
+        logged += later
     return logged
 
 
@@ -451,8 +446,6 @@ def opened(data):
         return model.ENDED, store_of(data, contents)
     except Damaged:
         return model.DAMAGED, None
-    except NoRoom:
-        return model.NO_MEMORY, None
 
 
 # What the job `levels` prints
@@ -510,8 +503,6 @@ def levels_printed(data):
         return "".join(f"{line}\n" for line in levels_text(contents)).encode(), model.ENDED
     except Damaged as damaged:
         return b"damaged block %d\n" % damaged.block, model.DAMAGED
-    except NoRoom:
-        return b"", model.NO_MEMORY
 
 
 # Writing a file

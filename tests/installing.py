@@ -13,7 +13,7 @@ import subprocess
 import sys
 
 from launching import NOT_BUILT, REFUSED, Terminal, castle, expect_files, expect_refused, launch, served
-from model import Store
+from model import Store, put
 from program import DEADLINE, TOP, Skipped, StoreFile, bytes_of, complaint, expect, run_checks
 
 INSTALL = str(TOP / "install")
@@ -81,6 +81,8 @@ def an_installed_castle_refuses_and_locks_as_the_checkout_does(folder):
 def an_installed_shell_finds_client_and_program(folder):
     prefix, run = installed(folder)
     run("castle", "format", "a.store", "64", "100", "10")
+    got = run("castle-replicate", "commands", input=b"put a 1\n")
+    expect("commands as frames", got, (put(1, b"a", b"1"), 0, b""))
     got = run("castle-shell", "a.store", input=b"put a 1\nget a\n")
     expect("a script", got, (b"done\n1\n", 0, b""))
     elsewhere = {"cwd": folder, "env": {"PATH": os.environ["PATH"], "HOME": folder}}
@@ -211,6 +213,8 @@ def the_client_is_a_package_without_a_registry(folder):
         expect(f"from the {name}, the shell", usage.split()[:2], ["usage:", "castle-shell"])
         usage = python(os.path.join(target, "bin", "castle-hub"), "--help")
         expect(f"from the {name}, the hub", usage.split()[:2], ["usage:", "castle-hub"])
+        usage = python(os.path.join(target, "bin", "castle-replicate"), "--help")
+        expect(f"from the {name}, what feeds followers", usage.split()[:2], ["usage:", "castle-replicate"])
         del environment["PYTHONPATH"]
     pip_install("--prefix", os.path.join(folder, "editable"), "--ignore-installed", "--editable", source)
     site = next(pathlib.Path(folder, "editable").rglob("castle.pth")).parent
@@ -259,17 +263,19 @@ def bash_completes_words_and_files(folder):
     for name in ("a b.store", "a.store", "other"):
         with open(os.path.join(folder, name), "w"):
             pass
-    every = {"format", "serve", "levels", "check", "workload", "--overwrite", "--build", "--help", "--version"}
+    every = {"format", "serve", "levels", "check", "workload", "lead", "follow", "export", "--overwrite", "--build", "--help", "--version"}
     for words, wanted in (
-        (["castle", ""], every), (["./castle", "--"], {word for word in every if word.startswith("--")}), (["castle", "f"], {"format"}),
+        (["castle", ""], every), (["./castle", "--"], {word for word in every if word.startswith("--")}), (["castle", "f"], {"format", "follow"}),
         (["castle", "--overwrite", ""], {"format", "workload"}), (["castle", "--overwrite", "w"], {"workload"}),
         (["castle", "serve", "a"], {"a b.store", "a.store"}), (["castle", "--overwrite", "format", "o"], {"other"}),
         (["castle", "format", "a.store", ""], set()), (["castle-shell", "a"], {"a b.store", "a.store"}),
-        (["castle-shell", "--"], {"--json", "--keep-going", "--help", "--version"}), (["castle-shell", "a.store", "ex"], {"exists"}),
+        (["castle-shell", "--"], {"--json", "--keep-going", "--help", "--version"}), (["castle-shell", "a.store", "exi"], {"exists"}),
         (["castle-shell", "--json", "a"], {"a b.store", "a.store"}), (["castle-shell", "--json", "a.store", "sc"], {"scan"}),
         (["castle-shell", "a.store", "-c", "ge"], set()), (["castle-shell", "a.store", "diff", "0", "1", "--st"], {"--stat"}),
         (["castle-shell", "a.store", "load", "--csv", "o"], {"other"}),
         (["castle-hub", "-"], {"--mode", "--clients", "--help", "--version"}), (["castle-hub", "a.store", "o"], {"other"}),
+        (["castle-replicate", "re"], {"record", "read"}), (["castle-replicate", "show", "r"], {"receipts"}),
+        (["castle-replicate", "feed", "o"], {"other"}), (["castle-replicate", "feed", "--u"], {"--until"}),
     ):
         expect(f"{words}", bash_offers(folder, *words), wanted)
 
@@ -284,7 +290,7 @@ def zsh_completes_words_and_files(folder):
         run.type(f"PS1='> '; fpath=('{TOP}/completion' $fpath); autoload -U compinit; compinit -u -D; castle() print -r '<'$*'>'; "
                  "castle-shell() print -r '<shell '$*'>'; print rea''dy\r".encode())
         run.read_until(b"ready")
-        for typed, wanted in ((b"castle f\ta\t4\r", b"<format a.store 4>"), (b"castle --ver\t\r", b"<--version>"),
+        for typed, wanted in ((b"castle for\ta\t4\r", b"<format a.store 4>"), (b"castle --ver\t\r", b"<--version>"),
                               (b"castle --overwrite w\tb\t1\r", b"<--overwrite workload b.store 1>"),
                               (b"castle-shell b\t\r", b"<shell b.store>"), (b"castle-shell --ver\t\r", b"<shell --version>"),
                               (b"castle-shell b\t exi\tk\r", b"<shell b.store exists k>")):

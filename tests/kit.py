@@ -7,6 +7,19 @@ import shutil
 import sys
 
 
+def stamped_once(crate):
+    """Has a crate's stamp, the sum of all sources that it is made from, be computed once a run. Some kits compute those of
+    the crates below anew for each way down to them, which takes minutes where there are many."""
+    plain = crate.stamp
+
+    def stamp(self):
+        if not hasattr(self, "stamp_once"):
+            self.stamp_once = plain(self)
+        return self.stamp_once
+
+    crate.stamp = stamp
+
+
 def rt_as_library():
     path = shutil.which("rt")
     if not path:
@@ -17,4 +30,5 @@ def rt_as_library():
     given, sys.argv = sys.argv, ["rt"]
     loader.exec_module(module)
     sys.argv = given
+    stamped_once(module.rtlib.Crate)
     return module

@@ -100,8 +100,8 @@ def served(path, launcher=LAUNCHER, **how):
 
 
 def expect_refused(name, path, why, **how):
-    """No subcommand that changes a file gets at this one, not even to overwrite it."""
-    for words in (["serve", path], *(["--overwrite", word, path, *limits] for word, limits in MAKING.items())):
+    """No subcommand that opens a file for itself gets at this one, not even to overwrite it."""
+    for words in (["serve", path], ["lead", path], ["follow", path], ["export", path, "0"], *(["--overwrite", word, path, *limits] for word, limits in MAKING.items())):
         expect(f"{name}, {words}", launch(words, **how), (b"", REFUSED, f"castle: {path}: the store is open already{why}\n".encode()))
 
 

@@ -7,7 +7,7 @@ import ratchet
 
 README = "# low\n\n" + "".join(f"## {heading}\n\nx\n\n" for heading in ("Proved", "Premises", "Only tested", "Limits"))
 RIGHT = {
-    "crates.txt": "# a comment: of no crate\nlow:\nlaws:\ncastle: low laws\nlow_tests: low\n",
+    "crates.txt": "# a comment: of no crate\nlow:\nlaws: low\nlow_tests: low\ncastle: low laws low_tests\n",
     "crates/low/README.md": README,
     "crates/laws/README.md": README,
     "crates/castle/README.md": README,

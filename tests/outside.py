@@ -13,13 +13,13 @@ The checks stand in `tests/checks/`, one subject a file; what several subjects n
 import sys
 
 from checks import (
-    arguments, batches, calls, checking, commands, crashes, cursors, damage, endings, faults, files, frames, levels, manifests, power,
-    stops, streams, syncs, workload)
+    arguments, batches, calls, checking, commands, crashes, cursors, damage, endings, exports, faults, files,
+    filters, following, frames, levels, manifests, power, stops, streams, syncs, workload)
 from program import run_checks
 
 SUBJECTS = [
-    frames, commands, cursors, arguments, streams, files, levels, workload, damage, manifests, checking, crashes, batches, stops, power,
-    faults, calls, syncs, endings]
+    frames, commands, cursors, arguments, streams, files, levels, filters, workload, damage, manifests, checking, crashes,
+    batches, stops, power, faults, calls, syncs, endings, following, exports]
 CHECKS = [check for subject in SUBJECTS for check in subject.CHECKS]
 
 if __name__ == "__main__":

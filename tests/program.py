@@ -7,6 +7,7 @@ import hashlib
 import itertools
 import os
 import pathlib
+import re
 import subprocess
 import sys
 import tempfile
@@ -26,7 +27,8 @@ PROGRAM = str(TOP / "crates" / "castle" / "out" / "castle")
 DEADLINE = 20  # seconds that a run may take, but one of thousands of puts
 
 TEXTS = {
-    1: "usage: castle format FILE M C V, serve FILE, levels FILE, check FILE, workload FILE SEED COUNT",
+    1: "usage: castle format FILE M C V, serve FILE, levels FILE, check FILE, workload FILE SEED COUNT, "
+       "lead FILE, follow FILE, export FILE VERSION",
     2: "not a store",
     3: "frame too long",
     4: "truncated input",
@@ -36,6 +38,7 @@ TEXTS = {
     8: "no memory",
     9: "damaged",
     11: "unsound",
+    12: "unknown version",
 }
 
 
@@ -94,6 +97,12 @@ PIPES = {"stdin": subprocess.PIPE, "stdout": subprocess.PIPE, "stderr": subproce
 
 def start(path, program=PROGRAM):
     return subprocess.Popen([program, "serve", path], **PIPES)
+
+
+def memory_of(child):
+    """Most bytes of memory that a run has had so far."""
+    status = pathlib.Path(f"/proc/{child.pid}/status").read_text()
+    return int(re.search(r"^VmHWM:\s+(\d+) kB$", status, re.M)[1]) * 1024
 
 
 def close(child):

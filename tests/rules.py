@@ -107,6 +107,4 @@ def checked(data):
         found = breaches(data, contents)
     except formats.Damaged as damaged:
         return b"damaged block %d\n" % damaged.block, model.DAMAGED
-    except formats.NoRoom:
-        return b"", model.NO_MEMORY
     return line_of(found), UNSOUND if found else model.ENDED

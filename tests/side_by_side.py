@@ -70,7 +70,9 @@ def main():
     # no thread may run yet when the kit sets its handlers
     rt.rtlib.guarded()
     signal.signal(signal.SIGINT, signal.SIG_DFL)
-    rt.share_work(True)
+    # some kits keep what one checkout proved for the next
+    if hasattr(rt, "share_work"):
+        rt.share_work(True)
     crates = [crate for crate in rt.rtlib.crates_below(os.getcwd()) if crate.makes_rlib()]
     held = rt.rtlib.lock(crates)
     left = [crate for crate in crates if not crate.is_built()]

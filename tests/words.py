@@ -195,6 +195,10 @@ class Tree:
     def specs(self):
         return self.files("crates/*/specs/**/*.antt")
 
+    def sources_of(self, crate):
+        """Each file that a crate is made of."""
+        return [name for part in ("src/**/*.rt", "specs/**/*.antt", "proofs/**/*.antt") for name in self.files(f"crates/{crate}/{part}")]
+
     def all_code(self):
         """Each file of code, of definitions, of proofs and of tests, in whatever language."""
         patterns = ("crates/*/proofs/**/*.antt", "tests/**/*", "clients/python/**/*.py", "examples/*.py", "bench/*", "launcher/*", "castle*", "install")
@@ -412,6 +416,25 @@ def crates_are_in_the_architecture(tree):
             yield document, 1, f"it doesn't name {crate}"
 
 
+def crates_list_what_they_name(tree):
+    """A line of crates.txt has the crates that the sources of its crate name, and no others: rt goes each way down from a
+    crate, and some kits sum up the sources anew on each. A line of tests has all below it, since a test may use an impl of
+    a crate that it does not name, and so has that of castle, whose launcher looks there for what the program is made of."""
+    listed = {}
+    for line, text in enumerate(tree.text("crates.txt").splitlines(), 1):
+        crate, _, rest = text.partition(":")
+        if crate in tree.crates:
+            listed[crate] = line, {it for it in rest.split() if it in tree.crates}
+    below = {}
+    for crate, (line, has) in listed.items():
+        texts = (re.sub(r"--.*", "", tree.code(name)) for name in tree.sources_of(crate))
+        named = {it for text in texts for it in re.findall(r"\w+", text) if it in listed} - {crate}
+        below[crate] = named.union(*(below.get(it, set()) for it in named))
+        wanted = below[crate] if crate == "castle" or crate.endswith("_tests") else named
+        for it in sorted(has ^ wanted):
+            yield "crates.txt", line, f"{crate} {'lacks' if it in wanted else 'does not name'} {it}"
+
+
 LISTED = re.compile(r"^CHECKS = \[\n(.*?)^\]", re.M | re.S)
 
 
@@ -493,6 +516,7 @@ RULES = [
     refusals_are_documented,
     crates_have_readmes,
     crates_are_in_the_architecture,
+    crates_list_what_they_name,
     checks_are_run,
     regressions_name_what_notices_them,
     *clauses.RULES,
@@ -548,6 +572,9 @@ FAULTS = [
     ("crates/low_tests/README.md", "# low_tests\n", "x\n" * 61, 61, crates_have_readmes),
     ("crates/low_tests/README.md", "# low_tests\n", "", 1, crates_have_readmes),
     ("docs/ARCHITECTURE.md", "castle, low, laws", "castle, low, lower", 1, crates_are_in_the_architecture),
+    ("crates.txt", "laws: low", "laws:", 3, crates_list_what_they_name),
+    ("crates.txt", "low_tests: low", "low_tests: low laws", 4, crates_list_what_they_name),
+    ("crates.txt", "castle: low laws", "castle: laws", 5, crates_list_what_they_name),
     ("README.md", "`The image", "`A`" + " word" * 25 + "\n`image", 5, prose.sentences_are_short),
     ("README.md", "that goes on.", "ends. It" + " goes" * 30 + " on.", 12, prose.sentences_are_short),
     ("README.md", "by the gate.", "by the gate. It" + " goes" * 30 + ".", 6, prose.sentences_are_short),

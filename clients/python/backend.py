@@ -11,10 +11,10 @@ import zipfile
 
 HERE = pathlib.Path(__file__).resolve().parent
 PROJECT = dict(re.findall(r'^([\w-]+) = "(.*)"$', (HERE / "pyproject.toml").read_text(encoding="utf-8"), re.M))
-SCRIPTS = "castle-shell", "castle-hub"
+SCRIPTS = "castle-shell", "castle-hub", "castle-replicate"
 NAME = f"{PROJECT['name']}-{PROJECT['version']}"
 METADATA = (f"Metadata-Version: 2.1\nName: {PROJECT['name']}\nVersion: {PROJECT['version']}\nSummary: {PROJECT['description']}\n"
-            f"Requires-Python: {PROJECT['requires-python']}\nDescription-Content-Type: text/markdown\n\n"
+            f"Requires-Python: {PROJECT['requires-python']}\nProvides-Extra: redis\nRequires-Dist: redis; extra == 'redis'\nDescription-Content-Type: text/markdown\n\n"
             + (HERE / PROJECT["readme"]).read_text(encoding="utf-8"))
 PACKAGE = {f"castle/{path.name}": path.read_bytes() for path in sorted((HERE / "castle").iterdir()) if path.suffix in (".py", ".typed")}
 

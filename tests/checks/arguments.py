@@ -23,6 +23,8 @@ WRONG_WORDS = [
     [b"workload", b"f", b"1", b"0", b"0"], [b"workload", b"f", b"01", b"0"], [b"workload", b"f", b"1", b"00"],
     [b"workload", b"f", b"-1", b"0"], [b"workload", b"f", b"1", b"+5"], [b"workload", b"f", b"", b"0"],
     [b"workload", b"f", b"18446744073709551616", b"0"], [b"workload", b"f", b"1", b"1000001"],
+    [b"export"], [b"export", b"f"], [b"export", b"", b"1"], [b"export", b"f", b"01"], [b"export", b"f", b"-1"],
+    [b"export", b"f", b"4294967296"], [b"export", b"f", b""], [b"export", b"f", b"1", b"1"], [b"Export", b"f", b"1"],
 ]
 
 

@@ -136,7 +136,8 @@ def help_version_and_usage_need_no_build(folder):
     for word in ("--help", "-h"):
         out, status, said = made.launch([word], cwd=inner)
         expect(f"{word}, status", (status, said), (0, b""))
-        for told in ("format FILE M C V", "serve FILE", "levels FILE", "check FILE", "workload FILE SEED COUNT", "--overwrite", f"{made.top}:"):
+        for told in ("format FILE M C V", "serve FILE", "levels FILE", "check FILE", "workload FILE SEED COUNT", "lead FILE", "follow FILE",
+                     "export FILE VERSION", "--overwrite", f"{made.top}:"):
             expect(f"whether {word} says {told}", told in out.decode(), True)
     kit = re.search(r"^Proved with `(.*)`\.$", (TOP / "README.md").read_text(), re.M)[1]
     expect("--version", made.launch(["--version"], cwd=inner), (f"castle {castle.__version__}\nproved with {kit}\n".encode(), 0, b""))

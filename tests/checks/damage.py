@@ -6,7 +6,7 @@ import struct
 import formats
 import model
 from model import BLOCK, close_cursor, get, info, next_pairs, open_cursor, put, reply, scan, stat, tag_of
-from program import GET_A, PUT_A, StoreFile, Talk, bytes_of, complaint, expect, expect_opened, read_exactly, serve
+from program import GET_A, PUT_A, StoreFile, Talk, bytes_of, complaint, expect, expect_opened, expect_said, read_exactly, serve
 from samples import DISTINCT, PUBLISHED, altered, store_after
 
 
@@ -117,8 +117,6 @@ def blamed(data):
         formats.store_of(data, formats.read(data))
     except formats.Damaged as damaged:
         return damaged.block
-    except formats.NoRoom:
-        pass
     return None
 
 
@@ -148,11 +146,16 @@ def altered_bytes_are_named(folder):
         status = expect_opened(name, path, wrong)
         expect(name, (status, blamed(wrong)), (0 if block is None else model.DAMAGED, block))
     # a journal that goes on in the other region, by one change or two, and by one too many
-    for many, ends in ((1, (model.NO_MEMORY, None)), (2, (model.NO_MEMORY, None)), (3, (model.DAMAGED, 4))):
+    for many, ends in ((1, (model.ENDED, None)), (2, (model.ENDED, None)), (3, (model.DAMAGED, 4))):
         records = many * formats.record_of((formats.PUT, 0, b"a", b"1"))
         wrong = used[:16384] + records + b"\0" + used[16385 + len(records):]
         name = f"a journal with {many} behind a full region"
         expect(name, (expect_opened(name, path, wrong), blamed(wrong)), ends)
+        if ends[0] == model.ENDED:
+            sent, (_, store) = put(9, b"z", b"9"), formats.opened(wrong)
+            out, status = store.serve(sent)
+            expect(f"{name}, and a put", serve(path, [sent]), (out, status, complaint(status)))
+            expect_said(f"{name}, and a put", bytes_of(path), store)
     # the other region open behind one with room is shut
     altered(stores[1].path, 16384, b"\xa7")
     stores[1].expect_served("a look", [GET_A])

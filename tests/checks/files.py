@@ -1,9 +1,7 @@
 """Files of stores: made, run again, filled, reached by links, and what is no file; and the memory that a run takes."""
 
 import os
-import pathlib
 import random
-import re
 import struct
 import threading
 
@@ -11,8 +9,8 @@ import formats
 import model
 from model import Store, get, put, reply, stat
 from program import (
-    DEADLINE, GET_A, PUT_A, Skipped, StoreFile, Wrong, bytes_of, close, complaint, expect, hexed, read_exactly, run, send, serve,
-    start)
+    DEADLINE, GET_A, PUT_A, Skipped, StoreFile, Wrong, bytes_of, close, complaint, expect, hexed, memory_of, read_exactly, run, send,
+    serve, start)
 from samples import folders_of
 
 
@@ -80,8 +78,7 @@ def peak_of(path, data, replies):
     try:
         for _ in range(replies):
             read_exactly(child.stdout, int.from_bytes(read_exactly(child.stdout, 4), "big"))
-        status = pathlib.Path(f"/proc/{child.pid}/status").read_text()
-        return int(re.search(r"^VmHWM:\s+(\d+) kB$", status, re.M)[1]) * 1024
+        return memory_of(child)
     finally:
         guard.cancel()
         child.kill()

@@ -15,7 +15,11 @@ from program import DEADLINE, GET_A, LAUNCHER, PUT_A, StoreFile, bytes_of, compl
 def the_launcher_passes_words_input_and_status_on(folder):
     for data in (PUT_A + GET_A, hexed("00000801"), PUT_A[:-1]):
         StoreFile(folder).expect_served("through the launcher", [data], program=LAUNCHER)
-    path = StoreFile(folder).path
+    store = StoreFile(folder)
+    path = store.path
+    store.expect_served("a put", [PUT_A], program=LAUNCHER)
+    expect("export", launch(["export", path, "0"]), (put(1, b"a", b"1"), 0, b""))
+    expect("export of no version", launch(["export", path, "1"]), (b"", 12, complaint(12)))
     expect("levels", launch(["levels", path]), (*formats.levels_printed(bytes_of(path)), b""))
     with open(path, "r+b") as file:
         file.seek(44 * BLOCK)  # docs/FORMATS.md: the manifest of a new store with M 64
@@ -137,10 +141,20 @@ def names_stay_where_no_store_was_made(folder):
 
 
 def serve_says_at_a_terminal_what_it_waits_for(folder):
+    expect_said_at_a_terminal(folder, "serve", "castle-shell")
+
+
+def lead_and_follow_say_at_a_terminal_what_they_wait_for(folder):
+    expect_said_at_a_terminal(folder, "lead", "castle-shell")
+    expect_said_at_a_terminal(folder, "follow", "castle-replicate feed")
+
+
+def expect_said_at_a_terminal(folder, word, people):
+    """A run of this word tells at a terminal that frames are waited for, and what people use in its place."""
     path = StoreFile(folder).path
-    said = "castle: serve reads frames from standard input, which is a terminal here; people use castle-shell\n"
-    with Terminal([LAUNCHER, "serve", path]) as run:
-        run.read_until(b"people use castle-shell\r\n")
+    said = f"castle: {word} reads frames from standard input, which is a terminal here; people use {people}\n"
+    with Terminal([LAUNCHER, word, path]) as run:
+        run.read_until(f"people use {people}\r\n".encode())
         run.type(b"\x04")
         expect("what it says, at its end", run.end(), (0, said.encode(), []))
 
@@ -229,6 +243,7 @@ CHECKS = [
     what_a_file_holds_is_not_overwritten_unasked,
     names_stay_where_no_store_was_made,
     serve_says_at_a_terminal_what_it_waits_for,
+    lead_and_follow_say_at_a_terminal_what_they_wait_for,
     a_workload_that_fails_at_a_terminal_tells_its_status,
     a_workload_is_ended_with_its_launcher,
 ]

@@ -114,8 +114,9 @@ def a_lock_file_that_was_made_for_no_store_is_taken_away(folder):
         file.seek(44 * BLOCK)  # docs/FORMATS.md: the manifest of a new store with M 64
         file.write(b"\xff" * BLOCK)
     os.link(store.path, linked)
-    tries = [(["serve", slot], 2, None), (["serve", damaged.path], 9, None), (["format", small, "4", "100", "10"], 5, 5000),
-             (["--overwrite", "workload", small, "1", "10"], 5, 5000), (["serve", linked], REFUSED, None)]
+    tries = [(["serve", slot], 2, None), (["export", slot, "0"], 2, None), (["serve", damaged.path], 9, None),
+             (["format", small, "4", "100", "10"], 5, 5000), (["--overwrite", "workload", small, "1", "10"], 5, 5000),
+             (["serve", linked], REFUSED, None), (["export", linked, "0"], REFUSED, None)]
     with served(store.path):
         for had in (False, True):  # one that was there before stays
             for words, status, most in tries:
@@ -169,6 +170,31 @@ def a_check_and_a_run_lock_each_other_out(folder):
             expect(f"serve of a store that is checked, {tools}", launch(["serve", made.store], made.launcher, **how), (b"", REFUSED, said))
             expect("beside it", sorted(os.listdir(made.top)), sorted(there))
         wait_for("checks that have ended give up their locks", lambda: not is_locked(made.store))
+
+
+def leaders_followers_and_exports_lock_a_store_as_a_run_that_serves_does(folder):
+    made = Checkout(folder)
+    made.write("program", '#!/bin/sh\n[ "$1" != levels ] || exit 0\necho "$@"\ncat "$TOP/gate"\n')
+    made.build()
+    os.mkfifo(os.path.join(made.top, "gate"))
+    how = {"env": made.environment()}
+    jobs = [[word, made.store] for word in ("serve", "lead", "follow")] + [["export", made.store, "4294967295"]]
+    for words in jobs:
+        with running(made.start(words)) as child:
+            said = f"{' '.join(words)}\n".encode()
+            expect(f"{words}, the words", read_exactly(child.stdout, len(said)), said)
+            for others in jobs:
+                got = launch(others, made.launcher, **how)
+                expect(f"{others} beside {words}", got[:2], (b"", REFUSED))
+                expect(f"{others} beside {words}, why", got[2].startswith(f"castle: {made.store}: the store is open already".encode()), True)
+        wait_for("the run gives up its locks", lambda: not is_locked(made.store))
+    for words in (["lead"], ["follow", made.store, "1"], ["export", made.store], ["export", made.store, "01"], ["export", made.store, "4294967296"],
+                  ["--overwrite", "lead", made.store]):
+        expect(f"{words}", launch(words, made.launcher, **how)[:2], (b"", 1))
+    for words in jobs:
+        absent = [words[0], f"{made.store}.absent", *words[2:]]
+        expect(f"{absent}", launch(absent, made.launcher, **how)[:2], (b"", 2))
+    expect("no file is made", os.path.exists(f"{made.store}.absent"), False)
 
 
 @contextlib.contextmanager
@@ -260,6 +286,7 @@ CHECKS = [
     a_lock_file_that_was_made_for_no_store_is_taken_away,
     the_client_and_the_launcher_lock_each_other_out,
     a_check_and_a_run_lock_each_other_out,
+    leaders_followers_and_exports_lock_a_store_as_a_run_that_serves_does,
     a_caller_that_has_the_locks_hands_them_on,
     locks_that_the_caller_has_not_are_taken,
     a_build_keeps_the_locks_of_the_caller,

@@ -11,20 +11,23 @@
 docs/CLIENT.md goes through all of it.
 """
 
-from .backup import Counts
 from .batch import Batch
 from .branches import Snapshot
 from .errors import CastleError, Ended, Refused
+from .exporting import Imported, export
 from .frames import Info, Page, Stat
 from .levels import Array, Level, Levels
 from .merge import Merge, ThreeWay
 from .names import Name, Names
+from .rescue import backup, salvage
+from .salvaging import Lost, Salvage
 from .scan import Difference, Differences, Scan
 from .store import Store
+from .storetext import Counts
 from .verdict import Damaged, Sound, Unsound, Verdict
 from .view import VersionView
 
-__all__ = ["Array", "Batch", "CastleError", "Counts", "Damaged", "Difference", "Differences", "Ended", "Info", "Level", "Levels",
-           "Merge", "Name", "Names", "Page", "Refused", "Scan", "Snapshot", "Sound", "Stat", "Store", "ThreeWay", "Unsound", "Verdict",
-           "VersionView"]
+__all__ = ["Array", "Batch", "CastleError", "Counts", "Damaged", "Difference", "Differences", "Ended", "Imported", "Info", "Level", "Levels",
+           "Lost", "Merge", "Name", "Names", "Page", "Refused", "Salvage", "Scan", "Snapshot", "Sound", "Stat", "Store", "ThreeWay",
+           "Unsound", "Verdict", "VersionView", "backup", "export", "salvage"]
 __version__ = "0.1.0"

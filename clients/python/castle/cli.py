@@ -8,7 +8,7 @@ import sys
 import warnings
 from typing import List, NamedTuple, Optional
 
-from . import __version__, completion, terminal, verdict
+from . import __version__, completion, keeping, terminal, verdict
 from .errors import CastleError, NamesWarning
 from .paging import paged
 from .shell import ABSENT, COMMANDS, FAILED, SINGLE_FAILED, Shell
@@ -27,8 +27,9 @@ with a prompt, and else as a script.
   -h, --help    shows this; `castle-shell FILE help` lists the commands
   --version     shows the version
 
-Exit status of one command: 0, or 1 where `get` or `exists` finds no value or `check` a store that is not sound, 2 where
-it failed. Of a script: 0, or 1 where a line failed. Of both: 2 for wrong arguments, 130 after Ctrl-C.
+Exit status of one command: 0, or 1 where `get` or `exists` finds no value, `check` a store that is not sound, or
+`salvage` lost something, 2 where it failed, 3 where nothing can be salvaged. Of a script: 0, or 1 where a line failed. Of
+both: 2 for wrong arguments, 130 after Ctrl-C.
 `castle format FILE 64 100000 100` makes a store.
 """
 
@@ -99,6 +100,9 @@ def carry_out(arguments: Arguments) -> int:
     try:
         if arguments.command == ["check"]:
             return checked(arguments)
+        if arguments.command and arguments.command[0] in keeping.DEEDS:
+            name = arguments.command[0]
+            return keeping.alone(COMMANDS[name], arguments.file, arguments.command, arguments.json)
         with opened(arguments.file) as store:
             shell = Shell(store, sys.stdout, arguments.json, arguments.keeps_going)
             shell.has_input = bool(arguments.command or arguments.lines)

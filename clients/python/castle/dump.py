@@ -66,11 +66,11 @@ def pair_of(written: str, rest: str, number: int, file: str) -> Pair:
     return checked(key, value, number, file)
 
 
-def checked(key: bytes, value: bytes, number: int, file: str) -> Pair:
-    """The pair of the line of this number, if a store takes it."""
+def checked(key: bytes, value: bytes, number: int, file: str, place: str = "line") -> Pair:
+    """The pair of the line of this number, or of another place, if a store takes it."""
     if not 1 <= len(key) <= KEY_MAX:
-        raise DumpFault(f"line {number} has a key of {len(key)} bytes", KeySize.remedy, file=file)
+        raise DumpFault(f"{place} {number} has a key of {len(key)} bytes", KeySize.remedy, file=file)
     if len(value) > VALUE_MAX:
-        raise DumpFault(f"line {number} has a value of {len(value):,} bytes, above {VALUE_MAX:,}", ValueSize.remedy,
+        raise DumpFault(f"{place} {number} has a value of {len(value):,} bytes, above {VALUE_MAX:,}", ValueSize.remedy,
                         file=file)
     return key, value

@@ -196,7 +196,8 @@ class Ended(CastleError):
 
 class WrongUsage(Ended):
     status = 1
-    text = "usage: castle format FILE M C V, serve FILE, levels FILE, check FILE, workload FILE SEED COUNT"
+    text = ("usage: castle format FILE M C V, serve FILE, levels FILE, check FILE, workload FILE SEED COUNT, "
+            "lead FILE, follow FILE, export FILE VERSION")
     what = "the program refused its arguments, and touched no file"
     remedy = "M is 4 to 4096, C is 1 to 16777216, V is 1 to 16384; the path has to be UTF-8."
 
@@ -276,6 +277,15 @@ class Unsound(Ended):
     text = "unsound"
     what = "the file breaks a rule of a sound store"
     remedy = "Restore a copy of the file."
+
+
+class NoSuchVersion(Ended):
+    """Of an export. A command of an open store is refused as `UnknownVersion`."""
+
+    status = 12
+    text = "unknown version"
+    what = "the store has no version of this number, and nothing was written"
+    remedy = "Use 0 or a number that a clone gave; `levels` tells how many versions there are."
 
 
 class LauncherRefused(Ended):
@@ -468,10 +478,100 @@ class NotFresh(CastleError):
 
 
 class NotSound(CastleError):
-    """A script's line `check` found that its store is not sound."""
+    """A script's line `check` found that its store is not sound, or a backup that its copy is not."""
 
     what = "the store's file is not sound"
     remedy = "`castle-shell FILE check` says what fails, and what to do."
+
+
+class Unreadable(CastleError):
+    """Nothing can be salvaged: the program opens no store that has such a superblock, journal or manifest."""
+
+    what = "nothing can be read"
+    remedy = "Restore a copy of the file. Keep the file as it is, and look for the cause."
+
+
+class Doubtful(CastleError):
+    """A salvage of a file that breaks a rule of a sound store. Nothing was made."""
+
+    what = "the file breaks a rule of a sound store"
+    remedy = "Any pair may be wrong, so restore a copy that is sound. If there is none, --doubtful salvages what the file shows."
+
+
+class SomethingLost(CastleError):
+    """A script's line `salvage` made a new store, and something is lost or in doubt."""
+
+    what = "something is lost or in doubt; the new store has the rest"
+    remedy = "The lines before this one say what."
+
+
+class SomethingRefused(CastleError):
+    """A script's line `import` put its pairs but for some that were refused."""
+
+    what = "some pairs were refused; the others were put"
+    remedy = "The lines before this one say which, and why."
+
+
+class LogFault(CastleError):
+    """A log of changes that can't be read or added to. Nothing was changed."""
+
+
+class LogMissing(LogFault):
+    """There is no log of changes there."""
+
+    what = "there is no log of changes"
+    remedy = "Look at the place. `castle lead FILE | castle-replicate record LOG` makes one."
+
+
+class LogLocked(LogFault):
+    """Another process adds to the log of changes."""
+
+    what = "another process adds to the log"
+    remedy = "One leader has one log: end the other one first."
+
+
+class LogGap(LogFault):
+    """Changes are missing. `wanted` is the number of the first one, and `found` that of the first one that is there."""
+
+    remedy = "Make the copy anew from a copy of the leader's file, and go on from its number."
+    wanted = 0
+    found = 0
+
+
+class LogForked(LogFault):
+    """A change is there already under its number, and is another one. Two stores were changed that were one."""
+
+    remedy = "The leader's file is not the one that the log is of. Begin a new log, and make the copies anew from that file."
+    number = 0
+
+
+class FollowerRefused(CastleError):
+    """A follower refused a change for good. `refusal` is the exception of its reason."""
+
+    remedy = "It is no copy of the leader, or was made for less. Make it anew from a copy of the leader's file."
+    refusal: Optional[Refused] = None
+
+
+class FollowerAhead(CastleError):
+    """A follower has changes that the log does not have."""
+
+    remedy = "It follows another leader, or was changed by itself, or the log lost its end. Make the copy or the log anew."
+
+
+class FollowerStuck(CastleError):
+    """A follower took no change, however often it was tried. The exception before it says why."""
+
+    remedy = "What it took is in its file. Mend the cause, and feed it again."
+
+
+class NoRedis(CastleError):
+    """A server of Redis can't be reached, or refuses a command."""
+
+    remedy = "Look at the address, redis://HOST:PORT/DATABASE?stream=NAME, and at the server."
+
+
+class LogWarning(UserWarning):
+    """A log of changes ended amid a frame, which was cut off."""
 
 
 class NamesWarning(UserWarning):

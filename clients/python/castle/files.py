@@ -6,15 +6,15 @@ import contextlib
 import os
 import secrets
 import stat
-from typing import Iterable, Optional
+from typing import Iterable, Optional, Union
 
 FORMATTED = b"\xa7STRATBT1"  # how a superblock slot begins; slot 1 stands a block behind slot 0
 BLOCK = 4096
 EMPTY = "an empty file"
 
 
-def write_whole(path: str, pieces: Iterable[str], like: Optional[str] = None) -> None:
-    """Writes a file of text for good: a new one that is synced takes its place, and the folder is synced.
+def write_whole(path: str, pieces: Iterable[Union[str, bytes]], like: Optional[str] = None) -> None:
+    """Writes a file of text or bytes for good: a new one that is synced takes its place, and the folder is synced.
 
     The new file has a name of its own in the folder until then, `.castle-` and a random number, so that it takes the
     place of no other file. Where a symbolic link stands at the path, the file that it leads to is written; a file that
@@ -24,8 +24,8 @@ def write_whole(path: str, pieces: Iterable[str], like: Optional[str] = None) ->
     real = os.path.realpath(path)
     new = os.path.join(os.path.dirname(real), f".castle-{secrets.token_hex(8)}")
     try:
-        with open(new, "x", encoding="utf-8", newline="\n") as file:
-            file.writelines(pieces)
+        with open(new, "xb") as file:
+            file.writelines(piece.encode() if isinstance(piece, str) else piece for piece in pieces)
             file.flush()
             keep_permissions(file.fileno(), real, like)
             os.fsync(file.fileno())

@@ -11,7 +11,7 @@ import threading
 import time
 import weakref
 from functools import partial
-from typing import Callable, List, NoReturn, Optional, cast
+from typing import TYPE_CHECKING, Callable, List, NoReturn, Optional, cast
 
 from . import errors, forks, frames, hubsocket
 from .commands import Commands
@@ -23,6 +23,9 @@ from .process import CHUNK, LIMIT, poll_of
 from .program import Program
 from .store import Path, Store, abandon
 from .verdict import Verdict
+
+if TYPE_CHECKING:
+    from .rescue import Source
 
 CREDENTIALS = struct.Struct("3i")  # of whoever listens at a socket: process, user, group
 
@@ -135,7 +138,7 @@ class HubStore(Store):
     """A store over a hub, as `Store("unix:SOCKET")` gives it.
 
     What is said of a `Store` holds of it, but that others change the store meanwhile: what two commands give may be of
-    different times. Names, levels, `format`, `read_only` and the choice of a program raise `NotOverHub`. An address in place of
+    different times. Names, levels, copies, `format`, `read_only` and the choice of a program raise `NotOverHub`. An address in place of
     a path, as text or bytes, means a hub; a file whose name begins so is `./unix:..`.
     """
 
@@ -184,3 +187,7 @@ class HubStore(Store):
     def verdict(self) -> Verdict:
         """A `NotOverHub`: it is the store's file that is checked."""
         raise errors.NotOverHub("a check can't be had over a hub", file=self.path, command="check")
+
+    def _source(self) -> "Source":
+        """A `NotOverHub`: it is the store's file that is copied."""
+        raise errors.NotOverHub("a copy can't be had over a hub", file=self.path, command="copy")

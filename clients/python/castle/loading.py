@@ -2,14 +2,17 @@
 
 from __future__ import annotations
 
+import contextlib
 import csv
+import io
 import sys
 import time
-from typing import TYPE_CHECKING, Callable, Dict, Iterable, Iterator, List, Optional, TextIO
+from typing import TYPE_CHECKING, BinaryIO, Callable, Dict, Iterable, Iterator, List, Optional, TextIO
 
-from . import dump, jsonform, outfile
+from . import dump, exports, jsonform, outfile
 from .errors import CastleError, DumpFault, Wrong
 from .frames import Pair
+from .progress import Line
 from .terminal import Stopped
 from .text import Word, counted, encoded
 
@@ -63,48 +66,52 @@ def dump_pairs(lines: Iterable[str], file: str) -> List[Pair]:
 
 
 FORMS: Dict[str, Callable[[Iterable[str], str], Iterator[Pair]]] = {"--csv": csv_pairs, "--json-lines": json_pairs}
+FRAMES = "--frames"
+
+
+@contextlib.contextmanager
+def opened(shell: "Shell", word: Word) -> Iterator[BinaryIO]:
+    """The bytes of a file that the user named."""
+    is_input = is_standard_input(word)
+    if is_input and sys.stdin is None:
+        raise CastleError("standard input is closed", "Give the pairs there, or name a file.")
+    place = sys.stdin.fileno() if is_input else word.path
+    with outfile.told(name_of(word), "read"), open(place, "rb", closefd=not is_input) as file:
+        yield file
 
 
 def lines_of(shell: "Shell", word: Word) -> Iterator[str]:
     """The lines of a file that the user named, with their ends, up to a Ctrl-C. A mark of byte order is passed over."""
-    is_input = word.bare and word.text == "-"
-    if is_input and sys.stdin is None:
-        raise CastleError("standard input is closed", "Give the pairs there, or name a file.")
-    place = sys.stdin.fileno() if is_input else word.path
-    with outfile.told(name_of(word), "read"), open(place, encoding="utf-8", errors="surrogateescape", newline="\n",
-                                                   closefd=not is_input) as lines:
+    with opened(shell, word) as file:
+        lines = io.TextIOWrapper(file, encoding="utf-8", errors="surrogateescape", newline="\n")
         for number, line in enumerate(shell.interrupts.lines(lines)):
             yield line if number else line[line.startswith("\ufeff"):]
 
 
+def is_standard_input(word: Word) -> bool:
+    """Whether a word for a file stands for standard input."""
+    return word.bare and word.text == "-"
+
+
 def name_of(word: Word) -> str:
     """What a message calls the file of a load."""
-    return STANDARD_INPUT if word.bare and word.text == "-" else word.path
+    return STANDARD_INPUT if is_standard_input(word) else word.path
 
 
 # The load
 
 class Progress:
-    """How far a load is: a line on standard error that is written anew, where that is a terminal and the load takes long."""
-
-    EVERY = 0.5  # seconds
+    """How far a load is: a line on standard error, where that is a terminal and the load takes long."""
 
     def __init__(self, total: Optional[int], out: Optional[TextIO] = None, clock: Callable[[], float] = time.monotonic) -> None:
-        self._out = sys.stderr if out is None else out
         self._clock = clock
         self._total = "" if total is None else f" of {total:,}"
-        self._start = self._last = clock()
-        self._width = 0
+        self._start = clock()
+        self._line = Line(out, clock)
 
     def tell(self, done: int) -> None:
         """Shows how many pairs were put, at most twice a second."""
-        now = self._clock()
-        if now - self._last < self.EVERY or not self._out.isatty():
-            return
-        line = f"{done:,}{self._total} pairs, {self.rate(done)}"
-        self._out.write(f"\r{line:{self._width}}")
-        self._out.flush()
-        self._last, self._width = now, max(self._width, len(line))
+        self._line.show(lambda: f"{done:,}{self._total} pairs, {self.rate(done)}")
 
     def rate(self, done: int) -> str:
         """How many pairs were put in a second so far."""
@@ -112,11 +119,8 @@ class Progress:
 
     def end(self, done: int) -> str:
         """Takes the line away, and gives what the last line says of the rate."""
-        if not self._width:
-            return ""
-        self._out.write("\r" + " " * self._width + "\r")
-        self._out.flush()
-        return f", {self.rate(done)}"
+        self._line.clear()
+        return f", {self.rate(done)}" if self._line.is_shown else ""
 
 
 class Load:
@@ -187,20 +191,28 @@ class Load:
 def load(shell: "Shell", word: Word, version: int) -> None:
     """Puts the pairs of a file into a version of the shell's store.
 
-    A dump is read to its end before anything is changed. Of the other forms each window is put as soon as it is read.
+    A dump is read to its end before anything is changed, and so are frames of a file that can be read twice. Of the other
+    forms each window is put as soon as it is read.
     """
-    forms = [form for option, form in FORMS.items() if option in shell.options]
+    forms = [form for form in (*FORMS, FRAMES) if form in shell.options]
     if len(forms) > 1:
-        raise Wrong("a file is CSV or lines of JSON, and not both")
-    name, total = name_of(word), None
+        raise Wrong(f"a file is of one form, and not {forms[0]} and {forms[1]}")
+    name = name_of(word)
     if name == STANDARD_INPUT and not shell.has_input:
         raise Wrong("standard input is where the commands come from", "Name a file, or run castle-shell STORE load -.")
-    pairs: Iterable[Pair]
-    if forms:
-        pairs = forms[0](lines_of(shell, word), name)
+    if forms == [FRAMES]:
+        with opened(shell, word) as file:
+            total = exports.count(file, name, shell.interrupts) if file.seekable() else None
+            put(shell, version, exports.pairs_of(shell.interrupts.lines(exports.pieces_of(file)), name), total)
+    elif forms:
+        put(shell, version, FORMS[forms[0]](lines_of(shell, word), name), None)
     else:
-        pairs = whole = dump_pairs(lines_of(shell, word), name)
-        total = len(whole)
+        whole = dump_pairs(lines_of(shell, word), name)
+        put(shell, version, whole, len(whole))
+
+
+def put(shell: "Shell", version: int, pairs: Iterable[Pair], total: Optional[int]) -> None:
+    """Puts pairs into a version, and says how many."""
     loading = Load(shell, version, total)
     rate = ""
     try:

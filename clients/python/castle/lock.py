@@ -51,6 +51,12 @@ class Lock:
         return [file.fileno() for file in (self._beside, self._itself) if file is not None]
 
     @property
+    def itself(self) -> int:
+        """The open file that holds the lock on the file itself."""
+        assert self._itself is not None
+        return self._itself.fileno()
+
+    @property
     def told(self) -> str:
         """What the variable CASTLE_LOCKS has for the program: the numbers of both, the second empty where there is no file."""
         return ",".join([*map(str, self.descriptors), ""][:2])
@@ -136,8 +142,8 @@ class Lock:
 
 
 @contextlib.contextmanager
-def unchanged(path: str, file: str) -> Iterator[None]:
-    """Within it no program serves the file at this path; errors call it `file`.
+def unchanged(path: str, file: str) -> Iterator[int]:
+    """Within it no program serves the file at this path, of which it gives an open descriptor; errors call it `file`.
 
     A shared flock on the file keeps others away, and a `StoreLocked` tells that one serves it already. Nothing is made beside
     the file.
@@ -152,7 +158,7 @@ def unchanged(path: str, file: str) -> Iterator[None]:
         except BlockingIOError:
             raise StoreLocked("the store is open, and may change meanwhile", "Close it there first.", file=file) from None
         try:
-            yield
+            yield opened.fileno()
         finally:
             fcntl.flock(opened, fcntl.LOCK_UN)  # a child that was just forked may not have closed its copy yet
 

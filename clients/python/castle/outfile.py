@@ -5,7 +5,7 @@ from __future__ import annotations
 import contextlib
 import os
 import stat
-from typing import Iterable, Iterator
+from typing import Iterable, Iterator, Union
 
 from .errors import CastleError
 from .files import seen, write_whole
@@ -31,8 +31,8 @@ def told(path: str, what: str) -> Iterator[None]:
                           file=path) from error
 
 
-def write(path: str, pieces: Iterable[str], store: str) -> None:
-    """Writes a text for good in place of the file at a path, unless that is one to be kept from this; see `check`.
+def write(path: str, pieces: Iterable[Union[str, bytes]], store: str) -> None:
+    """Writes text or bytes for good in place of the file at a path, unless that is one to be kept from this; see `check`.
 
     `store` is the path of the store that is open. Where the pieces end in an error the old file is as it was.
     """
@@ -47,7 +47,7 @@ def check(path: str, store: str) -> None:
     It looks at the file itself, whatever its name is and whichever links lead to it.
     """
     real = os.path.realpath(path)
-    of_a_store = _place_in_a_store(real, os.path.realpath(store))
+    of_a_store = place_in_a_store(real, os.path.realpath(store))
     if of_a_store:
         raise Unwritable(f"the file {of_a_store}", file=path)
     if not os.path.isdir(os.path.dirname(real)):
@@ -67,7 +67,7 @@ def check(path: str, store: str) -> None:
         raise Unwritable(f"the file is {STORE}", "Take another file, or remove that one first.", file=path)
 
 
-def _place_in_a_store(path: str, own: str) -> str:
+def place_in_a_store(path: str, own: str) -> str:
     """What a file is to the store that is open, or to another one beside it, where it is there or not; empty if nothing."""
     for ending, what in BESIDE.items():
         if path == own + ending or _is_same(path, own + ending):

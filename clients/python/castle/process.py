@@ -120,6 +120,10 @@ class Process:
         pass_on(_others(lines, self._words))
         return bool(data)
 
+    def end_input(self) -> None:
+        """Ends its input, so that it ends once it has answered all. What it writes is still to be read."""
+        self._files[0].close()
+
     def finish(self, limit: Optional[float] = None) -> int:
         """Ends its input, drops what it still writes, waits until it has ended, and tells its status.
 

@@ -239,6 +239,16 @@ class Program:
             finally:
                 self._is_busy = False
 
+    def wait(self, act: Callable[[], None]) -> None:
+        """Does something while all is answered and no command can come: one amid it raises `Busy`."""
+        with self.lock:
+            self.settle()
+            self._is_busy = True
+            try:
+                act()
+            finally:
+                self._is_busy = False
+
     def ask(self, make: Callable[[], bytes]) -> Result:
         """The answer to one frame, a refusal too."""
         sink: List[Result] = []
@@ -284,7 +294,7 @@ class Program:
 
     def _refuse_amid(self) -> None:
         """Refuses a command amid another one of this thread. That there is one may be left over from an exception."""
-        codes = {method.__code__ for method in (Program._ask, Program.send, Program.send_all, Program.settle, Program.finish)}
+        codes = {method.__code__ for method in (Program._ask, Program.send, Program.send_all, Program.settle, Program.finish, Program.wait)}
         frame = sys._getframe(1).f_back
         while frame is not None:
             if frame.f_code in codes and frame.f_locals.get("self") is self:

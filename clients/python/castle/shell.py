@@ -7,7 +7,7 @@ import sys
 from collections import deque
 from typing import Callable, ContextManager, Dict, Iterable, Iterator, List, Optional, Sequence, TextIO, TypeVar
 
-from . import backup, dump, jsonform, levels, listing, loading, outfile, picture_levels, picture_tree, report, tree, verdict
+from . import dump, exports, jsonform, keeping, levels, listing, loading, outfile, picture_levels, picture_tree, report, storetext, tree, verdict
 from .branches import Snapshot, nameless
 from .errors import CastleError, Ended, MergeConflict, NotSound, UnknownName, UnknownVersion, Wrong
 from .frames import NUMBER_MAX, Info, prefix_end
@@ -15,6 +15,7 @@ from .keycount import count_keys
 from .lines import Command, check_text, check_words, command_of, is_number, near, take_options
 from .merge import OURS, THEIRS
 from .paging import Left, unpaged
+from .progress import Line, teller
 from .store import Store
 from .terminal import INTERRUPTED, Interrupts, Stopped
 from .text import Word, argument, cell, counted, shortened, shown, words
@@ -268,6 +269,18 @@ class Shell:
     def _until_stopped(self, items: Iterable[Item]) -> Iterator[Item]:
         return self.interrupts.items(items)
 
+    def _told(self, items: Iterable[Item], what: str) -> Iterator[Item]:
+        """The same items, up to a Ctrl-C, where a terminal shows how many there were."""
+        line = Line()
+        tell = teller(self.interrupts, line)
+        try:
+            for number, item in enumerate(self._until_stopped(items)):
+                if number % 256 == 0:
+                    tell(what, number, None)
+                yield item
+        finally:
+            line.clear()
+
     def _save(self, word: Word, pieces: Iterable[str]) -> None:
         """Writes a file that the user named, whole or not at all."""
         outfile.write(word.path, pieces, self.store.path)
@@ -511,8 +524,8 @@ class Shell:
             self.say(f"{removed} removed, {added} added, {changed} changed", removed=removed, added=added, changed=changed)
 
     def dump(self, rest: List[Word]) -> None:
-        if rest and rest[0].text == ALL:
-            self._dump_all(rest[1:])
+        if ALL in self.options:
+            self._dump_all(rest)
             return
         try:
             version = self.version(rest[:1])
@@ -520,6 +533,9 @@ class Shell:
             if len(rest) == 1:
                 error.remedy = f"{error.remedy} A file stands behind the version: dump V FILE.".strip()
             raise
+        if loading.FRAMES in self.options:
+            self._export(version, rest[1:])
+            return
         if len(rest) < 2 and self.json:
             for key, value in self._until_stopped(self.store.scan(version)):
                 self.say("", key=key, value=value)
@@ -529,24 +545,40 @@ class Shell:
         if len(rest) < 2:
             self.out.writelines(lines)
         else:
-            self._save(rest[1], lines)
+            self._save(rest[1], self._told(lines, "lines written"))
+
+    def _export(self, version: int, rest: List[Word]) -> None:
+        """Writes a version's pairs as frames of puts."""
+        line = Line()
+        if not rest and (self.is_typed or self.out.isatty()):
+            raise Wrong("frames are bytes, and no text for a terminal", "A file stands behind the version: dump --frames V FILE.")
+        pieces = exports.frames_of(self._until_stopped(self.store.scan(version)), teller(self.interrupts, line))
+        try:
+            if rest:
+                self._save(rest[0], pieces)
+            else:
+                self.out.writelines(piece.decode("utf-8", "surrogateescape") for piece in pieces)
+        finally:
+            line.clear()
 
     def _dump_all(self, rest: List[Word]) -> None:
         self._refuse_version("dump")
-        lines = backup.lines_of(self.store, os.path.basename(self.store.path))
+        if len(rest) > 1 or len(self.options) > 1:
+            raise Wrong(f"usage: {COMMANDS['dump'].usage}")
+        lines = storetext.lines_of(self.store, os.path.basename(self.store.path))
         if rest:
-            self._save(rest[0], self._until_stopped(lines))
+            self._save(rest[0], self._told(lines, "lines written"))
         else:
             self.out.writelines(self._until_stopped(lines))
 
     def _load_all(self, rest: List[Word]) -> None:
         self._refuse_version("load")
-        loading = backup.Loading(self.store, rest[0].path)
-        with outfile.told(rest[0].path, "read"), backup.twice(rest[0].path) as lines:
+        loading = storetext.Loading(self.store, rest[0].path)
+        with outfile.told(rest[0].path, "read"), storetext.twice(rest[0].path) as lines:
             deque(self._until_stopped(loading.check(lines)), 0)
             lines.seek(0)
             try:
-                deque(self._until_stopped(loading.load(lines)), 0)
+                self._load_told(loading, lines)
             except (CastleError, Stopped, KeyboardInterrupt) as error:
                 versions, _, changes = loading.counts
                 what = f"with {counted(versions, 'version')} and {counted(changes, 'change')} loaded"
@@ -555,6 +587,16 @@ class Shell:
                 error.command = f"{error.command}, {what}" if error.command else what
                 raise
         self.say(f"loaded {loading.counts}", **dict(zip(("versions", "names", "changes"), loading.counts)))
+
+    def _load_told(self, loading: storetext.Loading, lines: Iterable[str]) -> None:
+        """Loads a whole store, where a terminal shows how many changes were made."""
+        line = Line()
+        tell = teller(self.interrupts, line)
+        try:
+            for _ in self._until_stopped(loading.load(lines)):
+                tell("changes loaded", loading.counts.changes, None)
+        finally:
+            line.clear()
 
     def _refuse_version(self, command: str) -> None:
         """Fails for a version behind @ where a command is about the whole store."""
@@ -616,11 +658,19 @@ COMMANDS: Dict[str, Command] = {
                      Shell.check, 0, 0, False),
     "report": Command(FILES, "report FILE", "writes a page of HTML: the tree, the levels, and what is used and left",
                       Shell.report, 1, 1, False),
-    "dump": Command(FILES, "dump [V [FILE] | --all [FILE]]", "writes a version's pairs, or the whole store, as lines of text",
-                    Shell.dump, 0, 2),
-    "load": Command(FILES, "load [--all | --csv | --json-lines] FILE [@V]",
+    "dump": Command(FILES, "dump [--frames] [V [FILE] | --all [FILE]]",
+                    "writes a version's pairs, or the whole store, as lines of text; --frames as frames of puts",
+                    Shell.dump, 0, 2, True, {ALL: "", "--frames": ""}),
+    "load": Command(FILES, "load [--all | --csv | --json-lines | --frames] FILE [@V]",
                     "puts the pairs of a file, or of - for standard input; --all fills a fresh store",
-                    Shell.load, 1, 1, True, {ALL: "", "--csv": "", "--json-lines": ""}),
+                    Shell.load, 1, 1, True, {ALL: "", "--csv": "", "--json-lines": "", "--frames": ""}),
+    "export": Command(FILES, "export FILE [@V]", "writes a version into a file of frames, as `castle export` does", keeping.export, 1, 1),
+    "import": Command(FILES, "import FILE [@V]", "puts the pairs of such a file into a version, and tells which were refused",
+                      keeping.take, 1, 1),
+    "backup": Command(FILES, "backup [--overwrite] FILE", "copies the store and its names to another file, and checks the copy",
+                      keeping.backup, 1, 1, False, {"--overwrite": ""}),
+    "salvage": Command(FILES, "salvage [--overwrite] [--doubtful] FILE", "makes a new store of what a damaged one still gives",
+                       keeping.salvage, 1, 1, False, {"--overwrite": "", "--doubtful": ""}),
     "help": Command(SHELL, "help [COMMAND]", "shows this, or one command", Shell.help, 0, 1, False),
     "quit": Command(SHELL, "quit", "ends the shell", Shell.quit, 0, 0, False),
 }

@@ -12,11 +12,10 @@ import weakref
 from collections import deque
 from functools import partial
 from types import TracebackType
-from typing import TYPE_CHECKING, List, NoReturn, Optional, Tuple, Type, Union, cast
+from typing import TYPE_CHECKING, Callable, List, NoReturn, Optional, Tuple, Type, Union, cast
 from weakref import WeakSet
 
-from . import backup, branches, errors, files, frames, hubsocket, outfile, verdict
-from .backup import Counts, Loading
+from . import branches, errors, files, frames, hubsocket, outfile, storetext, verdict
 from .batch import Batch
 from .branches import Snapshot
 from .commands import Commands, Data, Version, data_of
@@ -30,11 +29,16 @@ from .names import Names, remove_names
 from .process import LIMIT, Process, find_program, printed
 from .program import Program
 from .scan import Difference, Differences, Scan, differences
+from .storecopy import Progress, silent
+from .storetext import Counts, Loading
 from .verdict import Verdict
 from .view import VersionView
 
 if TYPE_CHECKING:
+    from .exporting import Imported
     from .hubstore import Connection
+    from .rescue import Source
+    from .salvaging import Salvage
 
 Path = Union[str, bytes, "os.PathLike[str]", "os.PathLike[bytes]"]
 
@@ -77,8 +81,8 @@ class Store:
 
         `unix:SOCKET`, as text or bytes, is the address of a hub that serves a store (`HubStore`).
         """
-        self.path, self._real = _located(path)
-        _check_file(self._real, self.path)
+        self.path, self._real = located(path)
+        check_file(self._real, self.path)
         self.read_only = read_only or not _is_writable(self._real, self.path)
         self._scans: WeakSet[Scan] = WeakSet()  # whose cursors may be open
         self._found = find_program(program)
@@ -130,7 +134,7 @@ class Store:
         C, how many it takes in its life (up to 16,777,216), and `versions` is V (up to 16,384). A file that is there
         already and is not empty is refused, unless `overwrite`: then all that it had is forgotten, its names too.
         """
-        file, real = _located(path)
+        file, real = located(path)
         folder = os.path.dirname(real)
         if not os.path.isdir(folder):
             raise errors.StoreMissing(f"there is no folder {folder}", "Make it first.", file=file)
@@ -159,15 +163,15 @@ class Store:
         written is checked as a private copy. `StoreLocked` tells that the store is open: a store of one's own has `verdict`.
         What is no store is a `NotAStore`, and every other end of the program an exception too.
         """
-        file, real = _located(path)
-        _check_file(real, file)
+        file, real = located(path)
+        check_file(real, file)
         found = find_program(program)
         if _is_writable(real, file):
             with unchanged(real, file):
-                return _checked(found, real, file)
+                return checked(found, real, file)
         copy = PrivateCopy(real, file)
         try:
-            return _checked(found, copy.path, file)
+            return checked(found, copy.path, file)
         finally:
             copy.remove()
 
@@ -307,7 +311,60 @@ class Store:
             self._program.settle()
             if not self._lock.is_of(self._served):
                 raise errors.StoreMoved(file=self.path, command="check")
-            return _checked(self._found, self._served, self.path, self._lock)
+            return checked(self._found, self._served, self.path, self._lock)
+
+    # Copies
+
+    def _at_rest(self, act: Callable[[int], None]) -> None:
+        """Does something with the open file while the program waits, so that nobody writes it."""
+
+        def acted() -> None:
+            if not self._lock.is_of(self._served):
+                raise errors.StoreMoved(file=self.path, command="copy")
+            act(self._lock.itself)
+
+        self._program.wait(acted)
+
+    def _source(self) -> "Source":
+        from .rescue import Source  # which is made of this class
+        return Source(self.path, self._real, self._found, self._at_rest)
+
+    def backup(self, to: Path, *, overwrite: bool = False, progress: Progress = silent) -> None:
+        """Copies the store's file and its names to another path, as they are at this call.
+
+        The program waits until the bytes are copied, and a command of `progress` or of a signal handler raises `Busy`. The
+        copy is checked and synced before it takes its name, so at `to` is a whole store or what was there. `NotSound` tells
+        that the file is damaged, and `StoreExists` that there is a file at `to` already, unless `overwrite`. `progress` is
+        called as the work goes on. `castle.backup` copies a store that nobody has open.
+        """
+        from .rescue import make_backup
+        make_backup(self._source(), to, overwrite, progress)
+
+    def salvage(self, to: Path, *, overwrite: bool = False, doubtful: bool = False, progress: Progress = silent) -> "Salvage":
+        """Makes a new store of what the file of this one still gives, as it is at this call; see `castle.salvage`."""
+        from .rescue import make_salvage
+        return make_salvage(self._source(), to, overwrite, doubtful, progress)
+
+    # One version as a file
+
+    def export(self, version: Version, to: Path, *, progress: Progress = silent) -> None:
+        """Writes a version as it is at this call into a file of puts, as `castle export` does. Other commands may come meanwhile.
+
+        The file takes its place whole, or not at all. `castle.export` is of a store that nobody has open.
+        """
+        from .exporting import export_open  # which is made of this class
+        export_open(self, self.number(version), to, progress)
+
+    def import_from(self, path: Path, version: Version, *, progress: Progress = silent) -> "Imported":
+        """Puts the pairs of such a file into a version, and tells which of them were refused.
+
+        Tags and versions of the frames are passed over: they may be of any version, all of one. A file that can be read twice is
+        looked at first as a whole, and `DumpFault` tells of one that was cut off or is no export: then nothing was put. `Frozen` and
+        `UnknownVersion` come before anything is put, too. To import a file again does no harm. `progress` is called as the work goes on,
+        and an exception of it ends the import between two windows of 256 pairs.
+        """
+        from .exporting import import_file
+        return import_file(self, path, self.number(version), progress)
 
     # What is made of that
 
@@ -412,7 +469,7 @@ class Store:
     def dump_all(self, path: Path) -> None:
         """Writes every version and name into a file of text, which takes its place whole, or not at all."""
         file = os.fsdecode(path)
-        outfile.write(file, backup.lines_of(self, os.path.basename(self.path)), self.path)
+        outfile.write(file, storetext.lines_of(self, os.path.basename(self.path)), self.path)
 
     def load_all(self, path: Path) -> Counts:
         """Loads such a file into this store, which has to be fresh, with the same numbers of versions, and tells how much it was.
@@ -423,14 +480,14 @@ class Store:
         """
         file = os.fsdecode(path)
         loading = Loading(self, file)
-        with self._program.lock, outfile.told(file, "read"), backup.twice(file) as lines:
+        with self._program.lock, outfile.told(file, "read"), storetext.twice(file) as lines:
             deque(loading.check(lines), 0)
             lines.seek(0)
             deque(loading.load(lines), 0)
         return loading.counts
 
 
-def _located(path: Path) -> Tuple[str, str]:
+def located(path: Path) -> Tuple[str, str]:
     """A path as text, and the same without symbolic links."""
     file = os.fsdecode(path)
     if hubsocket.path_of(path) is not None:
@@ -441,7 +498,7 @@ def _located(path: Path) -> Tuple[str, str]:
     return file, os.path.realpath(file)
 
 
-def _check_file(real: str, file: str) -> None:
+def check_file(real: str, file: str) -> None:
     """Fails for what can't be a store's file."""
     try:
         kind = os.stat(real).st_mode
@@ -486,7 +543,7 @@ def _explained(error: errors.Ended, command: str, real: str) -> errors.Ended:
     return error
 
 
-def _checked(program: str, real: str, file: str, lock: Optional[Lock] = None) -> Verdict:
+def checked(program: str, real: str, file: str, lock: Optional[Lock] = None) -> Verdict:
     """The verdict of a run of the program on a file, which errors call `file`."""
     text, status = Process(program, ["check", real], file, lock).output()
     if status not in verdict.STATUSES:

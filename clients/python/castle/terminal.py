@@ -76,8 +76,8 @@ class Interrupts:
             self.check()
             yield item
 
-    def lines(self, file: Iterable[str]) -> Iterator[str]:
-        """The lines of a file, up to a Ctrl-C, also where it comes while a line is waited for."""
+    def lines(self, file: Iterable[Item]) -> Iterator[Item]:
+        """The lines or pieces of a file, up to a Ctrl-C, also where it comes while one is waited for."""
         source = iter(file)
         while True:
             self.check()

@@ -60,7 +60,7 @@ def cases(suite: unittest.TestSuite) -> Iterator[unittest.TestCase]:
             yield test
 
 
-DEADLINE = 900  # seconds for all of them; then it tells where it hangs, and ends
+DEADLINE = 1800  # seconds for all of them; then it tells where it hangs, and ends
 
 
 def is_built() -> bool:

@@ -29,6 +29,7 @@ NOBODY = 65534  # the number of a user and a group without rights
 sys.path.insert(0, PACKAGE)
 
 from castle import Store, frames  # noqa: E402
+from castle.process import find_program, printed  # noqa: E402
 
 
 @contextlib.contextmanager
@@ -130,6 +131,18 @@ def in_child(run: Callable[[], object], limit: int = CHILD, fork: Callable[[], i
         finally:
             os._exit(status)
     return pid
+
+
+def has(word: str, *others: str) -> bool:
+    """Whether the program has this word, which it is asked to do with a file that is not there."""
+    with open(os.devnull, "w", encoding="ascii") as nowhere, contextlib.redirect_stderr(nowhere):
+        return printed(find_program(), [word, os.path.join(os.sep, "absent", "store"), *others], "")[1] != 1
+
+
+def needs(word: str, *others: str) -> None:
+    """Skips a test where the program does not have this word."""
+    if not has(word, *others):
+        raise unittest.SkipTest(f"the program has no word {word} yet")
 
 
 class Threads:

@@ -1,435 +1,392 @@
-"""Whole stores as text: what is loaded is what was dumped, under the same numbers, and nothing that is cut off is loaded."""
+"""Backups: a copy is the store as it was at one time, whole and under its name, or there is none."""
 
+from __future__ import annotations
+
+import contextlib
+import errno
+import fcntl
+import io
 import os
-import random
 import signal
-import subprocess
-import sys
+import tempfile
 import threading
-from datetime import datetime, timezone
-from typing import Callable, Dict, Iterator, List, Optional, Tuple
+import unittest
+from typing import Dict, List, Optional
 from unittest import mock
 
-from session import carried_out, carried_out_amid
-from support import DEADLINE, SHELL, StoreCase, Threads
+from session import Session, carried_out
+from support import NOBODY, StoreCase, Threads, on_signal, unprivileged
 
-from castle import Counts, Name, Store, backup, errors
-from castle.text import unescaped
+import castle
+from castle import Store, errors, keeping, progress
+from castle.progress import Line
+from castle.shell import COMMANDS, Shell
 
-Pairs = Dict[bytes, bytes]
-WHEN = datetime(2026, 11, 29, 12, 0, 1, tzinfo=timezone.utc)
-SMALL = ("# castle store 1, a.store\nversion\t0\nname\tbase\n+\ta\t1\n+\tb\t2\nversion\t1\t0\n"
-         "name\tnext\t2026-11-29T12:00:01Z\tTo come\nname\tother\t2026-11-29T12:00:01Z\n-\ta\n+\tb\t3\n+\tc\t\nversion\t2\t0\n"
-         "# end, 3 versions, 3 names, 5 changes\n")
-
-
-class Model:
-    """A store as dictionaries."""
-
-    def __init__(self) -> None:
-        self.versions: List[Pairs] = [{}]
-        self.parents: List[Optional[int]] = [None]
-        self.names: Dict[str, Name] = {}
-
-    def expect(self, case: StoreCase, store: Store) -> None:
-        """The store has just this."""
-        case.assertEqual([info.parent for info in store.versions()], self.parents)
-        for version, pairs in enumerate(self.versions):
-            case.assertEqual(list(store.scan(version)), sorted(pairs.items()), version)
-        case.assertEqual({name: store.names.about(name) for name in store.names}, self.names)
-
-
-def read(text: str) -> Model:
-    """What a dump says, as docs/CLIENT.md describes it."""
-    model = Model()
-    model.versions.clear()
-    model.parents.clear()
-    first, *lines, last, end = text.split("\n")
-    assert first.startswith("# castle store 1") and end == "", first
-    changes = 0
-    for line in lines:
-        kind, *words = line.split("\t")
-        if kind == "version":
-            parent = int(words[1]) if words[1:] else None
-            assert int(words[0]) == len(model.versions)
-            model.versions.append({} if parent is None else dict(model.versions[parent]))
-            model.parents.append(parent)
-        elif kind == "name":
-            name, time, description = [*words, *["-", ""][len(words) - 1:]]
-            when = None if time == "-" else datetime.strptime(time, "%Y-%m-%dT%H:%M:%SZ").replace(tzinfo=timezone.utc)
-            model.names[name] = Name(len(model.versions) - 1, when, unescaped(description).decode("utf-8", "surrogateescape"))
-        elif kind == "+":
-            model.versions[-1][unescaped(words[0])] = unescaped(words[1])
-            changes += 1
-        else:
-            assert kind == "-", line
-            del model.versions[-1][unescaped(words[0])]
-            changes += 1
-    counts = [f"{count} {noun}{'' if count == 1 else 's'}"
-              for count, noun in ((len(model.versions), "version"), (len(model.names), "name"), (changes, "change"))]
-    assert last == f"# end, {', '.join(counts)}", last
-    return model
+BLOCK = 4096
 
 
 class BackupCase(StoreCase):
-    in_memory = True
-
     def setUp(self) -> None:
         super().setUp()
-        self.other = os.path.join(self.folder, "b.store")
+        self.to = os.path.join(self.folder, "to.store")
 
-    def fresh(self, changes: int = 1000, versions: int = 10) -> Store:
-        """Another new store, open until the test ends."""
-        Store.format(self.other, 64, changes, versions, overwrite=True)
-        store = Store(self.other)
-        self.addCleanup(lambda: store.__exit__(ValueError, ValueError(), None))
+    def filled(self, count: int = 20) -> Store:
+        """An open store with so many keys at version 0, and a name."""
+        store = self.made(8, 100000, 100)
+        with store.batch() as batch:
+            for number in range(count):
+                batch.put(0, f"k{number:04}", str(number))
+        store.names.assign({"base": 0}, {"base": "What was"})
         return store
 
-    def small(self) -> Store:
-        """The store of which SMALL is the dump."""
-        store = self.made()
-        store.at(0).update(a=b"1", b=b"2")
-        store.clone(0)
-        store.clone(0)
-        store.delete(1, "a")
-        store.at(1).update(b=b"3", c=b"")
-        store.names.restore({"base": Name(0), "next": Name(1, WHEN, "To come"), "other": Name(1, WHEN)})
-        return store
+    def expect_left(self, *names: str) -> None:
+        """These files are in the folder, beside the store's own and locks of stores that were opened."""
+        left = [name for name in os.listdir(self.folder) if not name.startswith("a.store") and not name.endswith(".lock")]
+        self.assertEqual(sorted(left), sorted(names))
 
-    def expect_fresh(self, store: Store) -> None:
-        """Nothing was changed in this store."""
-        self.assertEqual((store.stat()[:3], dict(store.names)), ((1, 0, 0), {}))
+    def pairs(self, path: str) -> Dict[bytes, bytes]:
+        with Store(path) as store:
+            return dict(store.at(0))
 
 
-class DumpTest(BackupCase):
-    def test_a_store_is_dumped_as_documented(self) -> None:
-        store = self.small()
-        self.assertEqual(carried_out(store, "dump --all"), (SMALL, "", 0))
-        self.assertEqual(carried_out(store, f"dump --all {self.folder}/a.dump")[0], f"wrote {self.folder}/a.dump\n")
-        self.assertEqual(self.bytes_of("a.dump").decode(), SMALL)
-        store.dump_all(os.path.join(self.folder, "b.dump"))
-        self.assertEqual(self.bytes_of("b.dump").decode(), SMALL)
+class BackupTest(BackupCase):
+    def test_a_copy_of_a_file_has_its_bytes_and_names(self) -> None:
+        self.filled().close()
+        before, listed = os.stat(self.path), sorted(os.listdir(self.folder))
+        os.remove(self.path + ".lock")
+        castle.backup(self.path, self.to)
+        self.assertEqual(self.bytes_of("to.store"), self.bytes_of("a.store"))
+        self.assertEqual(self.bytes_of("to.store.names"), self.bytes_of("a.store.names"))
+        self.assertEqual(sorted(os.listdir(self.folder)), sorted({*listed, "to.store", "to.store.names"} - {"a.store.lock"}))
+        self.assertEqual(os.stat(self.path).st_mtime_ns, before.st_mtime_ns)
+        with Store(self.to) as store:
+            self.assertEqual((dict(store.names), store.names.about("base").description, len(store.at(0))), ({"base": 0}, "What was", 20))
 
-    def test_a_fresh_store_is_dumped_and_loaded(self) -> None:
-        store = self.made()
-        text = "# castle store 1, a.store\nversion\t0\n# end, 1 version, 0 names, 0 changes\n"
-        self.assertEqual(carried_out(store, "dump --all")[0], text)
-        other = self.fresh()
-        self.assertEqual(other.load_all(self.written("a.dump", text)), Counts(1, 0, 0))
-        self.expect_fresh(other)
+    def test_an_open_store_goes_on_behind_its_copy(self) -> None:
+        store = self.filled()
+        scan = store.scan(0)
+        next(scan)
+        with store.batch() as batch:
+            batch.put(0, "before", "1")
+            store.backup(self.to)
+            batch.put(0, "behind", "1")
+        self.assertEqual(len(list(scan)), 19)
+        self.assertEqual({key for key in self.pairs(self.to) if key.startswith(b"be")}, {b"before"})
+        self.assertEqual(store.get(0, "behind"), b"1")
+        self.assertTrue(Store.check(self.to))
 
-    def test_a_dump_is_loaded_under_the_same_numbers(self) -> None:
-        other = self.fresh()
-        self.written("a.dump", SMALL)
-        self.assertEqual(carried_out(other, f"load --all {self.folder}/a.dump"), ("loaded 3 versions, 3 names, 5 changes\n", "", 0))
-        read(SMALL).expect(self, other)
-        self.assertEqual(carried_out(other, "dump --all")[0], SMALL.replace("a.store", "b.store"))
-        self.assertEqual(other.stat()[:3], (3, 5, 7))
+    def test_a_store_that_is_open_elsewhere_is_not_copied(self) -> None:
+        store = self.filled()
+        with self.assertRaises(errors.StoreLocked):
+            castle.backup(self.path, self.to)
+        self.expect_left()
+        store.close()
+        with open(self.path, "rb") as other:
+            fcntl.flock(other, fcntl.LOCK_EX)
+            with self.assertRaises(errors.StoreLocked):
+                castle.backup(self.path, self.to)
+        castle.backup(self.path, self.to)
 
-    def test_a_dump_is_piped_from_one_store_into_another(self) -> None:
-        self.small().close()
-        self.fresh().close()
-        os.mkfifo(os.path.join(self.folder, "pipe"))
-        loads = subprocess.Popen([sys.executable, SHELL, self.other], stdin=subprocess.PIPE, stdout=subprocess.PIPE, cwd=self.folder)
-        with loads, open(os.path.join(self.folder, "script"), "w+", encoding="utf-8") as script:
-            script.write("dump --all\n")
-            script.seek(0)
-            assert loads.stdin
-            loads.stdin.write(b"load --all pipe\n")
-            loads.stdin.close()
-            with open(os.path.join(self.folder, "pipe"), "wb") as pipe:
-                ran = subprocess.run([sys.executable, SHELL, self.path], stdin=script, stdout=pipe, stderr=subprocess.PIPE, timeout=DEADLINE)
-            self.assertEqual((ran.returncode, ran.stderr), (0, b""))
-            assert loads.stdout
-            self.assertEqual((loads.stdout.read(), loads.wait(DEADLINE)), (b"loaded 3 versions, 3 names, 5 changes\n", 0))
-        with Store(self.other) as other:
-            read(SMALL).expect(self, other)
+    def test_nobody_opens_the_store_while_it_is_copied(self) -> None:
+        self.filled().close()
+        refused: List[str] = []
 
-    def test_names_that_can_not_be_read_keep_a_store_from_being_dumped(self) -> None:
-        self.small().close()
-        self.written("a.store.names", "nonsense\n")
-        with self.assertWarns(errors.NamesWarning):
-            store = self.opened()
-        out, complaint, status = carried_out(store, f"dump --all {self.folder}/a.dump")
-        self.assertEqual((out, status, os.path.exists(os.path.join(self.folder, "a.dump"))), ("", 1, False))
-        self.assertIn("a.store.names: line 1 is not a name and a version", complaint)
+        def tell(what: str, done: int, total: Optional[int]) -> None:
+            if what == "bytes copied":
+                with self.assertRaises(errors.StoreLocked):
+                    Store(self.path)
+                refused.append(what)
 
-    def test_a_dump_is_not_written_over_a_store(self) -> None:
-        store = self.small()
-        for name in ("a.store", "a.store.names", "a.store.lock"):
-            before = self.bytes_of(name)
-            with self.assertRaisesRegex(errors.CastleError, "Take another file; nothing was written"):
-                store.dump_all(os.path.join(self.folder, name))
-            self.assertEqual(self.bytes_of(name), before)
+        castle.backup(self.path, self.to, progress=tell)
+        self.assertTrue(refused)
+        self.opened().put(0, "a", "1")
 
-    def test_words_that_are_wrong_are_told(self) -> None:
-        store = self.small()
-        self.written("a.dump", SMALL)
-        self.written("one.dump", "# castle dump 1\na\t1\n# end, 1 pair\n")
-        for line, what in (("dump --all @0", "usage: dump [V [FILE] | --all [FILE]]"), ("load --all", "usage: load [--all | --csv | --json-lines] FILE [@V]"),
-                           ("load --all a @0", "usage: load [--all |"), ("load a b", "usage: load [--all |"),
-                           ("dump --all a b", "usage: dump"), ("load --all none", "none: the file can't be read: No such file"),
-                           (f"load {self.folder}/a.dump", "a.dump: line 1 is not that of a dump. `load --all FILE` loads a whole store.")):
-            out, complaint, status = carried_out(store, line)
-            self.assertEqual((out, status), ("", 1), line)
-            self.assertIn(what, complaint)
-        out, complaint, status = carried_out(self.fresh(), f"load --all {self.folder}/one.dump")
-        self.assertIn("one.dump: line 1 is not that of a dump of a store. It begins with # castle store 1; `load FILE` takes one of a version.",
-                      complaint)
+    def test_a_file_that_takes_the_place_of_the_store_amid_the_copy_is_not_copied(self) -> None:
+        store = self.filled()
+        data, number = self.bytes_of("a.store"), os.lseek
 
+        def replaced(descriptor: int, place: int, how: int) -> int:
+            if os.path.exists(self.path + "2"):
+                os.replace(self.path + "2", self.path)
+            return number(descriptor, place, how)
 
-class RefusedTest(BackupCase):
-    """Whatever is wrong, the store that it was to be loaded into is fresh still."""
+        for run in (store.backup, lambda to: castle.backup(self.path, to)):
+            self.written("a.store2", "another")
+            with mock.patch.object(os, "lseek", replaced):
+                run(self.to)
+            self.assertEqual(self.bytes_of("to.store"), data)
+            self.assertEqual(self.bytes_of("a.store"), b"another")
+            store.close()
+            for name in ("to.store", "to.store.names"):
+                os.remove(os.path.join(self.folder, name))
+            with open(self.path, "wb") as file:
+                file.write(data)
 
-    def refused(self, store: Store, text: str, what: str) -> None:
-        out, complaint, status = carried_out(store, f"load --all {self.written('x.dump', text)}")
-        self.assertEqual((out, status), ("", 1), text)
-        self.assertIn(f"castle-shell: line 1: {self.folder}/x.dump: {what}", complaint)
-        self.expect_fresh(store)
-
-    def test_a_dump_that_is_cut_off_anywhere_is_refused_whole(self) -> None:
-        store = self.fresh()
-        for end in range(len(SMALL)):
-            if SMALL[:end] + "\n" != SMALL:  # the last line feed alone is not missed
-                path = self.written("x.dump", SMALL[:end])
-                with self.assertRaises(errors.DumpFault, msg=SMALL[:end]):
-                    store.load_all(path)
-        self.expect_fresh(store)
-        self.refused(store, SMALL[:SMALL.index("version\t2")], "it is cut off behind line 11. Dump again: its last line has counts.")
-        self.refused(store, "", "it is cut off behind line 0")
-
-    def test_a_dump_without_one_of_its_lines_or_with_one_twice_is_refused(self) -> None:
-        store, lines = self.fresh(), SMALL.splitlines(keepends=True)
-        for number in range(len(lines)):
-            for text in ("".join(lines[:number] + lines[number + 1:]), "".join(lines[:number + 1] + lines[number:])):
-                if text.count("# castle") == 2:
-                    continue  # a second first line is a comment
-                with self.assertRaises(errors.DumpFault, msg=text):
-                    store.load_all(self.written("x.dump", text))
-        self.expect_fresh(store)
-
-    def test_a_line_that_is_wrong_is_told(self) -> None:
-        store = self.fresh()
-        kind = "is neither a version, nor a name of it, nor a change in it"
-        cases = [("# castle store 1,", "# castle store 12,", "line 1 is not that of a dump of a store"),
-                 ("version\t1\t0", "version\t2\t0", "line 6 is not that of version 1 with its parent"),
-                 ("version\t1\t0", "version\t1", "line 6 is not that of version 1 with its parent"),
-                 ("version\t0", "version\t0\t0", "line 2 is not that of version 0 with its parent"),
-                 ("version\t1\t0", "version\t1\t1", "line 6 has a parent that is no version before 1"),
-                 ("version\t1\t0", "version\t1\t-1", "line 6 has a parent that is no version before 1"),
-                 ("version\t1\t0", "version\t1\t0\t0", f"line 6 {kind}"), ("version\t1\t0", "Version\t1\t0", f"line 6 {kind}"),
-                 ("name\tbase", "name\t7", "line 3 has a name that can't be"), ("name\tnext", "name\tbase", "line 7 has the name base a second time"),
-                 ("T12:00:01Z\tTo", "T12:61:01Z\tTo", "line 7 has the name next: 2026-11-29T12:61:01Z is no time"),
-                 ("To come", "To \\q", r"line 7 has the name next: in the description \q is no escape"),
-                 ("name\tbase\n+\ta\t1\n", "+\ta\t1\nname\tbase\n", f"line 4 {kind}"), ("+\ta\t1", "+\ta", f"line 4 {kind}"),
-                 ("-\ta\n", "-\ta\t1\n", f"line 9 {kind}"), ("+\ta\t1", " \ta\t1", f"line 4 {kind}"), ("+\ta\t1", "", f"line 4 {kind}"),
-                 ("+\ta\t1\n+\tb\t2", "+\tb\t2\n+\ta\t1", "line 5 has a key that is not behind that of the line before"),
-                 ("+\tb\t2", "+\ta\t2", "line 5 has a key that is not behind that of the line before"),
-                 ("+\ta\t1", "+\t\\q\t1", r"line 4: \q is no escape"), ("+\ta\t1", "+\t\t1", "line 4 has a key of 0 bytes"),
-                 ("+\ta\t1", f"+\t{'k' * 256}\t1", "line 4 has a key of 256 bytes"),
-                 ("+\ta\t1", f"+\ta\t{'v' * 1025}", "line 4 has a value of 1,025 bytes, above 1,024"),
-                 ("3 names", "2 names", "it has 3 versions, 3 names, 5 changes, and its last line says 3 versions, 2 names, 5 changes"),
-                 ("5 changes", "6 changes", "it has 3 versions, 3 names, 5 changes, and its last line says"),
-                 ("5 changes\n", "5 changes\n\n", "line 14 stands behind the end"), ("# end, 3", "# end: 3", "it is cut off behind line 13")]
-        for old, new, what in cases:
-            self.assertIn(old, SMALL)
-            self.refused(store, SMALL.replace(old, new, 1), what)
-        self.refused(store, "# castle store 1\n# end, 0 versions, 0 names, 0 changes\n", "it has 0 versions")
-        self.refused(store, "# castle store 1\n+\ta\t1\n", f"line 2 {kind}")
-        self.refused(store, "# castle store 1\nname\ta\n", f"line 2 {kind}")
-
-    def test_a_store_that_is_not_fresh_is_refused_and_left(self) -> None:
-        path = self.written("a.dump", SMALL)
-        store = self.fresh()
-        store.names["base"] = 0
-        self.assert_not_fresh(store, path)
+    def test_what_is_there_stays_unless_it_is_to_be_overwritten(self) -> None:
+        store = self.filled()
+        for name in ("to.store", "to.store.names"):
+            path = self.written(name, "mine")
+            with self.assertRaises(errors.StoreExists):
+                store.backup(self.to)
+            self.assertEqual(self.bytes_of(name), b"mine")
+            os.remove(path)
+        self.written("to.store", "mine")
+        self.written("to.store.names", "other 7\n")
+        store.backup(self.to, overwrite=True)
+        self.assertEqual(self.bytes_of("to.store.names"), self.bytes_of("a.store.names"))
         del store.names["base"]
-        store.put(0, "k", "v")
-        self.assert_not_fresh(store, path)
-        store.delete(0, "k")
-        self.assert_not_fresh(store, path)  # its changes are spent
+        os.remove(self.path + ".names")
+        store.backup(self.to, overwrite=True)
+        self.expect_left("to.store")
+        for name in ("a.store", "a.store.names", "a.store.lock"):
+            with self.assertRaises(errors.StoreExists):
+                store.backup(os.path.join(self.folder, name), overwrite=True)
+        self.assertEqual(store.get(0, "k0001"), b"1")
+
+    def test_a_damaged_store_is_not_copied(self) -> None:
+        store = self.damaged()
+        with self.assertRaisesRegex(errors.NotSound, "no backup was made: damaged block 7"):
+            store.backup(self.to)
         store.close()
-        with Store(self.other, read_only=True) as copy, self.assertRaises(errors.ReadOnly):
-            copy.load_all(path)
-        with self.fresh() as store:
-            os.rename(self.other, self.other + ".moved")
-            with self.assertRaises(errors.StoreMoved):
-                store.load_all(path)
+        with self.assertRaisesRegex(errors.NotSound, "salvage"):
+            castle.backup(self.path, self.to)
+        self.expect_left()
 
-    def assert_not_fresh(self, store: Store, path: str) -> None:
-        before = store.stat(), dict(store.names), list(store.scan(0))
-        with self.assertRaisesRegex(errors.NotFresh, "b.store: the store is not fresh: it has changes or names. Make a new one with"):
-            store.load_all(path)
-        self.assertEqual((store.stat(), dict(store.names), list(store.scan(0))), before)
-
-    def test_a_store_that_is_too_small_is_refused_and_fresh_still(self) -> None:
-        for changes, versions, kind, what in ((1000, 2, errors.VersionLimit, "it takes 2 versions, and the store has room for 1. Go on with"),
-                                              (6, 10, errors.ChangeLimit, "it takes 7 changes, and the store has room for 6. Read on, or")):
-            with self.fresh(changes, versions) as store:
-                with self.assertRaisesRegex(kind, f"b.store: .*x.dump: {what}"):
-                    store.load_all(self.written("x.dump", SMALL))
-                self.expect_fresh(store)
-        with self.fresh(7, 3) as store:
-            store.load_all(self.written("x.dump", SMALL))
-            read(SMALL).expect(self, store)
-
-
-class FullTest(BackupCase):
-    def test_a_full_store_moves_to_a_larger_one(self) -> None:
-        store = self.made(64, 1000, 3)
-        store.names["staging"] = store.clone(0)
-        store.names["production"] = store.clone(0)
-        store.put("staging", "k", "1")
-        with self.assertRaises(errors.VersionLimit) as caught:
-            store.snapshot("staging", "v1")
-        self.assertIn("`dump --all` and `load --all`", str(caught.exception))
-        path = os.path.join(self.folder, "all.dump")
-        store.dump_all(path)
-        other = self.fresh(1000, 30)
-        other.load_all(path)
-        self.assertEqual(dict(other.names), dict(store.names))
-        other.snapshot("staging", "v1")
-        other.put("staging", "k", "2")
-        self.assertEqual((other.get("v1", "k"), other.get("production", "k")), (b"1", None))
-
-
-class CutOffTest(BackupCase):
-    """A load that is cut off says how far it came. The store has no names then, and is not taken for a fresh one."""
-
-    def many(self) -> str:
-        lines = [f"+\t{key:04}\t1\n" for key in range(1000)]
-        return self.written("many.dump", "".join(["# castle store 1\nversion\t0\n", *lines, "version\t1\t0\nname\tnext\n+\tx\t1\n",
-                                                  "# end, 2 versions, 1 name, 1001 changes\n"]))
-
-    def in_window(self, store: Store, number: int, act: Callable[[], object]) -> Tuple[str, int]:
-        """Complaints and status of a shell that loads `many`, where something happens amid the window of this number."""
-        return carried_out_amid(store, number, act, f"load --all {self.many()}", "put a 1")
-
-    def test_ctrl_c_stops_a_load_behind_a_window(self) -> None:
-        store = self.fresh(100000)
-        told = self.in_window(store, 2, lambda: os.kill(os.getpid(), signal.SIGINT))
-        self.assertEqual(told, ("castle-shell: line 1: stopped, with 1 version and 512 changes loaded at least; make the store anew, and load "
-                                "again\n", 130))
-        self.assertEqual((store.stat()[:3], dict(store.names)), ((1, 512, 512), {}))
-        with self.assertRaises(errors.NotFresh):
-            store.load_all(self.many())
-
-    def test_a_program_that_ends_amid_a_load_is_told_with_how_far_it_came(self) -> None:
-        store = self.fresh(100000)
-        out, status = self.in_window(store, 3, lambda: os.kill(store.pid, signal.SIGKILL))
-        self.assertEqual(status, 1)
-        self.assertRegex(out, r"^castle-shell: line 1: .*b\.store: .*with 1 version and 512 changes loaded: the program was ended by SIGKILL")
+    def test_a_store_that_was_moved_or_closed_is_not_copied(self) -> None:
+        store = self.filled()
+        os.rename(self.path, self.path + "2")
+        with self.assertRaises(errors.StoreMoved):
+            store.backup(self.to)
         store.close()
-        with Store(self.other) as store:
-            self.assertEqual(dict(store.names), {})
-            self.assertGreaterEqual(store.stat().changes, 512)
+        with self.assertRaises(errors.StoreClosed):
+            store.backup(self.to)
+        with self.assertRaises(errors.StoreMissing):
+            castle.backup(self.path, self.to)
+        with self.assertRaises(errors.NotOverHub):
+            castle.backup("unix:none", self.to)
+        self.expect_left()
 
-    def test_names_that_can_not_be_written_at_the_end_are_told(self) -> None:
-        store = self.fresh(100000)
-        with mock.patch.object(os, "replace", side_effect=OSError(28, "No space left on device")):
-            out, complaint, status = carried_out(store, f"load --all {self.many()}")
-        self.assertEqual((out, status), ("", 1))
-        self.assertRegex(complaint, r"b\.store\.names: with 2 versions and 1,001 changes loaded: the file can't be written: No space left")
-        self.assertEqual((store.stat().versions, dict(store.names)), (2, {}))
+    def test_a_copy_beside_a_thread_that_writes_is_of_one_time(self) -> None:
+        store, stops = self.filled(0), threading.Event()
 
-    def test_a_file_that_is_altered_between_check_and_load_is_told(self) -> None:
-        store, path = self.fresh(100000), self.many()
-        with open(path, encoding="utf-8") as lines:
-            list(backup.Loading(store, path).check(lines))
-        self.expect_fresh(store)
-        loading = backup.Loading(store, path)
-        with open(path, encoding="utf-8") as lines, self.assertRaisesRegex(errors.DumpFault, "cut off behind line 600"):
-            list(loading.load(list(lines)[:600]))
-        self.assertEqual((loading.counts, dict(store.names)), (Counts(1, 0, 512), {}))
-
-    def test_a_dump_is_of_one_time_for_each_version_while_threads_change_it(self) -> None:
-        store = self.made(64, 100000, 100)
-        store.names["work"] = store.clone(0)
-        stops = threading.Event()
-
-        def work() -> None:
-            turn = 0
+        def write() -> None:
+            number = 0
             while not stops.is_set():
-                turn += 1
                 with store.batch() as batch:
-                    for key in ("a", "b"):
-                        batch.put("work", key, str(turn))
-                if turn % 10 == 0 and turn < 500:
-                    store.snapshot("work", f"s{turn}")
+                    for _ in range(7):
+                        batch.put(0, f"k{number:06}", "")
+                        number += 1
 
-        thread = Threads(work)
+        thread = Threads(write)
         try:
-            for _ in range(10):
-                read(carried_out(store, "dump --all")[0])  # fails where counts or names do not agree
+            for turn in range(5):
+                store.backup(self.to, overwrite=turn > 0)
+                keys = list(self.pairs(self.to))
+                self.assertEqual(keys, [b"k%06d" % number for number in range(len(keys))])
         finally:
             stops.set()
-            failed = thread.join()
-        self.assertEqual(failed, [])
+            self.assertEqual(thread.join(), [])
 
+    def test_holes_stay_holes(self) -> None:
+        self.filled().close()
+        size = os.stat(self.path).st_size
+        with open(self.path, "r+b") as file:
+            file.truncate(size + (64 << 20))
+            file.seek(size + (32 << 20))
+            file.write(b"x")
+        castle.backup(self.path, self.to)
+        found = os.stat(self.to)
+        self.assertEqual(found.st_size, size + (64 << 20))
+        self.assertLess(found.st_blocks * 512, 16 << 20)
+        self.assertEqual(self.bytes_of("to.store"), self.bytes_of("a.store"))
 
-class RandomTest(BackupCase):
-    def tree(self, chance: random.Random) -> "Tuple[Store, Model]":
-        """A random store, with what it has."""
-        store, model = self.made(8, 100000, 60), Model()
-        for _ in range(chance.randrange(4, 40)):
-            version = chance.choice([number for number in range(len(model.versions)) if number not in model.parents])
-            for _ in range(chance.randrange(8)):
-                key = self.data(chance, 1, 6)
-                if chance.random() < 0.3 and model.versions[version]:
-                    key = chance.choice(sorted(model.versions[version]))
-                    store.delete(version, key)
-                    del model.versions[version][key]
-                else:
-                    model.versions[version][key] = self.data(chance, 0, 12)
-                    store.put(version, key, model.versions[version][key])
-            parent = chance.randrange(len(model.versions))
-            self.assertEqual(store.clone(parent), len(model.versions))
-            model.versions.append(dict(model.versions[parent]))
-            model.parents.append(parent)
-        for number in range(chance.randrange(12)):
-            when = chance.choice((None, datetime.fromtimestamp(chance.randrange(4 * 10**9), timezone.utc)))
-            text = "".join(chance.choice("ab \t\n\\#é日\udcff\u2028") for _ in range(chance.randrange(9))).strip()
-            description = text.encode("utf-8", "surrogateescape").decode("utf-8", "surrogateescape")
-            model.names[chance.choice("ab_é") + str(number)] = Name(chance.randrange(len(model.versions)), when, description)
-        store.names.restore(model.names)
-        return store, model
+    def test_a_file_system_without_holes_or_links(self) -> None:
+        self.filled().close()
+        seek = os.lseek
 
-    @staticmethod
-    def data(chance: random.Random, least: int, most: int) -> bytes:
-        return bytes(chance.choice(b"\x00\t\n\r\\#+-\x7f\x80\xff ab\xc3\xa9") for _ in range(chance.randrange(least, most)))
+        def refusing(descriptor: int, place: int, how: int) -> int:
+            if how in (os.SEEK_DATA, os.SEEK_HOLE):
+                raise OSError(errno.EINVAL, "Invalid argument")
+            return seek(descriptor, place, how)
 
-    def loads(self, text: str) -> Iterator[Store]:
-        """Stores of the dump by each way there is: the shell, and the client."""
-        path = self.written("all.dump", text)
-        for way in ("shell", "client"):
-            with self.fresh(100000, 70) as other:
-                if way == "client":
-                    other.load_all(path)
-                else:
-                    self.assertEqual(carried_out(other, f"load --all {path}")[1:], ("", 0))
-                yield other
+        with mock.patch.object(os, "lseek", refusing), mock.patch.object(os, "link", side_effect=OSError(errno.EPERM, "no links")):
+            castle.backup(self.path, self.to)
+        self.assertEqual(self.bytes_of("to.store"), self.bytes_of("a.store"))
 
-    def test_what_is_loaded_is_what_was_dumped_whatever_the_tree(self) -> None:
-        for seed in range(12):
-            with self.subTest(seed=seed):
-                store, model = self.tree(random.Random(seed))
-                text, complaint, status = carried_out(store, "dump --all")
-                self.assertEqual((complaint, status), ("", 0))
-                said = read(text)
-                self.assertEqual((said.versions, said.parents, said.names), (model.versions, model.parents, model.names))
-                for other in self.loads(text):
-                    model.expect(self, other)
-                    self.assertEqual(carried_out(other, "dump --all")[0].partition("\n")[2], text.partition("\n")[2])
+    def test_a_write_that_is_short_or_fails(self) -> None:
+        self.filled().close()
+        write = os.pwrite
+        with mock.patch.object(os, "pwrite", lambda descriptor, data, place: write(descriptor, data[:1000], place)):
+            castle.backup(self.path, self.to)
+        self.assertEqual(self.bytes_of("to.store"), self.bytes_of("a.store"))
+        os.remove(self.to)
+        os.remove(self.to + ".names")
+        for name in ("pwrite", "fsync", "ftruncate", "mkdir", "replace"):
+            failing = mock.patch.object(os, name, side_effect=OSError(errno.ENOSPC, "No space left on device"))
+            with failing, self.assertRaisesRegex(errors.CastleError, "to.store: the backup can't be made: No space left"):
+                castle.backup(self.path, self.to)
+            self.expect_left()
+        self.opened()
+
+    def test_a_new_name_is_synced(self) -> None:
+        self.filled().close()
+        calls: List[str] = []
+        sync, link = os.fsync, os.link
+
+        def synced(descriptor: int) -> None:
+            calls.append(f"sync {os.path.basename(os.readlink(f'/proc/self/fd/{descriptor}'))}")
+            sync(descriptor)
+
+        def linked(old: str, new: str) -> None:
+            calls.append(f"link {os.path.basename(new)}")
+            link(old, new)
+
+        with mock.patch.object(os, "fsync", synced), mock.patch.object(os, "link", linked):
+            castle.backup(self.path, self.to)
+        self.assertEqual(calls[-4:], ["sync made.store", "sync made.names", "link to.store", f"sync {os.path.basename(self.folder)}"])
+
+    def test_an_interrupt_leaves_nothing(self) -> None:
+        store = self.filled()
+        for stop in ("bytes copied", "checking the copy"):
+
+            def tell(what: str, done: int, total: Optional[int]) -> None:
+                if what == stop:
+                    raise KeyboardInterrupt
+
+            with self.assertRaises(KeyboardInterrupt):
+                store.backup(self.to, progress=tell)
+            self.expect_left()
+        store.put(0, "a", "1")
+        store.backup(self.to)
+
+    def test_a_command_amid_the_copy_is_refused(self) -> None:
+        store = self.filled()
+
+        def put() -> None:
+            with self.assertRaises(errors.Busy):
+                store.put(0, "amid", "1")
+            with self.assertRaises(errors.Busy), store.batch() as batch:
+                batch.put(0, "amid", "1")
+            with self.assertRaises(errors.Busy):
                 store.close()
-                os.remove(self.path)
+            came.append("put")
 
-    def test_a_line_of_a_random_dump_that_is_lost_is_noticed(self) -> None:
-        chance = random.Random(7)
-        store, _ = self.tree(chance)
-        lines = carried_out(store, "dump --all")[0].splitlines(keepends=True)
-        other = self.fresh(100000, 70)
-        for _ in range(60):
-            lost = chance.randrange(len(lines))
-            with self.assertRaises(errors.DumpFault):
-                other.load_all(self.written("x.dump", "".join(lines[:lost] + lines[lost + 1:])))
-        self.expect_fresh(other)
+        came: List[str] = []
+        on_signal(self, lambda *_: put())
+        store.backup(self.to, progress=lambda what, *_: signal.raise_signal(signal.SIGALRM) if what == "bytes copied" else None)
+        self.assertTrue(came)
+        store.put(0, "behind", "1")
+        self.assertEqual(self.bytes_of("to.store")[:4096], self.bytes_of("a.store")[:4096])
+        self.assertEqual(set(self.pairs(self.to)) & {b"amid", b"behind"}, set())
+
+    def test_permissions_and_another_user(self) -> None:
+        self.filled().close()
+        os.chmod(self.path, 0o604)
+        os.chmod(self.folder, 0o777)
+        before = os.umask(0)
+        try:
+            modes: List[int] = []
+            castle.backup(self.path, self.to, progress=lambda *_: modes.extend(self.hidden_modes()))
+        finally:
+            os.umask(before)
+        self.assertEqual(os.stat(self.to).st_mode & 0o777, 0o604)
+        self.assertEqual(set(modes), {0o700})
+        if os.geteuid() == 0:
+            with unprivileged():
+                castle.backup(self.path, self.to + "2")
+            self.assertEqual(os.stat(self.to + "2").st_uid, NOBODY)
+            os.chmod(self.path, 0o600)
+            with unprivileged(), self.assertRaises(errors.CastleError):
+                castle.backup(self.path, self.to + "3")
+
+    def hidden_modes(self) -> List[int]:
+        """The permissions of folders in which something is made."""
+        found = [name for name in os.listdir(self.folder) if name.startswith(".castle-")]
+        return [os.stat(os.path.join(self.folder, name)).st_mode & 0o777 for name in found]
+
+
+class ShellTest(BackupCase):
+    def test_one_command_and_a_script(self) -> None:
+        store = self.filled()
+        self.assertEqual(carried_out(store, "backup to.store2 @0")[2], 1)
+        self.assertEqual(carried_out(store, f"backup {self.to}", "put a 1"), (f"wrote {self.to}\ndone\n", "", 0))
+        out, said, status = self.ran(self.path, "backup", "b.store")
+        self.assertEqual((out, status), ("", 2))
+        self.assertRegex(said, "the store is open")
+        store.close()
+        self.assertEqual(self.ran(self.path, "backup", "b.store"), ("wrote b.store\n", "", 0))
+        self.assertEqual(self.ran("--json", self.path, "backup", "--overwrite", "b.store"), ('{"wrote": "b.store"}\n', "", 0))
+        out, said, status = self.ran(self.path, "backup", "b.store")
+        self.assertEqual((out, status), ("", 2))
+        self.assertRegex(said, "b.store: a castle store is there already. Take another path, or ask to overwrite it")
+
+    def test_at_a_prompt(self) -> None:
+        self.filled().close()
+        session = Session(self.folder, self.path)
+        self.addCleanup(session.kill)
+        session.until("> $")
+        self.assertEqual(session.type("backup to.store")[0], "wrote to.store")
+        self.assertEqual(session.type("backup to.store")[0], "error: to.store: a castle store is there already")
+        session.type("quit", None)
+        self.assertEqual(session.close(), 0)
+        self.assertEqual(len(self.pairs(self.to)), 20)
+
+    def test_a_kill_leaves_no_store_under_its_name(self) -> None:
+        self.filled().close()
+        code = "castle.backup(sys.argv[1], sys.argv[2], progress=lambda *_: os.kill(os.getpid(), 9))"
+        self.assertEqual(self.python(code, self.to).returncode, -signal.SIGKILL)
+        self.assertFalse(os.path.exists(self.to))
+        castle.backup(self.path, self.to)
+
+
+class ProgressTest(unittest.TestCase):
+    class Terminal(io.StringIO):
+        def isatty(self) -> bool:
+            return True
+
+    def test_a_line_is_shown_at_a_terminal_once_work_takes_long(self) -> None:
+        out, now = self.Terminal(), [0.0]
+        line = Line(out, lambda: now[0])
+        for at, text in ((0.4, "early"), (0.5, "half"), (0.9, "soon"), (1.0, "one"), (1.2, "no")):
+            now[0] = at
+            line.show(lambda: text)
+        self.assertEqual(out.getvalue(), "\rhalf\rone ")
+        line.clear()
+        self.assertEqual(out.getvalue(), "\rhalf\rone \r    \r")
+
+    def test_nothing_is_shown_where_there_is_no_terminal(self) -> None:
+        out, now = io.StringIO(), [0.0]
+        line = Line(out, lambda: now[0])
+        now[0] = 9.0
+        line.show(lambda: "half")
+        line.clear()
+        self.assertEqual(out.getvalue(), "")
+
+    def test_commands_tell_how_far_they_are(self) -> None:
+        with tempfile.TemporaryDirectory() as folder:
+            path, to = os.path.join(folder, "a.store"), os.path.join(folder, "b.store")
+            Store.format(path, 8, 1000, 10)
+            with Store(path) as store, store.batch() as batch:
+                batch.update(0, [(b"%d" % number, b"") for number in range(30)])
+            for words, told in ((["backup", to], ["bytes copied: [0-9,]+ of [0-9,]+", "checking the copy"]),
+                                (["salvage", to + "2"], ["checking the store", "versions made: 0 of 1|versions made", "checking the new store"])):
+                out = self.Terminal()
+                with mock.patch.object(Line, "EVERY", 0), contextlib.redirect_stderr(out), contextlib.redirect_stdout(io.StringIO()):
+                    self.assertEqual(keeping.alone(COMMANDS[words[0]], path, words, False), 0)
+                for what in told:
+                    self.assertRegex(out.getvalue(), rf"\r({what}) *\r")
+            out = self.Terminal()
+            with Store(path) as store, mock.patch.object(Line, "EVERY", 0), contextlib.redirect_stderr(out):
+                for line, what in (("dump 0", "lines written"), ("dump --all", "lines written"), ("dump --frames 0", "pairs written: 30")):
+                    out.truncate(0)
+                    Shell(store, io.StringIO()).run(f"{line} {to}3")
+                    self.assertIn(what, out.getvalue())
+
+    def test_words(self) -> None:
+        for wanted, words in (("bytes copied: 1,000 of 2,000", ("bytes copied", 1000, 2000)), ("checking the copy", ("checking the copy", 0, None)),
+                              ("pairs written: 512", ("pairs written", 512, None))):
+            self.assertEqual(progress.told(*words), wanted)
+
+
+if __name__ == "__main__":
+    unittest.main()

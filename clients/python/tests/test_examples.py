@@ -9,7 +9,7 @@ import unittest
 from typing import Dict, List, Tuple
 
 from hubs import HubCase, Reply
-from support import DEADLINE, PACKAGE, TOP, StoreCase
+from support import DEADLINE, PACKAGE, TOP, StoreCase, has
 
 from castle import errors, frames
 from castle.process import find_program
@@ -43,6 +43,13 @@ best: sublet a room
   food: 600 -> 650
   rent: 1200 -> 700
 """,
+    "replica.py": """\
+the copy: pears = 3, plums = 20
+refused: put plums at version 0
+the copy lacks 3 of 5 changes
+the copy: figs = 7, pears = 0, plums = 20
+before the last change: pears = 0, plums = 20
+""",
     "shelf.py": """\
 version 0: ann, ports; ann is in users; ports [80, 443]
 version 1: ann; ann is in admins, users; ports None
@@ -54,6 +61,9 @@ class ExamplesTest(unittest.TestCase):
     def test_each_example_prints_what_it_should(self) -> None:
         self.assertEqual({path.name for path in (TOP / "examples").glob("*.py")}, set(PRINTED))
         for name, printed in PRINTED.items():
+            if name == "replica.py" and not has("lead"):
+                print("client: skipped: examples/replica.py: the program has no word lead yet", flush=True)
+                continue
             with self.subTest(name):
                 environment = {**os.environ, "PYTHONPATH": PACKAGE}
                 ran = subprocess.run([sys.executable, "-W", "error", str(TOP / "examples" / name)], capture_output=True,

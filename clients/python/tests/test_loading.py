@@ -89,7 +89,7 @@ class FormTest(StoreCase):
 
     def test_one_form_is_given_at_most(self) -> None:
         self.made().close()
-        self.assertIn("a file is CSV or lines of JSON, and not both", self.shell("load --csv --json-lines a\n")[1])
+        self.assertIn("a file is of one form, and not --csv and --json-lines", self.shell("load --csv --json-lines a\n")[1])
         self.assertIn("none.csv: the file can't be read: No such file", self.shell("load --csv none.csv\n")[1])
 
 

@@ -69,12 +69,12 @@ class ManualTest(unittest.TestCase):
     def test_the_manual_pages_are_lawful(self) -> None:
         if not shutil.which("mandoc"):
             self.skipTest("mandoc is not here")
-        for name in ("castle.1", "castle-shell.1", "castle-hub.1"):
+        for name in ("castle.1", "castle-shell.1", "castle-hub.1", "castle-replicate.1"):
             ran = subprocess.run(["mandoc", "-Tlint", "-Wwarning", str(TOP / "man" / name)], capture_output=True)
             self.assertEqual((ran.stdout, ran.returncode), (b"", 0))
 
-    def test_the_manual_has_every_command_and_status(self) -> None:
-        from castle import hub
+    def test_the_manual_and_completion_have_every_command_and_status(self) -> None:
+        from castle import hub, replicate
         from castle.errors import ENDS
         from castle.shell import COMMANDS
         shell = (TOP / "man" / "castle-shell.1").read_text(encoding="utf-8")
@@ -82,6 +82,14 @@ class ManualTest(unittest.TestCase):
             self.assertRegex(shell, rf"(?m)^\.It Ic {command}\b")
         options = re.findall(r"(?m)^\.It Fl -(\w+)", (TOP / "man" / "castle-hub.1").read_text(encoding="utf-8"))
         self.assertEqual({*options, "help", "version"}, set(re.findall(r"--(\w+)", hub.parser().format_help())))
+        offered = (TOP / "completion" / "castle.bash").read_text(encoding="utf-8")
+        replicas = (TOP / "man" / "castle-replicate.1").read_text(encoding="utf-8")
+        for job in re.findall(r"[{,](\w+)(?=[,}])", replicate.parser().format_help()) or re.findall(r"(?m)^    (\w+) ", replicate.parser().format_help()):
+            self.assertRegex(replicas, rf"(?m)^\.It Cm {job}\b")
+            self.assertIn(job, offered)
+        self.assertLessEqual({*COMMANDS} - {"quit"}, set(re.findall(r"\w+", offered)))
+        taken = {option for command in COMMANDS.values() for option in command.options}
+        self.assertLessEqual(taken, set(re.findall(r"-[\w-]+", offered)))
         program = (TOP / "man" / "castle.1").read_text(encoding="utf-8")
         for status in (0, *ENDS):
             self.assertRegex(program, rf"(?m)^\.It {status}\b")

@@ -33,12 +33,12 @@ number_too_great w least most word r e numeral parses failed few =
           ∙ ap (λ (b : Bool). cond b (Some value) None) (and_false (is_numeral word)))
     ]
 
--- no job has another number of words than two, four or five
-pub no_subcommand : (words : List (List ℕ)) → length words ≢ 2 → length words ≢ 4 → length words ≢ 5 → subcommand_in words ≡ None
-no_subcommand [] two four five = refl
-no_subcommand (a ∷ []) two four five = refl
-no_subcommand (a ∷ b ∷ []) two four five = absurd (two refl)
-no_subcommand (a ∷ b ∷ c ∷ []) two four five = refl
-no_subcommand (a ∷ b ∷ c ∷ d ∷ []) two four five = absurd (four refl)
-no_subcommand (a ∷ b ∷ c ∷ d ∷ e ∷ []) two four five = absurd (five refl)
-no_subcommand (a ∷ b ∷ c ∷ d ∷ e ∷ f ∷ rest) two four five = refl
+-- no job has another number of words than two, three, four or five
+pub no_subcommand : (words : List (List ℕ)) → length words ≢ 2 → length words ≢ 3 → length words ≢ 4 → length words ≢ 5 → subcommand_in words ≡ None
+no_subcommand [] two three four five = refl
+no_subcommand (a ∷ []) two three four five = refl
+no_subcommand (a ∷ b ∷ []) two three four five = absurd (two refl)
+no_subcommand (a ∷ b ∷ c ∷ []) two three four five = absurd (three refl)
+no_subcommand (a ∷ b ∷ c ∷ d ∷ []) two three four five = absurd (four refl)
+no_subcommand (a ∷ b ∷ c ∷ d ∷ e ∷ []) two three four five = absurd (five refl)
+no_subcommand (a ∷ b ∷ c ∷ d ∷ e ∷ f ∷ rest) two three four five = refl

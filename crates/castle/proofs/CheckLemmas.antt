@@ -16,8 +16,8 @@ use Rattle.def_recovery.specs.Opening.{recover}
 use Rattle.def_check.specs.Checked.{checked, check_head, read_state}
 use Rattle.strat_report.specs.Checking.{check_text, end_of_check, EndsCheck, WritesCheck}
 use Rattle.strat_report.specs.Reporting.{AppendsFront, ReportHasCause}
-use Rattle.strat_serve.specs.Session.{EndHasCause}
-use Rattle.strat_serve.specs.World.{world}
+use Rattle.strat_loop.specs.Session.{EndHasCause}
+use Rattle.strat_loop.specs.World.{world}
 use Rattle.castle.proofs.SummaryLemmas.{no_slot}
 
 -- the ends of a check
@@ -30,6 +30,7 @@ check_ends ended.Sink ends = inr (inr (inr (inl refl)))
 check_ends ended.NoMemory ends = inr (inr (inr (inr (inl refl))))
 check_ends (ended.Damaged block) ends = inr (inr (inr (inr (inr (inl refl)))))
 check_ends ended.Unsound ends = inr (inr (inr (inr (inr (inr refl)))))
+check_ends ended.UnknownVersion ends = absurd ends
 check_ends ended.Usage ends = absurd ends
 check_ends ended.FrameTooLong ends = absurd ends
 check_ends ended.Truncated ends = absurd ends

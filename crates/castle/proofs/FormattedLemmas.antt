@@ -5,8 +5,8 @@ use Rattle.strat_model.specs.declared.ended.Ended.{Ended}
 use Rattle.strat_model.specs.declared.ended.Ended.TheVariants as ended
 use Rattle.strat_model.specs.Ended.{status_of}
 use Rattle.castle.specs.Outcomes.{SendsLine}
-use Rattle.strat_serve.specs.Session.{EndHasCause}
-use Rattle.strat_serve.specs.World.{World}
+use Rattle.strat_loop.specs.Session.{EndHasCause}
+use Rattle.strat_loop.specs.World.{World}
 
 -- where neither the sink nor the disk failed it is done, or found no memory
 pub formatted_ends : (how : Ended) (line : List ℕ) (before now : World) → SendsLine how before.held now.held line → EndHasCause how before now
@@ -23,6 +23,7 @@ formatted_ends ended.Source line a b sends cause sink disk = absurd sends
 formatted_ends (ended.Damaged block) line a b sends cause sink disk = absurd sends
 formatted_ends ended.Budget line a b sends cause sink disk = absurd sends
 formatted_ends ended.Unsound line a b sends cause sink disk = absurd sends
+formatted_ends ended.UnknownVersion line a b sends cause sink disk = absurd sends
 
 -- a run that formats found no memory where its status is one of these
 pub formatting_gave_up : (how : Ended) (line : List ℕ) (k0 k1 : Option (List ℕ)) → SendsLine how k0 k1 line → (status_of how ≡ 2) ⊎ (status_of how ≡ 8) ⊎ (status_of how ≡ 9) → how ≡ ended.NoMemory
@@ -38,3 +39,4 @@ formatting_gave_up ended.Source line k0 k1 sends is = absurd sends
 formatting_gave_up (ended.Damaged block) line k0 k1 sends is = absurd sends
 formatting_gave_up ended.Budget line k0 k1 sends is = absurd sends
 formatting_gave_up ended.Unsound line k0 k1 sends is = absurd sends
+formatting_gave_up ended.UnknownVersion line k0 k1 sends is = absurd sends

@@ -19,9 +19,10 @@ use Rattle.def_recovery.specs.Opening.{recover}
 use Rattle.def_publish.specs.Standing.{ShowsTable}
 use Rattle.strat_open.specs.Following.{FollowsFrom, LeavesOpening}
 use Rattle.strat_memory.specs.Held.{head_held}
-use Rattle.strat_serve.specs.Session.{Took, AreNextIn, GaveUp, Served, RunOutcome, RefusesFor, EndsFor}
+use Rattle.strat_loop.specs.Session.{Took, AreNextIn, GaveUp, RefusesFor, EndsFor}
+use Rattle.strat_serve.specs.Serving.{Served, RunOutcome}
 use Rattle.strat_serve.specs.Tables.{AnswersAsTable, AnswersNothing, AnswersUntil, EndsAtTables, GoesThroughTables, KeepsSpace, begins_at}
-use Rattle.strat_serve.specs.World.{Streams, beside}
+use Rattle.strat_loop.specs.World.{Streams, beside}
 use Rattle.strat_serve.proofs.TableLemmas.{answers_as_table, goes_through, keeps_space, no_device_at_end}
 use Rattle.castle.specs.Headline.{HasNotBegun}
 use Rattle.castle.specs.Outcomes.{EndsAsInput}
@@ -40,7 +41,8 @@ end_of n =
     if n == 7 then ended.Sink else
     if n == 8 then ended.NoMemory else
     if n == 10 then ended.Budget else
-    ended.Unsound
+    if n == 11 then ended.Unsound else
+    ended.UnknownVersion
 
 end_is : (how : Ended) → status_of how ≢ 9 → how ≡ end_of (status_of how)
 end_is ended.Done other = refl
@@ -55,6 +57,7 @@ end_is ended.NoMemory other = refl
 end_is (ended.Damaged block) other = absurd (other refl)
 end_is ended.Budget other = refl
 end_is ended.Unsound other = refl
+end_is ended.UnknownVersion other = refl
 
 -- how a run ended that has a status, but for that of a damaged block
 pub ended_by : (status n : ℕ) (how : Ended) → status ≡ status_of how → status ≡ n → n ≢ 9 → how ≡ end_of n
@@ -77,6 +80,7 @@ damaged_by status how is nine = go how (sym is ∙ nine)
     go ended.NoMemory same = absurd (omega (arith, same))
     go ended.Budget same = absurd (omega (arith, same))
     go ended.Unsound same = absurd (omega (arith, same))
+    go ended.UnknownVersion same = absurd (omega (arith, same))
 
 -- another status is another end
 pub other_by : (status n : ℕ) (how : Ended) (e : Ended) → status ≡ status_of how → status_of e ≡ n → status ≢ n → how ≢ e
@@ -115,7 +119,7 @@ module _ (x y : Streams) (v w : DiskView) (f : Image) (t : Table) (shows : Shows
     ended = refl;
     run = nothing;
     is = record { run = refl; interrupted = tt };
-    region = inl refl;
+    region = (inr refl, tt);
     broken = tt;
     taken = [];
     took = took_nothing x.left y.left gave.source;
@@ -172,6 +176,7 @@ module _ (x y : Streams) (v w : DiskView) (f : Image) (t : Table) (shows : Shows
   gave_as_table ended.Sink gave refuses = absurd gave.ends
   gave_as_table ended.Budget gave refuses = absurd gave.ends
   gave_as_table ended.Unsound gave refuses = absurd gave.ends
+  gave_as_table ended.UnknownVersion gave refuses = absurd gave.ends
 
   served_as_table : (how : Ended) → Served 1099511627776 how (beside x v) (beside y w) → AsTable how
   served_as_table how served =
@@ -203,16 +208,17 @@ module _ (x y : Streams) (v w : DiskView) (f : Image) (t : Table) (shows : Shows
   pub trail_by : (b : With status) × (GoesThroughTables b.run b.continued.end f v w ⊎ HasNotBegun status b.run v w)
   trail_by = subst (λ (n : ℕ). (b : With n) × (GoesThroughTables b.run b.continued.end f v w ⊎ HasNotBegun n b.run v w)) (sym is) (a.answers, a.trail)
 
--- after a run over a disk that shows a table recovery finds no more changes in the journal than one region takes, unless
--- the device or the sink failed, or memory ran out before the store was open
+-- after a run over a disk that shows a table recovery finds no more changes in the journal than one region takes, or as many
+-- as before, unless the device or the sink failed, or memory ran out before the store was open
 module _ (x y : Streams) (v w : DiskView) (f : Image) (t : Table) (shows : ShowsTable f t) (exposed : Exposes v f) where
   abbrev FindsFew : Image → Type 0
-  FindsFew c = (head : Head) × (recover c ≡ Ok (Some head)) × (length head.journal ≤ head.sb.mem)
+  FindsFew c = (head : Head) × (recover c ≡ Ok (Some head)) × ((length head.journal ≤ head.sb.mem) ⊎ (length head.journal ≡ length shows.state.journal))
 
   pub finds_few : (how : Ended) → RunOutcome 1099511627776 how (beside x v) (beside y w) → RefusesFor how v w → how ≢ ended.Device → how ≢ ended.Sink → how ≢ ended.NoMemory → (c : Image) → Images w c → FindsFew c
   finds_few how (inr served) refuses device sink memory c image =
       let found = served.left (no_device_at_end how 1099511627776 served.session y.left served.ends device sink) f exposed in
-      (head_held found.0, found.3 t shows c image, found.1.log.few)
+      let there = found.3 t shows in
+      (head_held found.0, there.0 c image, there.1)
   finds_few how (inl gave) refuses device sink memory c image = go how gave refuses device memory
     where
       go : (e : Ended) → GaveUp e (beside x v) (beside y w) → RefusesFor e v w → e ≢ ended.Device → e ≢ ended.NoMemory → FindsFew c
@@ -232,6 +238,7 @@ module _ (x y : Streams) (v w : DiskView) (f : Image) (t : Table) (shows : Shows
       go ended.Sink gave refuses device memory = absurd gave.ends
       go ended.Budget gave refuses device memory = absurd gave.ends
       go ended.Unsound gave refuses device memory = absurd gave.ends
+      go ended.UnknownVersion gave refuses device memory = absurd gave.ends
 
 -- the ends of a run over a store, one by one
 pub found_flat : (status : ℕ) → EndsAsInput status ⊎ (status ≡ 9) → (status ≡ 0) ⊎ (status ≡ 3) ⊎ (status ≡ 4) ⊎ (status ≡ 8) ⊎ (status ≡ 10) ⊎ (status ≡ 9)

@@ -9,3 +9,4 @@ pub mod ArgumentLemmas
 pub mod HeadlineLemmas
 pub mod AnyImageLemmas
 pub mod OutcomeLemmas
+pub mod ExportLemmas

@@ -22,9 +22,9 @@ use Rattle.strat_report.specs.Reporting.{AppendsFront, WritesReport, levels_text
 use Rattle.def_publish.specs.Standing.{ShowsTable}
 use Rattle.def_state.specs.State.{State, fresh_state, stored, updates_of}
 use Rattle.strat_open.specs.Format.{IsBlank, IsNewStore, IsNoneOrNew}
-use Rattle.strat_serve.specs.Session.{SendsPrefix, EndHasCause}
+use Rattle.strat_loop.specs.Session.{SendsPrefix, EndHasCause}
 use Rattle.strat_serve.specs.Tables.{BreaksForFault}
-use Rattle.strat_serve.specs.World.{Streams, beside}
+use Rattle.strat_loop.specs.World.{Streams, beside}
 use Rattle.strat_serve.proofs.TableLemmas.{at_some, thrifty_of}
 use Rattle.castle.specs.Headline.{GoesThroughNewTables, IsNoneOrThrifty}
 use Rattle.castle.specs.Outcomes.{SendsLine, Formats}
@@ -61,6 +61,7 @@ format_ends ended.Source h k line sends = absurd sends
 format_ends (ended.Damaged block) h k line sends = absurd sends
 format_ends ended.Budget h k line sends = absurd sends
 format_ends ended.Unsound h k line sends = absurd sends
+format_ends ended.UnknownVersion h k line sends = absurd sends
 
 -- and of one that reports
 report_ends : (how : Ended) (v : DiskView) (h k : Option (List ℕ)) → WritesReport levels_text v how h k
@@ -77,6 +78,7 @@ report_ends ended.Truncated v h k writes = absurd writes
 report_ends ended.Source v h k writes = absurd writes
 report_ends ended.Budget v h k writes = absurd writes
 report_ends ended.Unsound v h k writes = absurd writes
+report_ends ended.UnknownVersion v h k writes = absurd writes
 
 -- and of one of a workload
 work_ends : (how : Ended) → EndsWorkload how → (status_of how ≡ 0) ⊎ (status_of how ≡ 2) ⊎ (status_of how ≡ 5) ⊎ (status_of how ≡ 7) ⊎ (status_of how ≡ 8) ⊎ (status_of how ≡ 9)
@@ -92,6 +94,7 @@ work_ends ended.Truncated ends = absurd ends
 work_ends ended.Source ends = absurd ends
 work_ends ended.Budget ends = absurd ends
 work_ends ended.Unsound ends = absurd ends
+work_ends ended.UnknownVersion ends = absurd ends
 
 exposed_ends : (how : Ended) → EndsOnExposed how → (status_of how ≡ 0) ⊎ (status_of how ≡ 5) ⊎ (status_of how ≡ 7) ⊎ (status_of how ≡ 8)
 exposed_ends ended.Done ends = inl refl
@@ -106,6 +109,7 @@ exposed_ends ended.Truncated ends = absurd ends
 exposed_ends ended.Source ends = absurd ends
 exposed_ends ended.Budget ends = absurd ends
 exposed_ends ended.Unsound ends = absurd ends
+exposed_ends ended.UnknownVersion ends = absurd ends
 
 -- what a run of a workload sent that was not done, and whose sink did not fail
 work_same : (how : Ended) (seed count : ℕ) (w : DiskView) (h k : Option (List ℕ)) → SendsSummary how seed count w h k → status_of how ≢ 0 → status_of how ≢ 7 → k ≡ h
@@ -121,6 +125,7 @@ work_same ended.Truncated seed count w h k sends done cut = sends
 work_same ended.Source seed count w h k sends done cut = sends
 work_same ended.Budget seed count w h k sends done cut = sends
 work_same ended.Unsound seed count w h k sends done cut = sends
+work_same ended.UnknownVersion seed count w h k sends done cut = sends
 
 -- which counts rose over a run that is none of the source's failing
 pub causes : (status : ℕ) (how : Ended) → status ≡ status_of how → (x y : Streams) (v w : DiskView) → EndHasCause how (beside x v) (beside y w) → status ≢ 6

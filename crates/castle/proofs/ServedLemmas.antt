@@ -13,7 +13,7 @@ use Rattle.strat_model.specs.declared.ended.Ended.TheVariants as ended
 use Rattle.strat_model.specs.declared.replies.Refusal.TheVariants as why
 use Rattle.strat_model.specs.Answer.{refusal}
 use Rattle.strat_model.specs.Batch.{Continuation, tables_behind, tables_continued}
-use Rattle.strat_model.specs.Run.{Position, Response, Exchange, Interruption, IsTranscript, Transcript, UsesOneRegion, bodies_of, of_interruption}
+use Rattle.strat_model.specs.Run.{Position, Response, Exchange, Interruption, IsTranscript, Transcript, UsesOneRegion, bodies_of, of_interruption, positions_of}
 use Rattle.strat_model.specs.Stream.{Splits, Whole, Rest, ending_of}
 use Rattle.strat_model.specs.Table.{Table, fresh, bare}
 use Rattle.def_recovery.specs.Head.{Head}
@@ -24,11 +24,15 @@ use Rattle.strat_open.specs.Following.{FollowsFrom, IsUnchanged, LeavesOpening}
 use Rattle.strat_open.specs.Format.{IsBlank, IsNewDisk, IsNewStore, IsNoneOrNew, head_for}
 use Rattle.strat_serve.specs.Generated.{workload_bytes, workload_bodies}
 use Rattle.strat_model.proofs.BatchLemmas.{over_nothing}
-use Rattle.strat_serve.specs.Session.{Took, AreNextIn, IsAtEnd, Session, EndsFor, FollowsRun, GaveUp, Served, RunOutcome, RefusesFor, EndHasCause}
-use Rattle.strat_serve.specs.World.{World, world}
+use Rattle.strat_loop.specs.Session.{Took, AreNextIn, IsAtEnd, Session, EndsFor, GaveUp, RefusesFor, EndHasCause}
+use Rattle.strat_serve.specs.Serving.{FollowsRun, Served, RunOutcome}
+use Rattle.strat_loop.specs.World.{World, world}
+use Rattle.std.specs.List.{AllByRecursion}
+use Rattle.strat_loop.specs.Spoken.{EmptiesFullRegion}
+use Rattle.def_slice.specs.Filling.{IsFillFrom}
 use Rattle.strat_serve.proofs.StreamedLemmas.{few_bytes, front_of, all_of_it}
 use Rattle.castle.specs.Working.{EndsWorkload, EndsAfterAll, workload_start, FollowsNew, CarriesOutWorkload, LeavesWorkload}
-use Rattle.castle.proofs.CompleteLemmas.{finds_none, never_damaged}
+use Rattle.castle.proofs.CompleteLemmas.{finds_none, never_damaged, of_run}
 
 -- what is taken of the front of a list
 take_less : {A : Type 0} (n m : ℕ) (xs : List A) → n ≤ m → take n (take m xs) ≡ take n xs
@@ -50,6 +54,18 @@ next_of_front all bodies run more front next =
     let some : List (List ℕ) = bodies_of run ++ map (λ (x : Exchange). x.body) more in
     let len : length some ≡ length (bodies_of run) + length more = length-append (bodies_of run) (map (λ (x : Exchange). x.body) more) ∙ ap (λ (n : ℕ). length (bodies_of run) + n) (length-map more (λ (x : Exchange). x.body)) in
     ap (λ (n : ℕ). take n all) (sym len) ∙ front_of_front all bodies some front (ap (λ (n : ℕ). take n bodies) len ∙ next)
+
+-- a run that begins with no more changes in the journal than a region takes uses one region at a time
+uses_one : (mem : ℕ) (start : Position) (run : Transcript) → start.fill ≤ mem → EmptiesFullRegion mem start run → UsesOneRegion mem run
+uses_one mem start run few empties = inr (each (positions_of run) empties)
+  where
+    low : (n : ℕ) → IsFillFrom mem start.fill n → n ≤ mem
+    low n (inl is) = is
+    low n (inr same) = omega (arith, few, same)
+
+    each : (ps : List Position) → AllByRecursion (λ (p : Position). IsFillFrom mem start.fill p.fill) ps → AllByRecursion (λ (p : Position). p.fill ≤ mem) ps
+    each [] all = tt
+    each (p ∷ ps) all = (low p.fill all.0, each ps all.1)
 
 some_is : {A : Type 0} (x y : A) → ◌≡◌ {A = Option A} (Some x) (Some y) → x ≡ y
 some_is x y e = cc
@@ -94,6 +110,7 @@ module _ (seed count : ℕ) (few : count < 2 ^ 32) where
   served_end ended.NotAStore b n left s0 s1 k0 k1 cause served = absurd served.ends
   served_end ended.NoMemory b n left s0 s1 k0 k1 cause served = absurd served.ends
   served_end ended.Unsound b n left s0 s1 k0 k1 cause served = absurd served.ends
+  served_end ended.UnknownVersion b n left s0 s1 k0 k1 cause served = absurd served.ends
 
   gave_up_end : (how : Ended) (before now : World) → GaveUp how before now → EndsWorkload how × (how ≢ ended.Sink)
   gave_up_end ended.NotAStore b n gave = (tt, λ is. let f : ended.NotAStore ≡ ended.Sink = is in cc)
@@ -108,6 +125,7 @@ module _ (seed count : ℕ) (few : count < 2 ^ 32) where
   gave_up_end ended.Sink b n gave = absurd gave.ends
   gave_up_end ended.Budget b n gave = absurd gave.ends
   gave_up_end ended.Unsound b n gave = absurd gave.ends
+  gave_up_end ended.UnknownVersion b n gave = absurd gave.ends
 
   pub workload_end : (how : Ended) (before now : World) → before.left ≡ Some (workload_bytes seed count) → before.source_faults ≡ 0 → now.source_faults ≡ 0 → before.sink_faults ≡ 0 → now.sink_faults ≡ 0
       → EndHasCause how before now → RunOutcome 1099511627776 how before now → EndsWorkload how × (how ≢ ended.Sink)
@@ -232,6 +250,7 @@ module _ (d0 d1 d2 : DiskView) (later : Passes d0 d1) (passes : Passes d1 d2)
     gave_up_leaves ended.Sink gave refuses = absurd gave.ends
     gave_up_leaves ended.Budget gave refuses = absurd gave.ends
     gave_up_leaves ended.Unsound gave refuses = absurd gave.ends
+    gave_up_leaves ended.UnknownVersion gave refuses = absurd gave.ends
 
     module _ (how : Ended) (served : Served 1099511627776 how before now) where
       abbrev s : Session
@@ -291,7 +310,7 @@ module _ (d0 d1 d2 : DiskView) (later : Passes d0 d1) (passes : Passes d1 d2)
           record {
             transcript = run.transcript;
             run = subst (λ (m : ℕ). IsTranscript m workload_start run.transcript) mem_is (subst (λ (p : Position). IsTranscript run.mem p run.transcript) start_is run.is);
-            region = subst (λ (m : ℕ). UsesOneRegion m run.transcript) mem_is run.region;
+            region = subst (λ (m : ℕ). UsesOneRegion m run.transcript) mem_is (uses_one run.mem run.start run.transcript (omega (arith, fill_is)) run.region);
             front = front_of_front (workload_bodies seed count) s.bodies (bodies_of run.transcript) (front_of seed count s.taken gave.rest s.bodies s.rest few gave.parts served.is.splits).0 run.front;
             all = λ is. (bodies_are (done is), unbroken (done is));
             continued = continues.0;
@@ -305,7 +324,7 @@ module _ (d0 d1 d2 : DiskView) (later : Passes d0 d1) (passes : Passes d1 d2)
     served_leaves ended.Done ends no_sink served = record { ends = tt; made = inr (carried ended.Done served (λ is. served.ends) (inr served.ends)) }
     served_leaves ended.Device ends no_sink served = record { ends = tt; made = inr (carried ended.Device served (λ is. absurd is) (inl refl)) }
     served_leaves (ended.Damaged block) ends no_sink served =
-        absurd (never_damaged 1099511627776 (ended.Damaged block) before now content (fresh 16777216 16384) (inr served) disk.rest.exposed disk.new.shows block refl)
+        absurd (never_damaged 1099511627776 (ended.Damaged block) before now content (fresh 16777216 16384) (of_run 1099511627776 (ended.Damaged block) before now (inr served)) disk.rest.exposed disk.new.shows block refl)
     served_leaves ended.Sink ends no_sink served = absurd (no_sink refl)
     served_leaves ended.NotAStore ends no_sink served = absurd served.ends
     served_leaves ended.NoMemory ends no_sink served = absurd served.ends
@@ -315,6 +334,7 @@ module _ (d0 d1 d2 : DiskView) (later : Passes d0 d1) (passes : Passes d1 d2)
     served_leaves ended.Source ends no_sink served = absurd ends
     served_leaves ended.Budget ends no_sink served = absurd ends
     served_leaves ended.Unsound ends no_sink served = absurd ends
+    served_leaves ended.UnknownVersion ends no_sink served = absurd ends
 
     pub workload_leaves : (how : Ended) → EndsWorkload how → how ≢ ended.Sink → RunOutcome 1099511627776 how before now → RefusesFor how d1 d2 → LeavesWorkload seed count how d0 d2
     workload_leaves how ends no_sink (inl gave) refuses = gave_up_leaves how gave refuses

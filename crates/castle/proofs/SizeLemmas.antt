@@ -4,7 +4,7 @@ use Rattle.std.specs.Prelude.{option_map, option_and_then, bytes_eq, codes, not,
 use Rattle.std.specs.Str.Parse.{digits_value}
 use Rattle.std.proofs.lemmas.Bool.{and_parts, leb-true}
 use Rattle.def_bytes.specs.SuperBlock.{AreLimits}
-use Rattle.castle.specs.Arguments.{Subcommand, Format, Serve, Levels, Check, Workload, is_numeral, number_in, opening_in, format_in, workload_in, subcommand_in}
+use Rattle.castle.specs.Arguments.{Subcommand, Format, Serve, Levels, Check, Workload, is_numeral, number_in, opening_in, format_in, workload_in, subcommand_in, Lead, Follow, Export, export_in}
 
 -- a choice that gives something was made by its test
 chosen : {A : Type 0} (b : Bool) (x : Option A) (y : A) → cond b x None ≡ Some y → (b ≡ true) × (x ≡ Some y)
@@ -57,14 +57,18 @@ size_in job path mem changes versions p x y z e =
 
 -- a job of opening a store makes none
 opens_only : (job path p : List ℕ) (x y z : ℕ) → opening_in job path ≡ Some (Format p x y z) → ⊥
-opens_only job path p x y z e = by_tests (length path == 0) (bytes_eq job (codes "serve")) (bytes_eq job (codes "levels")) (bytes_eq job (codes "check")) e
+opens_only job path p x y z e =
+    by_tests (length path == 0) (bytes_eq job (codes "serve")) (bytes_eq job (codes "levels")) (bytes_eq job (codes "check")) (bytes_eq job (codes "lead")) (bytes_eq job (codes "follow")) e
   where
-    by_tests : (a b c d : Bool) → cond a None (cond b (Some (Serve path)) (cond c (Some (Levels path)) (cond d (Some (Check path)) None))) ≡ Some (Format p x y z) → ⊥
-    by_tests true b c d e = let f : ◌≡◌ {A = Option Subcommand} None (Some (Format p x y z)) = e in cc
-    by_tests false true c d e = let f : ◌≡◌ {A = Option Subcommand} (Some (Serve path)) (Some (Format p x y z)) = e in cc
-    by_tests false false true d e = let f : ◌≡◌ {A = Option Subcommand} (Some (Levels path)) (Some (Format p x y z)) = e in cc
-    by_tests false false false true e = let f : ◌≡◌ {A = Option Subcommand} (Some (Check path)) (Some (Format p x y z)) = e in cc
-    by_tests false false false false e = let f : ◌≡◌ {A = Option Subcommand} None (Some (Format p x y z)) = e in cc
+    by_tests : (a b c d f g : Bool)
+        → cond a None (cond b (Some (Serve path)) (cond c (Some (Levels path)) (cond d (Some (Check path)) (cond f (Some (Lead path)) (cond g (Some (Follow path)) None))))) ≡ Some (Format p x y z) → ⊥
+    by_tests true b c d f g e = let h : ◌≡◌ {A = Option Subcommand} None (Some (Format p x y z)) = e in cc
+    by_tests false true c d f g e = let h : ◌≡◌ {A = Option Subcommand} (Some (Serve path)) (Some (Format p x y z)) = e in cc
+    by_tests false false true d f g e = let h : ◌≡◌ {A = Option Subcommand} (Some (Levels path)) (Some (Format p x y z)) = e in cc
+    by_tests false false false true f g e = let h : ◌≡◌ {A = Option Subcommand} (Some (Check path)) (Some (Format p x y z)) = e in cc
+    by_tests false false false false true g e = let h : ◌≡◌ {A = Option Subcommand} (Some (Lead path)) (Some (Format p x y z)) = e in cc
+    by_tests false false false false false true e = let h : ◌≡◌ {A = Option Subcommand} (Some (Follow path)) (Some (Format p x y z)) = e in cc
+    by_tests false false false false false false e = let h : ◌≡◌ {A = Option Subcommand} None (Some (Format p x y z)) = e in cc
 
 -- nor does one of carrying out a workload
 works_only : (job path seed count p : List ℕ) (x y z : ℕ) → workload_in job path seed count ≡ Some (Format p x y z) → ⊥
@@ -76,12 +80,20 @@ works_only job path seed count p x y z e =
     by_numbers (Some s) None e = let f : ◌≡◌ {A = Option Subcommand} None (Some (Format p x y z)) = e in cc
     by_numbers (Some s) (Some n) e = let f : ◌≡◌ {A = Option Subcommand} (Some (Workload path s n)) (Some (Format p x y z)) = e in cc
 
+-- nor does one of exporting a version
+exports_only : (job path version p : List ℕ) (x y z : ℕ) → export_in job path version ≡ Some (Format p x y z) → ⊥
+exports_only job path version p x y z e = by_number (number_in 0 4294967295 version) (chosen (bytes_eq job (codes "export") && not (length path == 0)) _ (Format p x y z) e).1
+  where
+    by_number : (n : Option ℕ) → option_map (λ v. Export path v) n ≡ Some (Format p x y z) → ⊥
+    by_number None e = let f : ◌≡◌ {A = Option Subcommand} None (Some (Format p x y z)) = e in cc
+    by_number (Some v) e = let f : ◌≡◌ {A = Option Subcommand} (Some (Export path v)) (Some (Format p x y z)) = e in cc
+
 -- the numbers of a job of making a store
 pub limits_of : (words : List (List ℕ)) (p : List ℕ) (x y z : ℕ) → subcommand_in words ≡ Some (Format p x y z) → AreLimits x y z
 limits_of [] p x y z e = absurd (let f : ◌≡◌ {A = Option Subcommand} None (Some (Format p x y z)) = e in cc)
 limits_of (a ∷ []) p x y z e = absurd (let f : ◌≡◌ {A = Option Subcommand} None (Some (Format p x y z)) = e in cc)
 limits_of (a ∷ b ∷ []) p x y z e = absurd (opens_only a b p x y z e)
-limits_of (a ∷ b ∷ c ∷ []) p x y z e = absurd (let f : ◌≡◌ {A = Option Subcommand} None (Some (Format p x y z)) = e in cc)
+limits_of (a ∷ b ∷ c ∷ []) p x y z e = absurd (exports_only a b c p x y z e)
 limits_of (a ∷ b ∷ c ∷ d ∷ []) p x y z e = absurd (works_only a b c d p x y z e)
 limits_of (a ∷ b ∷ c ∷ d ∷ f ∷ []) p x y z e = size_in a b c d f p x y z e
 limits_of (a ∷ b ∷ c ∷ d ∷ f ∷ g ∷ rest) p x y z e = absurd (let h : ◌≡◌ {A = Option Subcommand} None (Some (Format p x y z)) = e in cc)

@@ -24,8 +24,8 @@ use Rattle.def_recovery.specs.Opening.{recover, recover_slot, recover_head}
 use Rattle.strat_report.specs.Reporting.{summary_text, levels_text, WritesReport, RecoversAs, IsSilent, AppendsFront, ReportHasCause}
 use Rattle.def_publish.specs.Standing.{ShowsTable}
 use Rattle.strat_memory.proofs.PayingLemmas.{paid_then, stored_since}
-use Rattle.strat_serve.specs.Session.{EndHasCause}
-use Rattle.strat_serve.specs.World.{World, world}
+use Rattle.strat_loop.specs.Session.{EndHasCause}
+use Rattle.strat_loop.specs.World.{World, world}
 use Rattle.castle.specs.Working.{EndsOnExposed, FollowsNew, CarriesOutWorkload, LeavesWorkload, SendsSummary, summary_of}
 use Rattle.castle.proofs.CompleteLemmas.{finds_head}
 
@@ -95,6 +95,7 @@ summary_end seed count disk ended.Truncated k0 k1 f t writes exposed shows = abs
 summary_end seed count disk ended.Source k0 k1 f t writes exposed shows = absurd writes
 summary_end seed count disk ended.Budget k0 k1 f t writes exposed shows = absurd writes
 summary_end seed count disk ended.Unsound k0 k1 f t writes exposed shows = absurd writes
+summary_end seed count disk ended.UnknownVersion k0 k1 f t writes exposed shows = absurd writes
 
 -- on a disk that tells its content, which it leaves, the summary ends the run as it ends itself
 pub summary_leaves : (seed count : ℕ) (d0 d2 d3 : DiskView) (how : Ended) (k0 k1 : Option (List ℕ)) (f : Image) → Exposes d0 f → Passes d0 d2 → IfSome d2.content (Images d2) → OnlyReads d2 d3
@@ -143,6 +144,7 @@ module _ (seed count : ℕ) (d2 d3 : DiskView) (reads : OnlyReads d2 d3) (k0 k1 
   summary_sent ended.Source writes = absurd writes
   summary_sent ended.Budget writes = absurd writes
   summary_sent ended.Unsound writes = absurd writes
+  summary_sent ended.UnknownVersion writes = absurd writes
 
 -- a report blames no source
 no_source : (say : Read (Option Head) → List ℕ) (disk : DiskView) (how : Ended) (k0 k1 : Option (List ℕ)) → WritesReport say disk how k0 k1 → how ≢ ended.Source
@@ -158,6 +160,7 @@ no_source say disk ended.FrameTooLong k0 k1 writes is = absurd writes
 no_source say disk ended.Truncated k0 k1 writes is = absurd writes
 no_source say disk ended.Budget k0 k1 writes is = absurd writes
 no_source say disk ended.Unsound k0 k1 writes is = absurd writes
+no_source say disk ended.UnknownVersion k0 k1 writes is = absurd writes
 
 -- what a report's counts say of a run that did nothing to a disk but make that report, before which no count rose
 pub report_cause : (say : Read (Option Head) → List ℕ) (disk d0 d3 : DiskView) (how : Ended) (k0 k1 : Option (List ℕ)) (a b m x y : ℕ) (left : Option (List ℕ)) (source : ℕ) → WritesReport say disk how k0 k1
@@ -185,6 +188,7 @@ silent_by ended.Sink is = absurd (omega (arith, is))
 silent_by (ended.Damaged block) is = absurd (omega (arith, is))
 silent_by ended.Budget is = absurd (omega (arith, is))
 silent_by ended.Unsound is = absurd (omega (arith, is))
+silent_by ended.UnknownVersion is = absurd (omega (arith, is))
 
 -- where neither the sink nor the disk failed a run of a workload is done, or found no memory
 pub workload_completes : (how : Ended) (before now : World) → EndsOnExposed how → EndHasCause how before now → ¬ Rose before.sink_faults now.sink_faults → ¬ Rose before.disk_faults now.disk_faults
@@ -201,6 +205,7 @@ workload_completes ended.Truncated b n ends cause sink disk = absurd ends
 workload_completes ended.Source b n ends cause sink disk = absurd ends
 workload_completes ended.Budget b n ends cause sink disk = absurd ends
 workload_completes ended.Unsound b n ends cause sink disk = absurd ends
+workload_completes ended.UnknownVersion b n ends cause sink disk = absurd ends
 
 -- where recovery finds no store no slot is open
 pub no_slot : (f : Image) → recover f ≡ Ok None → newest_in f ≡ Ok None

@@ -14,13 +14,19 @@ use Rattle.def_recovery.specs.Opening.{recover}
 use Rattle.def_publish.specs.Standing.{ShowsTable}
 use Rattle.def_texts.specs.Texts as texts
 use Rattle.strat_open.specs.Format.{IsNewDisk, IsBlank, IsNoneOrNew, KeepsOthers}
-use Rattle.strat_serve.specs.Session.{SendsPrefix, RunOutcome, RefusesFor, EndHasCause, ExposesDamage}
-use Rattle.strat_serve.specs.World.{World, IsCalm}
+use Rattle.strat_loop.specs.Session.{SendsPrefix, RefusesFor, EndHasCause, ExposesDamage}
+use Rattle.strat_serve.specs.Serving.{RunOutcome}
+use Rattle.strat_loop.specs.World.{World, IsCalm}
 use Rattle.def_crash.specs.Faults.{Rose}
 use Rattle.def_check.specs.Checked.{checked}
 use Rattle.strat_report.specs.Checking.{EndsCheck, SaysCheck, WritesCheck}
 use Rattle.strat_report.specs.Reporting.{levels_text, WritesReport, IsComplete}
-use Rattle.castle.specs.Arguments.{Subcommand, Serve, Format, Levels, Check, Workload}
+use Rattle.strat_loop.specs.Spoken.{SpokenOutcome}
+use Rattle.strat_follow.specs.Copying.{CopiesLogs}
+use Rattle.strat_follow.specs.Follows.{follows}
+use Rattle.strat_follow.specs.Leading.{LeadOutcome, LeadsTables}
+use Rattle.castle.specs.Arguments.{Subcommand, Serve, Format, Levels, Check, Workload, Lead, Follow, Export}
+use Rattle.castle.specs.Exporting.{ExportsVersion}
 use Rattle.castle.specs.Working.{EndsWorkload, LeavesWorkload, SendsSummary}
 
 -- a run ended as its input does, or at the budget, or before it began for want of memory
@@ -38,6 +44,30 @@ EndsAsFound (Err block) status = (status ≡ 9) ⊎ (status ≡ 8)
 -- nothing failed it ended as the content says, and as its input does where that shows a table
 pub record ServesFrames (budget : ℕ) (how : Ended) (before now : World) : Type 0 where
   pub outcome : RunOutcome budget how before now
+  pub refuses : RefusesFor how before.disk now.disk
+  pub cause : EndHasCause how before now
+  pub complete : IsCalm before now → (f : Image) → Exposes before.disk f
+      → EndsAsFound (recover f) (status_of how)
+  pub sound : IsCalm before now → (f : Image) (t : Table) → Exposes before.disk f
+      → ShowsTable f t → EndsAsInput (status_of how)
+
+-- a run that leads ended so: it sent the changes of its journal and served the store on the disk, or stopped before that;
+-- over each table that the disk shows it is a run of that table, and sends the changes that it carries out
+pub record LeadsFollowers (budget : ℕ) (how : Ended) (before now : World) : Type 0 where
+  pub outcome : LeadOutcome budget how before now
+  pub leads : LeadsTables budget how before now
+  pub refuses : RefusesFor how before.disk now.disk
+  pub cause : EndHasCause how before now
+  pub complete : IsCalm before now → (f : Image) → Exposes before.disk f
+      → EndsAsFound (recover f) (status_of how)
+  pub sound : IsCalm before now → (f : Image) (t : Table) → Exposes before.disk f
+      → ShowsTable f t → EndsAsInput (status_of how)
+
+-- a run that follows ended so: it carried out changes on the store on the disk and answered each body with a receipt, or
+-- gave up before it read; it keeps to each log of which the disk has a prefix and its frames hold the changes
+pub record FollowsLeader (budget : ℕ) (how : Ended) (before now : World) : Type 0 where
+  pub outcome : SpokenOutcome follows budget how before now
+  pub copies : CopiesLogs how before now
   pub refuses : RefusesFor how before.disk now.disk
   pub cause : EndHasCause how before now
   pub complete : IsCalm before now → (f : Image) → Exposes before.disk f
@@ -130,6 +160,12 @@ Runs (Some (Check path)) budget status before now =
     (how : Ended) × (status ≡ status_of how) × ChecksStore how before now
 Runs (Some (Workload path seed count)) budget status before now =
     (how : Ended) × (status ≡ status_of how) × RunsWorkload seed count how before now
+Runs (Some (Lead path)) budget status before now =
+    (how : Ended) × (status ≡ status_of how) × LeadsFollowers budget how before now
+Runs (Some (Follow path)) budget status before now =
+    (how : Ended) × (status ≡ status_of how) × FollowsLeader budget how before now
+Runs (Some (Export path version)) budget status before now =
+    (how : Ended) × (status ≡ status_of how) × ExportsVersion version how before now
 
 -- a run on this disk ended before it read or wrote anything but the disk: with no store, out of
 -- memory, or with a damaged block where recovery finds one
@@ -152,12 +188,18 @@ LeavesAlone (Some (Check path)) before status source sink disk =
     source × ((status ≡ 2) ⊎ (status ≡ 5) ⊎ (status ≡ 8) → sink)
 LeavesAlone (Some (Workload path seed count)) before status source sink disk =
     source × ((status ≡ 2) ⊎ (status ≡ 5) ⊎ (status ≡ 8) → sink)
+LeavesAlone (Some (Lead path)) before status source sink disk =
+    IsEarly before status → source × sink
+LeavesAlone (Some (Follow path)) before status source sink disk =
+    IsEarly before status → source × sink
+LeavesAlone (Some (Export path version)) before status source sink disk =
+    source × ((status ≡ 2) ⊎ (status ≡ 8) ⊎ (status ≡ 12) → sink)
 
 -- the forms of the program's arguments
 abbrev pub usage_text : List ℕ
 usage_text =
     codes "usage: castle format FILE M C V, serve FILE, levels FILE, check FILE, "
-    ++ codes "workload FILE SEED COUNT"
+    ++ codes "workload FILE SEED COUNT, lead FILE, follow FILE, export FILE VERSION"
 
 -- what a status means
 abbrev pub text_of : ℕ → List ℕ
@@ -173,4 +215,5 @@ text_of status =
     if status == 8 then codes "no memory" else
     if status == 9 then codes "damaged" else
     if status == 10 then codes "byte budget" else
-    if status == 11 then codes "unsound" else codes "unknown status"
+    if status == 11 then codes "unsound" else
+    if status == 12 then codes "unknown version" else codes "unknown status"

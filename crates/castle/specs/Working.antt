@@ -19,7 +19,7 @@ use Rattle.strat_open.specs.Following.{IsUnchanged}
 use Rattle.strat_open.specs.Format.{IsBlank, IsNewStore, IsNoneOrNew, KeepsOthers}
 use Rattle.strat_memory.specs.Paying.{ArePaidSince, StoreTwoSince}
 use Rattle.strat_serve.specs.Generated.{workload_bodies}
-use Rattle.strat_serve.specs.Session.{AreNextIn}
+use Rattle.strat_loop.specs.Session.{AreNextIn}
 
 -- the ends of a run of a workload; its frames are whole, short and few, so that none of them ends it
 abbrev pub EndsWorkload : Ended → Type 0

@@ -10,7 +10,7 @@ ghost use Rattle.strat_model.specs.Table.{Table};
 ghost use Rattle.def_publish.specs.Several.{EachShows, ShowsOneOf};
 ghost use Rattle.def_publish.specs.Standing.{ShowsTable};
 ghost use Rattle.strat_serve.specs.Tables.{AnswersAsTable, begins_at};
-ghost use Rattle.strat_serve.specs.World.{Streams, beside};
+ghost use Rattle.strat_loop.specs.World.{Streams, beside};
 ghost use Rattle.castle.specs.Arguments.{Serve};
 ghost use Rattle.castle.specs.Outcomes.{Runs};
 

@@ -4,7 +4,7 @@ ghost use Rattle.std.specs.Prelude.{◌≡◌, map, string_bytes};
 ghost use Rattle.std.specs.Option.{option_copied};
 ghost use Rattle.std.specs.Str.{all_ascii_digits};
 ghost use Rattle.strat_base.specs.Finds.{Finds};
-ghost use Rattle.castle.specs.Arguments.{is_numeral, number_in, subcommand_seen, opening_in, format_in, workload_in, subcommand_in, path_in};
+ghost use Rattle.castle.specs.Arguments.{is_numeral, number_in, subcommand_seen, opening_in, format_in, workload_in, export_in, subcommand_in, path_in};
 
 use strat_base::limits::{CHANGES_MAX, MEM_MAX, MEM_MIN, VERSIONS_MAX};
 
@@ -34,12 +34,25 @@ pub enum Subcommand<'a> {
     Check {
         path: &'a str,
     },
+    /// To serve the store in a file, and to send its changes in place of replies.
+    Lead {
+        path: &'a str,
+    },
+    /// To carry out the changes of a leader on the store in a file.
+    Follow {
+        path: &'a str,
+    },
     /// To make a store in a file, and to carry out so many changes on it, which are drawn from this
     /// seed.
     Workload {
         path: &'a str,
         seed: u64,
         count: u32,
+    },
+    /// To write the pairs of a version of the store in a file as frames of puts.
+    Export {
+        path: &'a str,
+        version: u32,
     },
 }
 
@@ -92,7 +105,7 @@ fn number(word: &str, least: u32, most: u32) -> Option<u32>
     Some(n)
 }
 
-/// The subcommand of opening a store, to serve it, to report its levels or to check it, where these
+/// The subcommand of opening a store, to serve it, to report its levels, to check it, to lead or to follow, where these
 /// arguments ask for one.
 fn opening_of<'a>(job: &str, path: &'a str) -> Option<Subcommand<'a>>
     ensures { Finds subcommand_seen result (opening_in job.now path.now) }
@@ -108,6 +121,12 @@ fn opening_of<'a>(job: &str, path: &'a str) -> Option<Subcommand<'a>>
     }
     if job == "check" {
         return Some(Subcommand::Check { path });
+    }
+    if job == "lead" {
+        return Some(Subcommand::Lead { path });
+    }
+    if job == "follow" {
+        return Some(Subcommand::Follow { path });
     }
     None
 }
@@ -151,13 +170,27 @@ fn workload_of<'a>(job: &str, path: &'a str, seed: &str, count: &str) -> Option<
     Some(Subcommand::Workload { path, seed, count })
 }
 
+/// The subcommand of exporting a version, where these arguments ask for it and the last is a version's number.
+fn export_of<'a>(job: &str, path: &'a str, version: &str) -> Option<Subcommand<'a>>
+    ensures { Finds subcommand_seen result (export_in job.now path.now version.now) }
+{
+    if job != "export" || path.is_empty() {
+        return None;
+    }
+    let version = number(version, 0, u32::MAX)?;
+    Some(Subcommand::Export { path, version })
+}
+
 /// The subcommand that the arguments name, where they name one: `format FILE M C V`, `serve
-/// FILE`, `levels FILE`, `check FILE` or `workload FILE SEED COUNT`.
+/// FILE`, `levels FILE`, `check FILE`, `workload FILE SEED COUNT`, `lead FILE`, `follow FILE` or `export FILE VERSION`.
 pub fn subcommand_of(words: &[String]) -> Option<Subcommand<'_>>
     ensures { Finds subcommand_seen result (subcommand_in (map string_bytes words.now)) }
 {
     if let [job, path] = words {
         return opening_of(job.as_str(), path.as_str());
+    }
+    if let [job, path, version] = words {
+        return export_of(job.as_str(), path.as_str(), version.as_str());
     }
     if let [job, path, seed, count] = words {
         return workload_of(job.as_str(), path.as_str(), seed.as_str(), count.as_str());
@@ -190,6 +223,8 @@ pub fn path_of(words: &[String]) -> Option<&str>
         Some(Subcommand::Serve { path }) => Some(path),
         Some(Subcommand::Levels { path }) => Some(path),
         Some(Subcommand::Check { path }) => Some(path),
+        Some(Subcommand::Lead { path }) => Some(path),
+        Some(Subcommand::Follow { path }) => Some(path),
         Some(
             Subcommand::Workload {
                 path,
@@ -197,6 +232,7 @@ pub fn path_of(words: &[String]) -> Option<&str>
                 count: _,
             },
         ) => Some(path),
+        Some(Subcommand::Export { path, version: _ }) => Some(path),
         None => None,
     }
 }

@@ -5,8 +5,8 @@ ghost use Rattle.def_bytes.specs.SuperBlock.{AreLimits};
 ghost use Rattle.def_crash.specs.Image.{Image};
 ghost use Rattle.def_crash.specs.Moments.{Exposes, Since, Passes};
 ghost use Rattle.strat_open.specs.Format.{IsNewDisk, IsBlank, IsNoneOrNew, KeepsOthers};
-ghost use Rattle.strat_serve.specs.Session.{EndHasCause};
-ghost use Rattle.strat_serve.specs.World.{world};
+ghost use Rattle.strat_loop.specs.Session.{EndHasCause};
+ghost use Rattle.strat_loop.specs.World.{world};
 ghost use Rattle.castle.specs.Outcomes.{SendsLine, Formats, format_text};
 
 use std::alloc::{AllocError, Global};

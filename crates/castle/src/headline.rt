@@ -11,9 +11,9 @@ ghost use Rattle.strat_model.specs.Table.{Table};
 ghost use Rattle.def_recovery.specs.Head.{Head};
 ghost use Rattle.def_recovery.specs.Opening.{recover};
 ghost use Rattle.def_publish.specs.Standing.{ShowsTable};
-ghost use Rattle.strat_serve.specs.Session.{IsFoundDamaged};
+ghost use Rattle.strat_loop.specs.Session.{IsFoundDamaged};
 ghost use Rattle.strat_serve.specs.Tables.{AnswersAsTable, EndsAtTables, GoesThroughTables, KeepsSpace, begins_at};
-ghost use Rattle.strat_serve.specs.World.{Streams, beside};
+ghost use Rattle.strat_loop.specs.World.{Streams, beside};
 ghost use Rattle.castle.specs.Arguments.{Serve};
 ghost use Rattle.castle.specs.Headline.{HasNotBegun};
 ghost use Rattle.castle.specs.Outcomes.{Runs};
@@ -26,8 +26,8 @@ use def_crash::laws::Viewed;
 /// changes that no reply tells of. On the way it leaves what it might have left before, and from some moment on the run's
 /// tables in order. What it leaves then is sound, each array a third live in each of its versions, and stores at most two
 /// entries for each update. After a run that the device and the sink did not fail, and that opened its store, recovery finds
-/// no more changes in the journal than one of its regions takes. The run ends for a cause, and where nothing failed, as its
-/// input does or for want of memory.
+/// no more changes in the journal than one of its regions takes, or as many as the disk's had. The run ends for a cause, and
+/// where nothing failed, as its input does or for want of memory.
 pub fn a_serving_run_is_a_run_of_its_table<D: Viewed>()
     ensures answers { (path : List ℕ) (status : ℕ) (x y : Streams) (d e : D) (f : Image) (t : Table)
         (shows : ShowsTable f t) → Exposes (D.view d) f
@@ -50,10 +50,11 @@ pub fn a_serving_run_is_a_run_of_its_table<D: Viewed>()
         → Runs (Some (Serve path)) 1099511627776 status (beside x (D.view d)) (beside y (D.view e))
         → KeepsSpace f (D.view d) (D.view e) }
     ensures journal { (path : List ℕ) (status : ℕ) (x y : Streams) (d e : D) (f : Image)
-        (t : Table) → ShowsTable f t → Exposes (D.view d) f
+        (t : Table) (shows : ShowsTable f t) → Exposes (D.view d) f
         → Runs (Some (Serve path)) 1099511627776 status (beside x (D.view d)) (beside y (D.view e))
         → status ≢ 5 → status ≢ 7 → status ≢ 8 → (c : Image) → Images (D.view e) c
-        → (head : Head) × (recover c ≡ Ok (Some head)) × (length head.journal ≤ head.sb.mem) }
+        → (head : Head) × (recover c ≡ Ok (Some head)) × ((length head.journal ≤ head.sb.mem)
+        ⊎ (length head.journal ≡ length shows.state.journal)) }
     ensures cause { (path : List ℕ) (status : ℕ) (x y : Streams) (d e : D)
         → Runs (Some (Serve path)) 1099511627776 status (beside x (D.view d)) (beside y (D.view e))
         → (status ≡ 5 → Rose x.disk_faults y.disk_faults)

@@ -3,6 +3,9 @@
 
 mod any_image;
 mod arguments;
+mod copies;
+mod export_laws;
+mod exporting;
 mod formatting;
 mod headline;
 mod laws;

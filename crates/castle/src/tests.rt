@@ -94,6 +94,29 @@ fn stores_are_made_and_served(rt: HostRuntime) -> Result<(), Fail> {
     Ok(())
 }
 
+/// The change of that put as the first of a store, and a receipt for the put's own frame, which is none of a change.
+const CHANGE: &[u8] = b"\x00\x00\x00\x0e\x00\x00\x00\x00\x01\x00\x00\x00\x00\x01a\x00\x011";
+
+const RECEIPT: &[u8] = b"\x00\x00\x00\x0a\x00\x00\x00\x07\x03\x00\x00\x00\x01\x00";
+
+#[test]
+fn changes_are_sent_and_received(rt: HostRuntime) -> Result<(), Fail> {
+    let mut disk = MemDisk::new(rt.alloc(), &[])?;
+    assert!(rt; formats(rt.alloc(), &mut disk));
+    assert!(rt; ends(rt.alloc(), &mut disk, &["lead", "f"], (&[], &[]), 0, CHANGE));
+    assert!(rt;
+        ends(
+            rt.alloc(),
+            &mut disk,
+            &["follow", "f"],
+            (&[], &[]),
+            0,
+            RECEIPT
+        )
+    );
+    Ok(())
+}
+
 /// What a new store's levels are.
 const NO_LEVELS: &[u8] = b"store generation 1 mem 4 changes 0 of 100 versions 1 of 10\n\
 journal changes 0 updates 0\n\
@@ -299,7 +322,7 @@ fn arguments_name_a_file(rt: HostRuntime) {
 fn each_status_has_its_text(rt: HostRuntime) {
     let texts = [
         "done",
-        "usage: castle format FILE M C V, serve FILE, levels FILE, check FILE, workload FILE SEED COUNT",
+        "usage: castle format FILE M C V, serve FILE, levels FILE, check FILE, workload FILE SEED COUNT, lead FILE, follow FILE, export FILE VERSION",
         "not a store",
         "frame too long",
         "truncated input",
@@ -310,6 +333,7 @@ fn each_status_has_its_text(rt: HostRuntime) {
         "damaged",
         "byte budget",
         "unsound",
+        "unknown version",
         "unknown status",
     ];
     for (status, text) in (0..).zip(texts) {

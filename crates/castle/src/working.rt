@@ -5,8 +5,8 @@ ghost use Rattle.def_crash.specs.Image.{Image};
 ghost use Rattle.def_crash.specs.Faults.{Rose};
 ghost use Rattle.def_crash.specs.Moments.{Exposes, Passes};
 ghost use Rattle.strat_report.specs.Reporting.{IsSilent};
-ghost use Rattle.strat_serve.specs.Session.{EndHasCause};
-ghost use Rattle.strat_serve.specs.World.{world};
+ghost use Rattle.strat_loop.specs.Session.{EndHasCause};
+ghost use Rattle.strat_loop.specs.World.{world};
 ghost use Rattle.castle.specs.Working.{EndsWorkload, LeavesWorkload, SendsSummary};
 
 use crate::program::BUDGET;

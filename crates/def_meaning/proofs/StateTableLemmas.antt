@@ -229,7 +229,7 @@ clone_bare t v =
     refl refl
 
 -- a change leaves the cursors aside, and they it
-change_bare : (t : Table) (c : Change)
+pub change_bare : (t : Table) (c : Change)
     → (bare (step t (request_for c)).table ≡ (step (bare t) (request_for c)).table) × ((step t (request_for c)).answer ≡ (step (bare t) (request_for c)).answer)
 change_bare t (change.Put v key value) = update_bare t v (pairs.set key value (pairs_at t v))
 change_bare t (change.Delete v key) = update_bare t v (pairs.unset key (pairs_at t v))

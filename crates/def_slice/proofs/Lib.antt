@@ -1,5 +1,6 @@
 pub mod ListLemmas
 pub mod BudgetLemmas
+pub mod FillingLemmas
 pub mod OpenedLemmas
 pub mod BegunLemmas
 pub mod FedLemmas

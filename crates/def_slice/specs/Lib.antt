@@ -1,4 +1,5 @@
 pub mod Lists
 pub mod Budget
+pub mod Filling
 pub mod Opened
 pub mod Ending

@@ -4,5 +4,6 @@
 
 pub mod budget;
 pub mod ending;
+pub mod filling;
 pub mod lists;
 pub mod opened;

@@ -3,6 +3,7 @@ pub mod BlockFacts
 pub mod CacheLemmas
 pub mod EntriesOnLemmas
 pub mod ExtentLemmas
+pub mod FilterLemmas
 pub mod FindLemmas
 pub mod FoundLemmas
 pub mod HoldLemmas

@@ -1,5 +1,5 @@
 -- What stays between two calls of a writer.
-use Rattle.std.proofs.Common.{◌≡◌, ℕ, Bool, true, false, leb, cond, List, [], ◌∷◌, ◌++◌, length, refl, sym, ap, ◌∙◌, append_assoc}
+use Rattle.std.proofs.Common.{◌≡◌, ℕ, Bool, true, false, leb, cond, List, [], ◌∷◌, ◌++◌, length, None, refl, sym, ap, ◌∙◌, append_assoc}
 use Rattle.std.specs.List.{list_all}
 use Rattle.std.specs.Ordering.{is_lt}
 use Rattle.std.proofs.lemmas.Bool.{and_parts}
@@ -18,11 +18,12 @@ pub pushed_stay : (f g : Image) (w : ArrayProgress) (es : List Entry) → AgreeO
 pushed_stay f g w es same pushed = record {
   stands = record { written = pushed.stands.written; read = entries_on-kept f g (blocks_of w.extents) same ∙ pushed.stands.read; all = pushed.stands.all };
   count = pushed.count;
+  filter = pushed.filter;
 }
 
-pub none_pushed : (f : Image) (id : ℕ) → IsPushed f (record { id = id; count = 0; pending = []; extents = [] }) []
+pub none_pushed : (f : Image) (id : ℕ) → IsPushed f (record { id = id; count = 0; pending = []; extents = []; filter = None }) []
 unfolding entries_on
-none_pushed f id = record { stands = record { written = []; read = refl; all = refl }; count = refl }
+none_pushed f id = record { stands = record { written = []; read = refl; all = refl }; count = refl; filter = tt }
 
 behind_ascends : (xs ys : List Entry) → is_ascending (xs ++ ys) ≡ true → is_ascending ys ≡ true
 behind_ascends [] ys up = up

@@ -1,5 +1,5 @@
--- The entries of an array that is being written, and the extents of one.
-use Rattle.std.specs.Prelude.{◌≡◌, ◌≢◌, ℕ, ◌+◌, ◌<◌, ◌≤◌, List, [], ◌∷◌, ◌++◌, length, nat_le, min, Bool, if◌then◌else◌, Some, Result, Ok, Err, ⊤}
+-- The entries of an array that is being written, its filter, and the extents of one.
+use Rattle.std.specs.Prelude.{◌≡◌, ◌≢◌, ℕ, ◌+◌, ◌<◌, ◌≤◌, List, [], ◌∷◌, ◌++◌, length, nat_le, min, Bool, if◌then◌else◌, Option, Some, None, IfSome, Result, Ok, Err, ⊤}
 use Rattle.strat_base.specs.declared.limits.TheConstants.{BLOCK}
 use Rattle.strat_base.specs.declared.descriptors.Extent.{Extent}
 use Rattle.strat_base.specs.declared.failures.Trouble.{Trouble}
@@ -9,6 +9,8 @@ use Rattle.def_crash.specs.Faults.{Rose}
 use Rattle.def_crash.specs.Image.{Image}
 use Rattle.def_bytes.specs.Block.{block_front}
 use Rattle.def_bytes.specs.Arrays.{blocks_of, entries_on}
+use Rattle.strat_filter.specs.Bits.{fnv, with_hash}
+use Rattle.strat_filter.specs.Keys.{IsFilterOf}
 use Rattle.strat_array.specs.Progress.{ArrayProgress}
 
 -- an image has some of these entries in the blocks of extents, and the others are in no block yet
@@ -18,10 +20,16 @@ pub record IsWritten (f : Image) (extents : List Extent) (pending entries : List
   pub read : entries_on f (blocks_of extents) ≡ Some written
   pub all : entries ≡ written ++ pending
 
--- these entries were pushed
+-- these entries were pushed, and a filter that is kept is of exactly their keys
 pub record IsPushed (f : Image) (w : ArrayProgress) (entries : List Entry) : Type 0 where
   pub stands : IsWritten f w.extents w.pending entries
   pub count : w.count ≡ length entries
+  pub filter : IfSome w.filter (λ bits. IsFilterOf bits entries)
+
+-- a filter after one more key, if one is kept
+abbrev pub with_key : Option (List Bool) → List ℕ → Option (List Bool)
+with_key None key = None
+with_key (Some bits) key = Some (with_hash bits (fnv key))
 
 -- an entry has room in a block behind these
 abbrev pub has_room_behind : List Entry → Entry → Bool

@@ -1,7 +1,7 @@
 //! Writing an array.
 
-ghost use Rattle.std.specs.Prelude.{◌≡◌, ◌≤◌, ◌<◌, ◌+◌, if◌then◌else◌, ℕ, List, ◌++◌, ◌∷◌, [], length, Some, OnOk, OnErr, IfOk, IsTrue, MatchResult};
-ghost use Rattle.strat_array.specs.Pushed.{AddsBlocks, AreMaximal, IsWritten, IsPushed, HasReason, blocks_needed, has_room_behind, with_entry};
+ghost use Rattle.std.specs.Prelude.{◌≡◌, ◌≤◌, ◌<◌, ◌+◌, if◌then◌else◌, ℕ, List, ◌++◌, ◌∷◌, [], length, false, replicate, Some, None, OnOk, OnErr, IfOk, IsTrue, MatchResult};
+ghost use Rattle.strat_array.specs.Pushed.{AddsBlocks, AreMaximal, IsWritten, IsPushed, HasReason, blocks_needed, has_room_behind, with_entry, with_key};
 ghost use Rattle.strat_array.specs.Within.{AreWithin, EndWithin};
 ghost use Rattle.strat_array.specs.Taking.{HasFreeBlock, AreUsed, TakesBlock};
 ghost use Rattle.strat_base.specs.Entries.{Entry as TheEntry, is_ascending};
@@ -12,6 +12,7 @@ ghost use Rattle.def_crash.specs.Image.{Image};
 ghost use Rattle.def_crash.specs.Moments.{Exposes};
 ghost use Rattle.strat_extent.specs.Blocks.{is_free};
 ghost use Rattle.def_bytes.specs.Arrays.{blocks_of, entries_on};
+ghost use Rattle.strat_filter.specs.Bits.{bits_for};
 
 use crate::blocks::{take_block, write_block};
 use crate::numbers::copied;
@@ -21,6 +22,7 @@ use strat_base::{ArrayDesc, Entry, Extents, NoMemory, Trouble, Versions};
 use strat_block::BlockWriter;
 use strat_disk::Disk;
 use strat_extent::Space;
+use strat_filter::Filter;
 
 /// Takes a block, writes the entries into it that are in none, and begins anew, if there are any. Where the write
 /// failed it begins anew, too.
@@ -89,13 +91,24 @@ fn push_entry<D: Disk>(
     Ok(())
 }
 
-/// An array that is being written. Its last entries stand in memory until their block is full.
+/// Adds a key to a filter, if one is kept. O(key).
+fn add_key(filter: &mut Option<Filter>, key: &[u8])
+    ensures ok { filter.new ≡ with_key filter.old key.now }
+{
+    if let Some(kept) = filter {
+        kept.add(key);
+    }
+}
+
+/// An array that is being written. Its last entries stand in memory until their block is full. It may keep a filter of its
+/// keys.
 #[derive(Drop)]
 pub struct ArrayWriter {
     id: u64,
     count: u32,
     pending: Box<BlockWriter>,
     extents: Extents,
+    filter: Option<Filter>,
 }
 
 impl Model for ArrayWriter {
@@ -114,7 +127,7 @@ impl ArrayWriter {
     /// A writer of the array of this number. The only error is want of memory.
     pub fn new(alloc: Global, id: u64) -> Result<ArrayWriter, NoMemory>
         ensures ok { IfOk result (λ w. w
-            ≡ record { id = id; count = 0; pending = []; extents = [] }) }
+            ≡ record { id = id; count = 0; pending = []; extents = []; filter = None }) }
     {
         let pending = Box::new(alloc, BlockWriter::new())?;
         Ok(ArrayWriter {
@@ -122,12 +135,27 @@ impl ArrayWriter {
             count: 0,
             pending,
             extents: Extents::new(alloc),
+            filter: None,
         })
     }
 
+    /// Keeps a filter of the keys from now on, for at most so many: it is one of all keys where nothing was pushed yet. It
+    /// takes a byte of memory for each, and O(entries). The only error is want of memory, which leaves the writer as it was.
+    #[tactic(auto, using(crate::proofs::FilterLemmas::none_added))]
+    pub fn keep_filter(&mut self, alloc: Global, entries: u32) -> Result<(), NoMemory>
+        requires fits { (1 ≤ entries) × (entries ≤ 33554432) }
+        ensures ok { OnOk result (self.new
+            ≡ record self.old { filter = Some (replicate (bits_for entries) false) }) }
+        ensures err { OnErr result (self.new ≡ self.old) }
+        ensures kept { (f : Image) → IsPushed f self.old [] → OnOk result (IsPushed f self.new []) }
+    {
+        self.filter = Some(Filter::new(alloc, entries)?);
+        Ok(())
+    }
+
     /// Adds an entry that stands behind all others. O(bytes of the entry), and where it has no room in
-    /// the block so far, that block is written into the lowest free one: one write. After an error the
-    /// writer is good for nothing but its extents.
+    /// the block so far, that block is written into the lowest free one: one write. A filter that is kept has its key
+    /// added. After an error the writer is good for nothing but its extents.
     pub fn push<D: Disk>(
         &mut self,
         e: &Entry<'_>,
@@ -155,6 +183,7 @@ impl ArrayWriter {
         ensures reads { D.reads disk.new ≡ D.reads disk.old }
     {
         push_entry(&mut self.pending, &mut self.extents, e, space, disk)?;
+        add_key(&mut self.filter, e.key);
         self.count += 1;
         Ok(())
     }
@@ -193,6 +222,7 @@ impl ArrayWriter {
             count,
             mut pending,
             mut extents,
+            ..
         } = self;
         match write_pending(&mut pending, &mut extents, space, disk) {
             Ok(()) => Ok(ArrayDesc {
@@ -221,6 +251,7 @@ impl ArrayWriter {
         ensures found { TakesBlock space.old space.new self.old.extents self.new.extents }
         ensures same { TearsBlocks (is_free space.old) (D.view disk.old) (D.view disk.new)
             × (self.new.id ≡ self.old.id) × (self.new.count ≡ self.old.count) }
+        ensures filter { self.new.filter ≡ self.old.filter }
         ensures cause { MatchResult result (λ _. D.faults disk.new ≡ D.faults disk.old)
             (λ e. HasReason e (D.faults disk.old) (D.faults disk.new)) }
         ensures reads { D.reads disk.new ≡ D.reads disk.old }
@@ -252,6 +283,14 @@ impl ArrayWriter {
             extents,
             versions,
         })
+    }
+
+    /// The filter that was kept, if any. From now on none is. O(1).
+    pub fn take_filter(&mut self) -> Option<Filter>
+        ensures ok { result ≡ self.old.filter }
+        ensures same { self.new ≡ record self.old { filter = None } }
+    {
+        self.filter.take()
     }
 
     /// How many entries were pushed. O(1).

@@ -1,7 +1,7 @@
 //! Laws of arrays that are being written. Each is the contract of a function that does nothing.
 
 ghost use Rattle.std.specs.List.{list_all};
-ghost use Rattle.std.specs.Prelude.{◌≡◌, ℕ, true, false, List, [], ◌∷◌, ◌++◌, IsTrue};
+ghost use Rattle.std.specs.Prelude.{◌≡◌, ℕ, true, false, None, List, [], ◌∷◌, ◌++◌, IsTrue};
 ghost use Rattle.strat_array.specs.Progress.{ArrayProgress};
 ghost use Rattle.strat_array.specs.Pushed.{AreMaximal, IsEndOf, IsPushed, with_entry};
 ghost use Rattle.strat_array.specs.Taking.{AreUsed, TakesBlock};
@@ -20,7 +20,13 @@ pub fn entries_stay_pushed()
     ensures ok { (f g : Image) (w : ArrayProgress) (es : List TheEntry)
         → AgreeOn (blocks_of w.extents) f g → IsPushed f w es → IsPushed g w es }
     ensures none { (f : Image) (id : ℕ)
-        → IsPushed f (record { id = id; count = 0; pending = []; extents = [] }) [] }
+        → IsPushed f (record {
+          id = id;
+          count = 0;
+          pending = [];
+          extents = [];
+          filter = None;
+        }) [] }
     ensures kept { (f : Image) (w : ArrayProgress) (es : List TheEntry) → IsPushed f w es
         → IsTrue (is_ascending es) → IsTrue (is_ascending w.pending) }
 {}

@@ -1,5 +1,5 @@
 -- Eight bytes of two keys compare as the numbers that they are.
-use Rattle.std.proofs.Common.{◌≡◌, ◌≢◌, ◌<◌, ◌≤◌, ◌+◌, ◌-◌, ◌*◌, ◌^◌, ℕ, zero, suc, inl, inr, get_or, List, [], ◌∷◌, length, drop, Some, refl, sym, ap, ◌∙◌, subst, arith, length-drop}
+use Rattle.std.proofs.Common.{◌≡◌, ◌≢◌, ◌⊎◌, ◌<◌, ◌≤◌, ◌+◌, ◌*◌, ◌^◌, ℕ, zero, suc, inl, inr, List, [], ◌∷◌, length, drop, Some, refl, sym, ap, ◌∙◌, arith, length-drop}
 use Rattle.std.specs.Ordering.{nat_cmp, ordering_then}
 use Rattle.std.specs.declared.cmp.Ordering.{Ordering}
 use Rattle.std.specs.declared.cmp.Ordering.TheVariants.{Less, Equal, Greater}
@@ -92,3 +92,20 @@ decides x y o differ =
 
 pub same_word : (x y : ℕ) (o : Ordering) → x ≡ y → ordering_then (nat_cmp x y) o ≡ o
 same_word x y o same = ap (λ (p : Ordering). ordering_then p o) (sym (nat_cmp_is x y Equal same))
+
+-- one of two lists of these lengths, which agree up to here, ends here
+lengths_decide : (i : ℕ) (xs ys : List ℕ) → (length xs ≡ 0) ⊎ (length ys ≡ 0) → nat_cmp (i + length xs) (i + length ys) ≡ key_cmp xs ys
+lengths_decide i [] [] ends = sym (nat_cmp_is (i + 0) (i + 0) Equal refl)
+lengths_decide i [] (y ∷ ys) ends = sym (nat_cmp_is (i + 0) (i + suc (length ys)) Less (omega arith))
+lengths_decide i (x ∷ xs) [] ends = sym (nat_cmp_is (i + suc (length xs)) (i + 0) Greater (omega arith))
+lengths_decide i (x ∷ xs) (y ∷ ys) ends = absurd (elim ends [ inl none ↦ omega (arith, none) | inr none ↦ omega (arith, none) ])
+
+-- two lists of which one ends at a place compare from there on as their lengths do
+pub ends_decide : (a b : List ℕ) (i : ℕ) → i ≤ length a → i ≤ length b → (length a ≤ i) ⊎ (length b ≤ i) → nat_cmp (length a) (length b) ≡ key_cmp (drop i a) (drop i b)
+ends_decide a b i first second ends =
+    let more = length-drop i a in
+    let less = length-drop i b in
+    let whole : length a ≡ i + length (drop i a) = omega (arith, more) in
+    let other : length b ≡ i + length (drop i b) = omega (arith, less) in
+    (λ j. nat_cmp (whole j) (other j))
+    ∙ lengths_decide i (drop i a) (drop i b) (elim ends [ inl out ↦ inl (omega (arith, more)) | inr out ↦ inr (omega (arith, less)) ])

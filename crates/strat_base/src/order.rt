@@ -6,21 +6,26 @@ ghost use Rattle.strat_base.specs.Order.{key_cmp};
 use crate::numbers::get_u64;
 use std::cmp::Ordering;
 
-/// How two keys compare whose first `at` bytes are the same: what follows decides.
+/// How two keys compare whose first `at` bytes are the same: what follows decides, a byte at a time. It is mostly a few bytes,
+/// for which the comparison of slices takes longer.
 fn rest_order(a: &[u8], b: &[u8], at: usize) -> Ordering
     requires { (at ≤ length a.now) × (at ≤ length b.now) }
     ensures ok { result ≡ key_cmp (drop at a.now) (drop at b.now) }
 {
-    if at == a.len() && at == b.len() {
-        return Ordering::Equal;
+    let mut i = at;
+    while i < a.len() && i < b.len() {
+        if a[i] != b[i] {
+            return a[i].cmp(&b[i]);
+        }
+        i += 1;
     }
-    a[at..].cmp(&b[at..])
+    a.len().cmp(&b.len())
 }
 
 /// How two keys compare, byte by byte, a proper prefix first: the order of slices.
 ///
-/// Eight bytes are compared at once, as a number with the highest byte first, and what is left by the slices' own
-/// comparison. Inlined, since searches call it for each entry that they look at.
+/// Eight bytes are compared at once, as a number with the highest byte first, and what is left a byte at a time. Inlined,
+/// since searches call it for each entry that they look at.
 #[inline(always)]
 pub fn key_order(a: &[u8], b: &[u8]) -> Ordering
     ensures ok { result ≡ key_cmp a.now b.now }

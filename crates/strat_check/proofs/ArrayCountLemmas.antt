@@ -1,17 +1,14 @@
 -- An array that is counted by itself.
-use Rattle.std.proofs.Common.{◌≡◌, ◌<◌, ◌≤◌, ◌+◌, ◌*◌, ◌/◌, ◌^◌, ℕ, zero, suc, true, ltb, leb, not, ◌&&◌, List, [], ◌∷◌, ◌++◌, length, map, filter, Some, Result, Ok, Err, IsErrAnd, refl, sym, ap, ◌∙◌, subst, arith, length-append}
+use Rattle.std.proofs.Common.{◌≡◌, ◌<◌, ◌≤◌, ◌+◌, ◌*◌, ◌^◌, ℕ, zero, suc, true, ltb, leb, not, ◌&&◌, List, [], ◌∷◌, ◌++◌, length, filter, Some, Result, Ok, Err, IsErrAnd, refl, sym, ap, ◌∙◌, subst, arith, length-append}
 use Rattle.std.specs.List.{slice_get, flat_map, list_all}
 use Rattle.std.specs.Option.{option_map}
 use Rattle.std.proofs.lemmas.Bool.{and_parts, leb-true}
-use Rattle.std.proofs.lemmas.List.{length-map, map-append}
 use Rattle.std.proofs.lemmas.List.Concat.{flat_map-append}
 use Rattle.std.proofs.lemmas.List.Filters.{length-filter_both}
-use Rattle.std.proofs.lemmas.List.Sums.{sum_by-cons}
 use Rattle.std.proofs.lemmas.Result.{err_from_is_err_and}
 use Rattle.strat_base.specs.Entries.{Entry, is_ascending}
 use Rattle.strat_base.specs.EntryBytes.{entry_bytes, fits_fields}
 use Rattle.strat_base.specs.Numbers.{be}
-use Rattle.strat_base.specs.Tree.{Parents}
 use Rattle.strat_base.specs.declared.failures.Trouble.{Trouble}
 use Rattle.strat_base.specs.declared.failures.Trouble.TheVariants.{Damaged, Device, NoMemory}
 use Rattle.def_bytes.specs.Arrays.{block_on, entries_on}
@@ -21,16 +18,12 @@ use Rattle.def_crash.specs.Faults.{HasCause}
 use Rattle.def_crash.specs.Image.{Image, window}
 use Rattle.def_crash.specs.Moments.{DiskView}
 use Rattle.def_crash.proofs.MomentLemmas.{reads_trans, reads_refl}
-use Rattle.def_promote.specs.Merging.{MergesTo, Merges}
+use Rattle.def_promote.specs.Merging.{MergesTo}
 use Rattle.def_recovery.proofs.OpeningLemmas.{map_some, next_some}
 use Rattle.def_split.specs.Groups.{grouped_entries}
 use Rattle.strat_merge.specs.Reading.{ReadsRuns}
 use Rattle.strat_merge.specs.Runs.{RunView, IsBadFor}
 use Rattle.strat_promote.proofs.BoundLemmas.{merged_fewer}
-use Rattle.def_check.specs.Marked.{marked}
-use Rattle.strat_check.specs.ArrayCounts.{AreSightsOf}
-use Rattle.strat_check.specs.MarkedGroups.{is_owned, owned_versions}
-use Rattle.strat_check.specs.Sightings.{Sightings, IsSighting, IsSighted, versions_added}
 
 -- Reads that follow one another.
 module _ {R : Type 0} (view : R → RunView) where
@@ -130,61 +123,6 @@ one_taken runs old new count group some takes are =
 pub few_taken : (runs left : List (List Entry)) (count : ℕ) → AreTaken runs left count → count ≤ length (grouped_entries runs)
 few_taken runs left count are = let most = merged_fewer runs are.groups left are.merged in let many = are.many in omega (arith, most, many)
 
--- Groups whose leads are counted.
-module _ (parents : Parents) (owners : List ℕ) where
-  -- the leads of the groups that were taken of runs were added
-  pub record AreAdded (runs left : List (List Entry)) (s : Sightings) : Type 0 where
-    pub groups : List (List Entry)
-    pub merged : MergesTo runs groups left
-    pub added : IsSighting parents (map (owned_versions owners) groups) s
-
-  pub none_added : (runs left : List (List Entry)) (s : Sightings) → left ≡ runs → IsSighting parents [] s → AreAdded runs left s
-  none_added runs left s same none = record { groups = []; merged = same; added = none }
-
-  owned_fewer : (groups : List (List Entry)) → versions_added (map (owned_versions owners) groups) ≤ length (grouped_entries groups)
-  owned_fewer [] = omega arith
-  owned_fewer (group ∷ groups) =
-      let size = length-append group (grouped_entries groups) in
-      let same = length-map (filter (is_owned owners) group) (λ (e : Entry). e.version / 16384) in
-      let few = length-filter_both (is_owned owners) (λ (e : Entry). not (is_owned owners e)) (λ e. refl) group in
-      let rest = owned_fewer groups in
-      let sum = sum_by-cons (λ (versions : List ℕ). length versions) (owned_versions owners group) (map (owned_versions owners) groups) in
-      omega (arith, size, same, few, rest, sum)
-
-  -- as many leads were added as runs had entries, at most
-  few_leads : (runs groups left : List (List Entry)) → MergesTo runs groups left → length (grouped_entries runs) ≤ 2 ^ 48 → versions_added (map (owned_versions owners) groups) ≤ 2 ^ 48
-  few_leads runs groups left merged few =
-      let most = merged_fewer runs groups left merged in
-      let fewer = owned_fewer groups in
-      omega (arith, most, fewer, few)
-
-  pub one_added : (runs old new : List (List Entry)) (group : List Entry) (versions : List ℕ) (before after : Sightings) → length (grouped_entries runs) ≤ 2 ^ 48
-      → ((groups : List (List Entry)) → MergesTo runs groups old → MergesTo runs (groups ++ group ∷ []) new) → versions ≡ owned_versions owners group
-      → ((groups : List (List ℕ)) → IsSighting parents groups before → versions_added (groups ++ versions ∷ []) ≤ 2 ^ 48 → IsSighting parents (groups ++ versions ∷ []) after)
-      → AreAdded runs old before → AreAdded runs new after
-  one_added runs old new group versions before after few takes owned adds are =
-      let merged : MergesTo runs (are.groups ++ group ∷ []) new = takes are.groups are.merged in
-      let all : map (owned_versions owners) (are.groups ++ group ∷ []) ≡ map (owned_versions owners) are.groups ++ versions ∷ [] =
-      map-append (owned_versions owners) are.groups (group ∷ []) ∙ ap (λ (vs : List ℕ). map (owned_versions owners) are.groups ++ vs ∷ []) (sym owned) in
-      let room : versions_added (map (owned_versions owners) are.groups ++ versions ∷ []) ≤ 2 ^ 48 =
-      subst (λ (gs : List (List ℕ)). versions_added gs ≤ 2 ^ 48) all (few_leads runs (are.groups ++ group ∷ []) new merged few) in
-      record {
-        groups = are.groups ++ group ∷ [];
-        merged = merged;
-        added = subst (λ (gs : List (List ℕ)). IsSighting parents gs after) (sym all) (adds (map (owned_versions owners) are.groups) are.added room);
-      }
-
-  pub all_added : (runs left : List (List Entry)) (before after : Sightings) → length (grouped_entries runs) ≤ 2 ^ 48
-      → ((groups : List (List Entry)) → MergesTo runs groups left → Merges runs groups)
-      → ((groups : List (List ℕ)) → IsSighting parents groups before → versions_added groups ≤ 2 ^ 48 → IsSighted parents groups after)
-      → AreAdded runs left before → AreSightsOf parents owners runs after
-  all_added runs left before after few ends sums are =
-      record {
-        groups = are.groups;
-        merged = ends are.groups are.merged;
-        sighted = sums (map (owned_versions owners) are.groups) are.added (few_leads runs are.groups left are.merged few);
-      }
-
 -- Entries of an array are few.
 
 few_in_block : (entries : List Entry) → fits_block entries ≡ true → length entries ≤ 2048
@@ -206,15 +144,13 @@ few_entries c (b ∷ blocks) entries is =
     let size = length-append first.0 rest.0 in
     omega (arith, here, others, size, ap (λ (es : List Entry). length es) rest.2)
 
--- a run alone has no more entries than the array
-pub few_marked : (n : ℕ) (c : Image) (blocks : List ℕ) (content : List Entry) → length blocks ≤ 4294967295 → entries_on c blocks ≡ Some content
-    → length (grouped_entries (map (marked 0) (filter (λ e. ltb e.version n) content) ∷ [])) ≤ 2 ^ 48
-few_marked n c blocks content few on =
+-- and so are those of versions below a number
+pub few_below : (n : ℕ) (c : Image) (blocks : List ℕ) (content : List Entry) → length blocks ≤ 4294967295 → entries_on c blocks ≡ Some content
+    → length (filter (λ e. ltb e.version n) content) ≤ 2 ^ 48
+few_below n c blocks content few on =
     let most = few_entries c blocks content on in
-    let size = length-append (map (marked 0) (filter (λ (e : Entry). ltb e.version n) content)) [] in
-    let same = length-map (filter (λ (e : Entry). ltb e.version n) content) (marked 0) in
     let fewer = length-filter_both (λ (e : Entry). ltb e.version n) (λ (e : Entry). not (ltb e.version n)) (λ e. refl) content in
-    omega (arith, most, size, same, fewer, few)
+    omega (arith, most, fewer, few)
 
 -- One run alone.
 

@@ -1,15 +1,20 @@
 -- What is found before any level, and what all levels together say.
-use Rattle.std.proofs.Common.{◌≡◌, ◌<◌, ◌≤◌, ◌-◌, ◌^◌, ◌&&◌, ℕ, Bool, true, false, leb, not, min, get_or, inl, inr, List, [], ◌∷◌, length, map, reverse, drop, Option, None, Some, refl, sym, ap, ◌∙◌, subst, arith, append-nil, true≢false}
-use Rattle.std.specs.List.{list_all, find, fold, slice_get}
-use Rattle.std.specs.Option.{option_or, is_some}
+use Rattle.std.proofs.Common.{◌≡◌, ◌<◌, ◌≤◌, ◌-◌, ◌^◌, ◌&&◌, ℕ, Bool, true, false, leb, not, min, get_or, inl, inr, List, [], ◌∷◌, ◌++◌, length, map, reverse, take, drop, Option, None, Some, refl, sym, ap, ◌∙◌, subst, arith, append-nil, true≢false}
+use Rattle.std.specs.List.{filter_map, list_all, find, slice_get}
+use Rattle.std.specs.Option.{option_map, option_or, is_some}
 use Rattle.std.proofs.lemmas.Bool.{leb-true, le-leb}
+use Rattle.std.proofs.lemmas.List.{take-append-drop}
+use Rattle.std.proofs.lemmas.List.Folds.{list_all-append}
 use Rattle.strat_arena.specs.declared.items.Item.{Item}
-use Rattle.strat_arena.specs.Items.{entries_of, entry_of_item}
+use Rattle.strat_arena.specs.Items.{entry_of_item}
 use Rattle.strat_arena.specs.ArenaView.{KeyValue}
+use Rattle.strat_arena.specs.PoolView.{arena_at}
+use Rattle.strat_arena.specs.declared.pool.PoolEntry.{PoolEntry}
+use Rattle.strat_base.specs.Change.{Change}
 use Rattle.strat_base.specs.Entries.{Entry, is_at}
 use Rattle.strat_base.specs.Tree.{Parents, IsTree}
 use Rattle.strat_base.proofs.EntryLemmas.{is_at_version, at_key_version}
-use Rattle.strat_base.proofs.ListFacts.{Among, all_at, all_from, all_same, among_reverse, find_some, find_none}
+use Rattle.strat_base.proofs.ListFacts.{Among, filter_map-append, all_at, all_from, all_same, among_reverse, find_some, find_none}
 use Rattle.strat_base.proofs.ResultFacts.{option_cases}
 use Rattle.def_check.specs.Firsts.{by_rule, first_in}
 use Rattle.def_check.proofs.FirstLemmas.{first_of_rules}
@@ -17,9 +22,11 @@ use Rattle.def_split.proofs.ListLemmas.{bool_same}
 use Rattle.def_state.specs.Breach.{Breach, breaches, array_breaches}
 use Rattle.def_state.specs.Setting.{set_all}
 use Rattle.def_state.specs.Sound.{has_child_below, has_ascending_entries}
-use Rattle.def_state.specs.State.{State, versions_of, is_living, journal_updates}
+use Rattle.def_slice.specs.Lists.{HoldLists}
+use Rattle.def_state.specs.State.{State, versions_of, is_living, journal_updates, update_of}
 use Rattle.def_state.proofs.UpdateLemmas.{all_among, all_found}
-use Rattle.strat_check.specs.Children.{first_from, lowered_to_child}
+use Rattle.strat_check.specs.Children.{first_from, lowered_by_items, lowered_by_zeros}
+use Rattle.strat_level.specs.Memtable.{ItemList, entries_held}
 use Rattle.strat_check.specs.Places.{place_of, first_in_arrays, NoPlaces}
 use Rattle.strat_check.specs.Walked.{AreFirstChildren, IsFound}
 use Rattle.strat_check.specs.declared.level_walk.Findings.{Findings}
@@ -57,10 +64,42 @@ updates_same t updates =
               ap t (sym (is_at_version e.key e.version some.0 at.1)) ∙ all_at test some.0 (set_all updates) all at.0
         ]
 
-pub found_none : (s : State) (first : List ℕ) (pairs : List KeyValue) (items : List Item) (x : Findings) → AreFirstChildren s first → IsTree (versions_of s) → ((v : ℕ) → is_living s v ≡ true)
-    → entries_of pairs items ≡ set_all (journal_updates s) → x.lowest ≡ fold (λ n (item : Item). lowered_to_child first n item.version) (length (versions_of s)) items
-    → x.horizon ≡ length (versions_of s) → x.leads ≡ 0 → NoPlaces x.places → IsFound s [] x
-found_none s first pairs items x children tree living held lowest horizon leads none = record {
+-- the least children of the versions with an update
+
+module _ (s : State) (first : List ℕ) (children : AreFirstChildren s first) (tree : IsTree (versions_of s)) (living : (v : ℕ) → is_living s v ≡ true) (h : ℕ) (le : h ≤ length (versions_of s)) where
+  lowest_items : (pool : List PoolEntry) (list : ItemList) (updates : List Entry) (n : ℕ) → entries_held pool list ≡ set_all updates
+      → leb h (lowered_by_items first n list.items) ≡ (leb h n && list_all (λ (e : Entry). not (has_child_below s h e.version)) updates)
+  lowest_items pool list updates n held =
+      let pairs : List KeyValue = (arena_at pool list.arena).pairs in
+      lowest_of (λ (item : Item). item.version) h first n list.items
+      ∙ ap (λ (b : Bool). leb h n && b) (
+      all_same (λ (item : Item). leb h (get_or first item.version h)) (λ item. not (has_child_below s h item.version)) list.items (λ item among. child_told s first children tree living h le item.version)
+      ∙ sym (all_mapped (λ (e : Entry). not (has_child_below s h e.version)) (entry_of_item pairs) list.items)
+      ∙ ap (list_all (λ (e : Entry). not (has_child_below s h e.version))) held
+      ∙ updates_same (λ v. not (has_child_below s h v)) updates)
+
+  -- in level 0 and in the sealed one
+  lowest_zeros : (mem : ℕ) (journal : List Change) (pool : List PoolEntry) (zero : ItemList) (sealed : Option ItemList) (spare : ℕ) → HoldLists mem journal (entries_held pool zero) (option_map (entries_held pool) sealed) spare
+      → leb h (lowered_by_zeros first (length (versions_of s)) zero sealed) ≡ list_all (λ (e : Entry). not (has_child_below s h e.version)) (filter_map update_of journal)
+  lowest_zeros mem journal pool zero None spare hold =
+      lowest_items pool zero (filter_map update_of journal) (length (versions_of s)) hold.1
+      ∙ ap (λ (b : Bool). b && list_all (λ (e : Entry). not (has_child_below s h e.version)) (filter_map update_of journal)) (le-leb h (length (versions_of s)) le)
+  lowest_zeros mem journal pool zero (Some z) spare hold =
+      let front : List Entry = filter_map update_of (take mem journal) in
+      let behind : List Entry = filter_map update_of (drop mem journal) in
+      let both : front ++ behind ≡ filter_map update_of journal =
+      sym (filter_map-append update_of (take mem journal) (drop mem journal)) ∙ ap (filter_map update_of) (take-append-drop mem journal) in
+      lowest_items pool zero behind (lowered_by_items first (length (versions_of s)) z.items) hold.2
+      ∙ ap (λ (b : Bool). b && list_all (λ (e : Entry). not (has_child_below s h e.version)) behind) (
+      lowest_items pool z front (length (versions_of s)) hold.1
+      ∙ ap (λ (b : Bool). b && list_all (λ (e : Entry). not (has_child_below s h e.version)) front) (le-leb h (length (versions_of s)) le))
+      ∙ sym (list_all-append (λ (e : Entry). not (has_child_below s h e.version)) front behind)
+      ∙ ap (list_all (λ (e : Entry). not (has_child_below s h e.version))) both
+
+pub found_none : (s : State) (first : List ℕ) (mem : ℕ) (pool : List PoolEntry) (zero : ItemList) (sealed : Option ItemList) (spare : ℕ) (x : Findings) → AreFirstChildren s first → IsTree (versions_of s)
+    → ((v : ℕ) → is_living s v ≡ true) → HoldLists mem s.journal (entries_held pool zero) (option_map (entries_held pool) sealed) spare
+    → x.lowest ≡ lowered_by_zeros first (length (versions_of s)) zero sealed → x.horizon ≡ length (versions_of s) → x.leads ≡ 0 → NoPlaces x.places → IsFound s [] x
+found_none s first mem pool zero sealed spare x children tree living held lowest horizon leads none = record {
   firsts = record {
     tagged = none.tagged;
     arrays = record { agreeing = none.arrays.agreeing; dense = none.arrays.dense; led = none.arrays.led; drawn = none.arrays.drawn; described = none.arrays.described };
@@ -69,12 +108,7 @@ found_none s first pairs items x children tree living held lowest horizon leads 
     settled = none.settled;
   };
   lowest = λ h le.
-      ap (leb h) lowest ∙ lowest_of (λ (item : Item). item.version) h first (length (versions_of s)) items
-      ∙ ap (λ (b : Bool). b && list_all (λ (item : Item). leb h (get_or first item.version h)) items) (le-leb h (length (versions_of s)) le)
-      ∙ all_same (λ (item : Item). leb h (get_or first item.version h)) (λ item. not (has_child_below s h item.version)) items (λ item among. child_told s first children tree living h le item.version)
-      ∙ sym (all_mapped (λ (e : Entry). not (has_child_below s h e.version)) (entry_of_item pairs) items)
-      ∙ ap (list_all (λ (e : Entry). not (has_child_below s h e.version))) held
-      ∙ updates_same (λ v. not (has_child_below s h v)) (journal_updates s)
+      ap (leb h) lowest ∙ lowest_zeros s first children tree living h le mem s.journal pool zero sealed spare held
       ∙ ap (list_all (λ (e : Entry). not (has_child_below s h e.version))) (sym (append-nil (journal_updates s)));
   horizon = λ h. ap (leb h) horizon ∙ and_true (leb h (length (versions_of s)));
   leads = leads;

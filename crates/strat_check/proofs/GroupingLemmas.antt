@@ -1,5 +1,5 @@
 -- Entries that ascend, key by key.
-use Rattle.std.proofs.Common.{◌≡◌, ℕ, Bool, true, false, cond, not, inl, inr, List, [], ◌∷◌, ◌++◌, refl, sym, ap, ◌∙◌, subst, true≢false}
+use Rattle.std.proofs.Common.{◌≡◌, ℕ, Bool, true, false, cond, not, inl, inr, List, [], ◌∷◌, ◌++◌, map, refl, sym, ap, ◌∙◌, subst, append_assoc, true≢false}
 use Rattle.std.specs.List.{list_all, list_any}
 use Rattle.std.specs.Ordering.{nat_cmp, ordering_then, ordering_reverse}
 use Rattle.std.specs.declared.cmp.Ordering.{Ordering}
@@ -12,7 +12,8 @@ use Rattle.strat_base.proofs.ListFacts.{Among, any_among}
 use Rattle.strat_base.proofs.EntryLemmas.{is_of_key, same_bytes}
 use Rattle.def_state.proofs.MapLemmas.{same_key}
 use Rattle.def_state.proofs.SettingLemmas.{order, stands_first, first_of}
-use Rattle.def_split.specs.Groups.{grouped_entries, has_one_key, are_keyed_apart, AreGroups}
+use Rattle.def_split.specs.Groups.{grouped_entries, group_versions, has_one_key, are_keyed_apart, AreGroups}
+use Rattle.strat_check.specs.KeyWalks.{versions_behind}
 
 -- groups with one more entry in front: in the first of them, if that has the entry's key
 joined_group : Entry → List (List Entry) → List (List Entry)
@@ -119,3 +120,84 @@ pub groups_of : (entries : List Entry) → is_ascending entries ≡ true → Are
 groups_of entries up =
     let are = built entries up in
     (record { keyed = are.keyed; apart = are.apart; ascending = ap is_ascending are.whole ∙ up }, are.whole)
+
+-- The versions of groups, as a walk over the entries gives them.
+
+-- the versions of groups, of which the first is joined with those of a key at hand if it has that key
+front_versions : List ℕ → List ℕ → List (List Entry) → List (List ℕ)
+front_versions key versions [] = versions ∷ []
+front_versions key versions ([] ∷ groups) = versions ∷ group_versions groups
+front_versions key versions ((d ∷ group) ∷ groups) =
+    cond (is_of key d) ((versions ++ map (λ (x : Entry). x.version) (d ∷ group)) ∷ group_versions groups) (versions ∷ group_versions ((d ∷ group) ∷ groups))
+
+begun_versions : (e : Entry) (groups : List (List Entry)) → front_versions e.key (e.version ∷ []) groups ≡ group_versions (joined_group e groups)
+unfolding joined_group front_versions
+begun_versions e [] = refl
+begun_versions e ([] ∷ groups) = refl
+begun_versions e ((d ∷ group) ∷ groups) = go (is_of e.key d)
+  where
+    go : (b : Bool) → cond b ((e.version ∷ map (λ (x : Entry). x.version) (d ∷ group)) ∷ group_versions groups) ((e.version ∷ []) ∷ group_versions ((d ∷ group) ∷ groups))
+        ≡ group_versions (cond b ((e ∷ d ∷ group) ∷ groups) ((e ∷ []) ∷ (d ∷ group) ∷ groups))
+    go true = refl
+    go false = refl
+
+-- an entry of the key at hand is joined to it
+front_same : (key versions : List ℕ) (e : Entry) (groups : List (List Entry)) → is_of key e ≡ true
+    → front_versions key (versions ++ e.version ∷ []) groups ≡ front_versions key versions (joined_group e groups)
+unfolding joined_group front_versions
+front_same key versions e [] is =
+    sym (ap (λ (b : Bool). cond b ((versions ++ e.version ∷ []) ∷ []) (versions ∷ (e.version ∷ []) ∷ [])) is)
+front_same key versions e ([] ∷ groups) is =
+    sym (ap (λ (b : Bool). cond b ((versions ++ e.version ∷ []) ∷ group_versions groups) (versions ∷ (e.version ∷ []) ∷ group_versions groups)) is)
+front_same key versions e ((d ∷ group) ∷ groups) is =
+    go (is_of key d) ∙ ap (λ (k : List ℕ). front_versions key versions (cond (is_of k d) ((e ∷ d ∷ group) ∷ groups) ((e ∷ []) ∷ (d ∷ group) ∷ groups))) (sym (is_of_key key e is))
+  where
+    go : (b : Bool) → cond b (((versions ++ e.version ∷ []) ++ map (λ (x : Entry). x.version) (d ∷ group)) ∷ group_versions groups) ((versions ++ e.version ∷ []) ∷ group_versions ((d ∷ group) ∷ groups))
+        ≡ front_versions key versions (cond b ((e ∷ d ∷ group) ∷ groups) ((e ∷ []) ∷ (d ∷ group) ∷ groups))
+    go true =
+        ap (λ (vs : List ℕ). vs ∷ group_versions groups) (append_assoc versions (e.version ∷ []) (map (λ (x : Entry). x.version) (d ∷ group)))
+        ∙ sym (ap (λ (b : Bool). cond b ((versions ++ map (λ (x : Entry). x.version) (e ∷ d ∷ group)) ∷ group_versions groups) (versions ∷ group_versions ((e ∷ d ∷ group) ∷ groups))) is)
+    go false =
+        sym (ap (λ (b : Bool). cond b ((versions ++ e.version ∷ []) ∷ group_versions ((d ∷ group) ∷ groups)) (versions ∷ group_versions ((e ∷ []) ∷ (d ∷ group) ∷ groups))) is)
+
+-- one of another key begins a group
+front_other : (key versions : List ℕ) (e : Entry) (groups : List (List Entry)) → is_of key e ≡ false
+    → versions ∷ group_versions (joined_group e groups) ≡ front_versions key versions (joined_group e groups)
+unfolding joined_group front_versions
+front_other key versions e [] other =
+    sym (ap (λ (b : Bool). cond b ((versions ++ e.version ∷ []) ∷ []) (versions ∷ (e.version ∷ []) ∷ [])) other)
+front_other key versions e ([] ∷ groups) other =
+    sym (ap (λ (b : Bool). cond b ((versions ++ e.version ∷ []) ∷ group_versions groups) (versions ∷ (e.version ∷ []) ∷ group_versions groups)) other)
+front_other key versions e ((d ∷ group) ∷ groups) other = go (is_of e.key d)
+  where
+    go : (b : Bool) → versions ∷ group_versions (cond b ((e ∷ d ∷ group) ∷ groups) ((e ∷ []) ∷ (d ∷ group) ∷ groups))
+        ≡ front_versions key versions (cond b ((e ∷ d ∷ group) ∷ groups) ((e ∷ []) ∷ (d ∷ group) ∷ groups))
+    go true =
+        sym (ap (λ (b : Bool). cond b ((versions ++ map (λ (x : Entry). x.version) (e ∷ d ∷ group)) ∷ group_versions groups) (versions ∷ group_versions ((e ∷ d ∷ group) ∷ groups))) other)
+    go false =
+        sym (ap (λ (b : Bool). cond b ((versions ++ e.version ∷ []) ∷ group_versions ((d ∷ group) ∷ groups)) (versions ∷ group_versions ((e ∷ []) ∷ (d ∷ group) ∷ groups))) other)
+
+behind_front : (key : List ℕ) (v : ℕ) (versions : List ℕ) (entries : List Entry) → versions_behind key (v ∷ versions) entries ≡ front_versions key (v ∷ versions) (key_groups entries)
+unfolding key_groups versions_behind front_versions
+behind_front key v versions [] = refl
+behind_front key v versions (e ∷ entries) = go (behind_front key v (versions ++ e.version ∷ []) entries) (behind_front e.key e.version [] entries) (is_of key e) refl
+  where
+    go : versions_behind key (v ∷ (versions ++ e.version ∷ [])) entries ≡ front_versions key (v ∷ (versions ++ e.version ∷ [])) (key_groups entries)
+        → versions_behind e.key (e.version ∷ []) entries ≡ front_versions e.key (e.version ∷ []) (key_groups entries) → (b : Bool) → is_of key e ≡ b
+        → cond b (versions_behind key (v ∷ (versions ++ e.version ∷ [])) entries) ((v ∷ versions) ∷ versions_behind e.key (e.version ∷ []) entries)
+        ≡ front_versions key (v ∷ versions) (joined_group e (key_groups entries))
+    go rest other true is = rest ∙ front_same key (v ∷ versions) e (key_groups entries) is
+    go same rest false is =
+        ap (λ (vs : List (List ℕ)). (v ∷ versions) ∷ vs) (rest ∙ begun_versions e (key_groups entries))
+        ∙ front_other key (v ∷ versions) e (key_groups entries) is
+
+-- behind no version at all come those of all groups
+pub all_behind : (key : List ℕ) (entries : List Entry) → versions_behind key [] entries ≡ group_versions (key_groups entries)
+unfolding key_groups versions_behind
+all_behind key [] = refl
+all_behind key (e ∷ entries) = go (is_of key e) refl ∙ behind_front e.key e.version [] entries ∙ begun_versions e (key_groups entries)
+  where
+    go : (b : Bool) → is_of key e ≡ b
+        → cond b (versions_behind key (e.version ∷ []) entries) (versions_behind e.key (e.version ∷ []) entries) ≡ versions_behind e.key (e.version ∷ []) entries
+    go true is = ap (λ (k : List ℕ). versions_behind k (e.version ∷ []) entries) (sym (is_of_key key e is))
+    go false is = refl

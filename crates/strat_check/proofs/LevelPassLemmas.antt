@@ -178,14 +178,13 @@ module _ (parents : Parents) (tree : IsTree parents) (level : Level) (may : MayB
         merges i (filter (λ e. ltb e.version (length parents)) a.content)
         (mapped_get (λ (x : TaggedArray). x.content) (map (kept_below (length parents)) level.arrays) i (kept_below (length parents) a) (mapped_get (kept_below (length parents)) level.arrays i a at))
 
-    pub level_counted : (found : List Strays) (before now : Sightings) → AreGroupsCounted parents (map (λ a. a.tag) level.arrays) groups found before → length found ≡ length level.arrays
+    pub level_counted : (found : List Strays) (before now : Sightings) → AreGroupsCounted parents (map (λ a. a.tag) level.arrays) groups found before
         → sum_by (λ a. length a.content) level.arrays ≤ 2 ^ 48
         → ((others : List (List ℕ)) → IsSighting parents others before → versions_added others ≤ 2 ^ 48 → IsSighted parents others now) → IsCountedLevel parents level found now
-    level_counted found before now counted len total finish = record {
+    level_counted found before now counted total finish = record {
       groups = leads_of_marked (map (λ a. a.tag) level.arrays) groups;
       leads = leads;
       sighted = finish (group_versions (leads_of_marked (map (λ a. a.tag) level.arrays) groups)) (counted.sighted (few_versions total)) (few_versions total);
-      len = len;
       strays = λ i a s at here.
           let within = less_than found i s here in
           let is : strays_at found i ≡ s = at_place found i s (record { has_any = false; is_live = false; is_due = false }) here in

@@ -3,7 +3,6 @@ pub mod ArrayLemmas
 pub mod BareLemmas
 pub mod BeginLemmas
 pub mod ChildLemmas
-pub mod CountedArrayLemmas
 pub mod FitFound
 pub mod FitLemmas
 pub mod FoundLemmas
@@ -12,6 +11,7 @@ pub mod GrowthLemmas
 pub mod HeadLemmas
 pub mod HeldLemmas
 pub mod HideLemmas
+pub mod KeyWalkLemmas
 pub mod LeastLemmas
 pub mod LevelLemmas
 pub mod LevelOnLemmas

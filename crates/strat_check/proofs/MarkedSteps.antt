@@ -37,15 +37,14 @@ low_here n entries i d blocks lt settled =
     ltb-true (get_or entries i d).version n (sym (tagged_below n (get_or entries i d).version) ∙ lead_here (versions_below n) entries i d blocks lt settled)
 
 -- what a run has left that begins
-pub marked_opened : (disk : DiskView) (i n : ℕ) (extents : List Extent) (old new : BlockReading) (j : ℕ) → old ≡ record { entries = []; blocks = blocks_of extents }
+pub below_opened : (disk : DiskView) (n : ℕ) (extents : List Extent) (old new : BlockReading) (j : ℕ) → old ≡ record { entries = []; blocks = blocks_of extents }
     → is_settled (versions_below n) (drop j new.entries) new.blocks ≡ true → PassesOver disk (versions_below n) old 0 new j → (f : Image) → Exposes disk f
     → (c : List Entry) → entries_on f (blocks_of extents) ≡ Some c → is_ascending c ≡ true
-    → map (marked i) ((leads_from (versions_below n) n (drop j new.entries) new.blocks).left f) ≡ map (marked i) (filter (λ e. ltb e.version n) c)
-marked_opened disk i n extents old new j begun is passes f exposed c on up =
-    ap (map (marked i))
-    (opened disk (versions_below n) (versions_below n) n extents old new j begun refl is passes f exposed
+    → (leads_from (versions_below n) n (drop j new.entries) new.blocks).left f ≡ filter (λ e. ltb e.version n) c
+below_opened disk n extents old new j begun is passes f exposed c on up =
+    opened disk (versions_below n) (versions_below n) n extents old new j begun refl is passes f exposed
     ∙ ap (lead_entries (versions_below n)) (read_whole f None (blocks_of extents) c on up).0
-    ∙ leads_below n c)
+    ∙ leads_below n c
 
 drop_mapped : (i : ℕ) (xs : List Entry) → map (marked i) (drop 1 xs) ≡ drop 1 (map (marked i) xs)
 drop_mapped i [] = refl

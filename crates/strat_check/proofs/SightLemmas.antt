@@ -1,9 +1,9 @@
 -- What is counted of keys, and what is summed up of it.
-use Rattle.std.proofs.Common.{◌≡◌, ◌<◌, ◌≤◌, ◌+◌, ◌-◌, ◌*◌, ◌^◌, ℕ, suc, true, eqb, ◌&&◌, min, get_or, set, inl, inr, List, [], ◌∷◌, ◌++◌, length, Option, refl, sym, ap, ◌∙◌, subst, arith}
+use Rattle.std.proofs.Common.{◌≡◌, ◌<◌, ◌≤◌, ◌+◌, ◌-◌, ◌*◌, ◌^◌, ℕ, suc, true, eqb, ◌&&◌, min, get_or, set, inl, inr, List, [], ◌∷◌, ◌++◌, length, replicate, Option, refl, sym, ap, ◌∙◌, subst, arith}
 use Rattle.std.specs.List.{list_all, sum_by, count_by}
 use Rattle.std.specs.Option.{option_map_or}
 use Rattle.std.proofs.lemmas.Bool.{cases_eq}
-use Rattle.std.proofs.lemmas.List.{get_or-set_same, get_or-set_other}
+use Rattle.std.proofs.lemmas.List.{get_or-set_same, get_or-set_other, get_or-replicate, length-replicate}
 use Rattle.std.proofs.lemmas.List.Sums.{sum_by_push}
 use Rattle.std.proofs.lemmas.List.Folds.{list_all-append}
 use Rattle.std.proofs.Math.Nat.{mul-one}
@@ -23,6 +23,19 @@ light_one u lt = omega arith
 light_suc : (n u : ℕ) → n ≤ 16384 → u < n → suc u ≤ 16384
 light_suc n u few lt = omega arith
 
+-- no key yet
+pub none_sighted : (parents : Parents) (n : ℕ) (s : Sightings) → s.own ≡ replicate n 0 → s.hidden ≡ replicate n 0 → s.hidden_weight ≡ replicate n 0 → IsPreorder (length s.own) parents s.order
+    → IsSighting parents [] s
+none_sighted parents n s own hidden weights placed =
+    let size : length s.own ≡ n = ap (λ (ns : List ℕ). length ns) own ∙ length-replicate n 0 in
+    record {
+      descending = refl;
+      own = λ v lt. ap (λ (ns : List ℕ). get_or ns v 0) own ∙ get_or-replicate n v 0 0 (omega (arith, size, lt));
+      hidden = λ v lt. ap (λ (ns : List ℕ). get_or ns v 0) hidden ∙ get_or-replicate n v 0 0 (omega (arith, size, lt));
+      hidden_weight = λ v lt. ap (λ (ns : List ℕ). get_or ns v 0) weights ∙ get_or-replicate n v 0 0 (omega (arith, size, lt));
+      placed = placed;
+    }
+
 -- one more key
 pub sight_added : (parents : Parents) (tree : IsTree parents) (groups : List (List ℕ)) (versions : List ℕ) (s : Sightings) (own hidden weights : List ℕ) (order : Numbering)
     → length parents ≤ 16384 → length s.own ≡ length parents → length own ≡ length s.own → length s.hidden ≡ length s.own → length s.hidden_weight ≡ length s.own
@@ -31,7 +44,7 @@ pub sight_added : (parents : Parents) (tree : IsTree parents) (groups : List (Li
     → HaveGrown (λ v. weight_lost parents (λ u. 1) v versions) s.hidden hidden
     → HaveGrown (λ v. weight_lost parents suc v versions) s.hidden_weight weights
     → IsPreorder (length s.own) parents order
-    → IsSighting parents (groups ++ versions ∷ []) (record { own = own; hidden = hidden; hidden_weight = weights; seen = s.seen; weight = s.weight; is_numbered = true; order = order })
+    → IsSighting parents (groups ++ versions ∷ []) (record { own = own; hidden = hidden; hidden_weight = weights; seen = s.seen; weight = s.weight; order = order })
 sight_added parents tree groups versions s own hidden weights order few known own_len hidden_len weights_len down sighting bound own_grown hidden_grown weights_grown placed =
     record {
       descending = list_all-append descends groups (versions ∷ []) ∙ (λ i. sighting.descending i && (down i && true));
@@ -53,7 +66,7 @@ sight_added parents tree groups versions s own hidden weights order few known ow
           let le = lost_bound parents tree suc (length parents) (λ u under. light_suc (length parents) u few under) (groups ++ versions ∷ []) v (omega (arith, known, own_len, lt)) in
           let is = weights_grown v (omega (arith, weights_len, own_len, lt)) (omega (arith, was, whole, le, bound)) in
           omega (arith, was, whole, is);
-      placed = λ yes'. subst (λ (m : ℕ). IsPreorder m parents order) (sym own_len) placed;
+      placed = subst (λ (m : ℕ). IsPreorder m parents order) (sym own_len) placed;
     }
 
 -- one more version is summed: those below it were, and the others still have what they gain
@@ -133,7 +146,7 @@ module _ (parents : Parents) (tree : IsTree parents) where
   pub sight_finished : (groups : List (List ℕ)) (s : Sightings) (seen gains weight : List ℕ)
       → length parents ≤ 16384 → length s.own ≡ length parents → IsSighting parents groups s → versions_added groups ≤ 2 ^ 48
       → AreSumsOf parents s.own s.hidden seen (length s.own) → AreWeighed s.own gains (length s.own) → AreSumsOf parents gains s.hidden_weight weight (length s.own)
-      → IsSighted parents groups (record { own = s.own; hidden = s.hidden; hidden_weight = s.hidden_weight; seen = seen; weight = weight; is_numbered = s.is_numbered; order = s.order })
+      → IsSighted parents groups (record { own = s.own; hidden = s.hidden; hidden_weight = s.hidden_weight; seen = seen; weight = weight; order = s.order })
   sight_finished groups s seen gains weight few known sighting bound seen_summed weighed weight_summed =
       record {
         own = sighting.own;

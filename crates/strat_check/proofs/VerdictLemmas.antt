@@ -94,7 +94,7 @@ unread_tells disk fault.Device none damaged f h exposed found memory device = de
 unread_tells disk (fault.Damaged b) none damaged f h exposed found memory device = let both : ◌≡◌ {A = Read (Option Head)} (Err b) (Ok (Some h)) = sym (damaged b refl f exposed) ∙ found in cc
 unread_tells disk fault.NoMemory none damaged f h exposed found memory device = memory refl
 
-pub reads_of_store : (f : Image) (h k : Head) (p q r : ℕ) → recover f ≡ Ok (Some k) → recover f ≡ Ok (Some h) → ReadsAtMost (chain_length k.sb.length + region_blocks k.sb.mem + 3) p q → ReadsAtMost (3 * length (listed_blocks k.manifest)) q r
+pub reads_of_store : (f : Image) (h k : Head) (p q r : ℕ) → recover f ≡ Ok (Some k) → recover f ≡ Ok (Some h) → ReadsAtMost (chain_length k.sb.length + 2 * region_blocks k.sb.mem + 2) p q → ReadsAtMost (3 * length (listed_blocks k.manifest)) q r
     → ReadsAtMost (reads_of_check h) p r
 reads_of_store f h k p q r read found first next =
     let both : ◌≡◌ {A = Read (Option Head)} (Ok (Some k)) (Ok (Some h)) = sym read ∙ found in

@@ -1,8 +1,10 @@
 -- The least children of versions.
-use Rattle.std.specs.Prelude.{ℕ, ◌-◌, ◌==◌, min, Bool, false, if◌then◌else◌, List, length, find, unwrap_or, slice_index, slice_index_or}
-use Rattle.std.specs.List.{range_with_len}
+use Rattle.std.specs.Prelude.{ℕ, ◌-◌, ◌==◌, min, Bool, false, if◌then◌else◌, List, Option, length, find, unwrap_or, slice_index, slice_index_or}
+use Rattle.std.specs.List.{fold, range_with_len}
 use Rattle.std.specs.Option.{option_map_or}
+use Rattle.strat_arena.specs.declared.items.Item.{Item}
 use Rattle.strat_base.specs.Tree.{Parents, parent_of}
+use Rattle.strat_level.specs.Memtable.{ItemList}
 
 -- a version's parent is this one
 abbrev pub is_child_of : Parents → ℕ → ℕ → Bool
@@ -21,3 +23,13 @@ lowered_to_child first n v = min (slice_index_or first v n) n
 -- the same, where the version has entries of its own
 abbrev pub lowered_by_own : List ℕ → List ℕ → ℕ → ℕ → ℕ
 lowered_by_own own first n v = if slice_index own v == 0 then n else lowered_to_child first n v
+
+-- the least of a number and of the least children of the versions of items
+abbrev pub lowered_by_items : List ℕ → ℕ → List Item → ℕ
+lowered_by_items first n items = fold (λ k item. lowered_to_child first k item.version) n items
+
+-- and of those of level 0 and of the sealed one, where there is one
+abbrev pub lowered_by_zeros : List ℕ → ℕ → ItemList → Option ItemList → ℕ
+lowered_by_zeros first n zero sealed =
+    lowered_by_items first (option_map_or (λ z. lowered_by_items first n z.items) sealed n)
+    zero.items

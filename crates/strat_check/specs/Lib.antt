@@ -4,6 +4,7 @@ pub mod Bares
 pub mod Below
 pub mod Children
 pub mod Fit
+pub mod KeyWalks
 pub mod LevelNumbers
 pub mod LevelPasses
 pub mod LevelRuns

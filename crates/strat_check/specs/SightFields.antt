@@ -11,7 +11,6 @@ sightings_of a = record {
   hidden_weight = a.hidden_weight.items;
   seen = a.seen.items;
   weight = a.weight.items;
-  is_numbered = a.is_numbered;
   order = a.order;
 }
 

@@ -1,6 +1,6 @@
 -- What is counted of many keys at each version. Of each key a list has the versions of its entries, the
 -- greatest first.
-use Rattle.std.specs.Prelude.{◌≡◌, ℕ, ◌<◌, suc, ◌==◌, if◌then◌else◌, Bool, true, List, length, sum_by, find, slice_index, IsTrue}
+use Rattle.std.specs.Prelude.{◌≡◌, ℕ, ◌<◌, suc, ◌==◌, if◌then◌else◌, List, length, sum_by, find, slice_index, IsTrue}
 use Rattle.std.specs.List.{list_any, list_all}
 use Rattle.std.specs.Option.{option_map_or}
 use Rattle.strat_base.specs.Order.{descends}
@@ -10,15 +10,13 @@ use Rattle.def_check.specs.Weights.{nearest_sum}
 use Rattle.strat_tree.specs.Preorder.{Numbering, IsPreorder}
 
 -- for each version, how many entries it has, how many those hide of the entries that its parent sees, and
--- what these weigh; how many keys it sees, and what it sees of them weighs; and an order of the versions,
--- once they are numbered
+-- what these weigh; how many keys it sees, and what it sees of them weighs; and an order of the versions
 pub record Sightings : Type 0 where
   pub own : List ℕ
   pub hidden : List ℕ
   pub hidden_weight : List ℕ
   pub seen : List ℕ
   pub weight : List ℕ
-  pub is_numbered : Bool
   pub order : Numbering
 
 -- how many entries groups have
@@ -52,7 +50,7 @@ pub record IsSighting (parents : Parents) (groups : List (List ℕ)) (s : Sighti
       → slice_index s.hidden v ≡ lost_sum parents (λ u. 1) groups v
   pub hidden_weight : (v : ℕ) → v < length s.own
       → slice_index s.hidden_weight v ≡ lost_sum parents suc groups v
-  pub placed : s.is_numbered ≡ true → IsPreorder (length s.own) parents s.order
+  pub placed : IsPreorder (length s.own) parents s.order
 
 -- and what each version sees of them was summed up
 pub record IsSighted (parents : Parents) (groups : List (List ℕ)) (s : Sightings) : Type 0 where

@@ -25,7 +25,6 @@ pub record IsCountedLevel (parents : Parents) (level : Level) (found : List Stra
   pub groups : List (List Entry)
   pub leads : AreLeadsOf level groups
   pub sighted : IsSighted parents (group_versions groups) s
-  pub len : length found ≡ length level.arrays
   pub strays : (i : ℕ) (a : TaggedArray) (of_array : Strays) → slice_get level.arrays i ≡ Some a
       → slice_get found i ≡ Some of_array
       → AreStraysOf parents (length parents) (grouped_entries groups) a of_array

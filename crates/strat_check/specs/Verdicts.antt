@@ -53,4 +53,5 @@ pub record VerdictHasCause (answer : Verdict) (before now : ℕ) : Type 0 where
 -- how often a check of a store reads at most: what recovery reads, and each block of an array three times
 abbrev pub reads_of_check : Head → ℕ
 reads_of_check h =
-    chain_length h.sb.length + region_blocks h.sb.mem + 3 + 3 * length (listed_blocks h.manifest)
+    chain_length h.sb.length + 2 * region_blocks h.sb.mem + 2
+    + 3 * length (listed_blocks h.manifest)

@@ -18,6 +18,7 @@ use Rattle.strat_check.specs.declared.level_walk.Findings.{Findings}
 use Rattle.strat_check.specs.declared.level_walk.Tables.{Tables}
 use Rattle.strat_check.specs.Children.{first_from}
 use Rattle.strat_base.specs.Tree.{Parents}
+use Rattle.strat_tree.specs.Preorder.{IsPreorder}
 use Rattle.strat_check.specs.declared.places.ArrayPlaces.{ArrayPlaces}
 use Rattle.strat_check.specs.declared.places.Places.{Places}
 use Rattle.strat_check.specs.declared.scan.Scan.{Scan}
@@ -115,11 +116,13 @@ pub record IsNextLevel (s : State) (done rest : List Level) (on : Level) (scans 
   pub split : s.levels ≡ done ++ on ∷ rest
   pub scanned : scans ≡ map (scan_of (length (versions_of s))) on.arrays
 
--- the tables of a check have a place for each version
+-- the tables of a check have a place for each version, and its order in the tree
 pub record HaveRoomFor (parents : Parents) (t : Tables) : Type 0 where
   pub leads : length t.leads.own ≡ length parents
   pub array : length t.array.own ≡ length parents
   pub first : length t.first.items ≡ length parents
+  pub leads_placed : IsPreorder (length parents) parents t.leads.order
+  pub array_placed : IsPreorder (length parents) parents t.array.order
 
 -- the least child of each version of a state
 pub record AreFirstChildren (s : State) (first : List ℕ) : Type 0 where

@@ -2,14 +2,15 @@
 //! least of their children is below it.
 
 ghost use Rattle.std.specs.List.{fold, range_with_len};
-ghost use Rattle.std.specs.Prelude.{◌≡◌, ◌<◌, ◌≤◌, ◌-◌, ℕ, length, min, slice_index_or, IfOk};
+ghost use Rattle.std.specs.Prelude.{◌≡◌, ◌<◌, ◌≤◌, ◌-◌, ℕ, length, min, option_map, slice_index_or, IfOk};
 ghost use Rattle.strat_base.specs.Tree.{IsTree};
-ghost use Rattle.strat_check.specs.Children.{first_from, lowered_to_child, lowered_by_own};
+ghost use Rattle.strat_check.specs.Children.{first_from, lowered_to_child, lowered_by_items, lowered_by_own, lowered_by_zeros};
 
 use crate::sights::Sights;
 use std::alloc::Global;
 use strat_arena::Item;
 use strat_base::{NoMemory, Version};
+use strat_level::ZeroView;
 use strat_tree::Tree;
 
 /// Notes each version at its parent, the greatest first, so that the least child of each is left.
@@ -57,15 +58,27 @@ fn lower(lowest: u32, first: &[u32], v: Version) -> u32
 }
 
 /// The least of a number and the least children of the versions of items. O(items).
-pub fn lower_by_items(lowest: u32, first: &[u32], items: &[Item]) -> u32
-    ensures ok { result
-        ≡ fold (λ n item. lowered_to_child first.now n item.version) lowest items.now }
+fn lower_by_items(lowest: u32, first: &[u32], items: &[Item]) -> u32
+    ensures ok { result ≡ lowered_by_items first.now lowest items.now }
 {
     let mut least = lowest;
     for item in items {
         least = lower(least, first, item.version);
     }
     least
+}
+
+/// The least of a number and the least children of the versions of level 0's items, and of those of the sealed one, where
+/// there is one. O(items).
+pub fn lower_by_zeros(lowest: u32, first: &[u32], zero: &ZeroView, sealed: Option<&ZeroView>) -> u32
+    ensures ok { result ≡ lowered_by_zeros first.now lowest zero.now
+        (option_map (λ z. z.now) sealed.entry) }
+{
+    if let Some(sealed) = sealed {
+        let least = lower_by_items(lowest, first, sealed.items());
+        return lower_by_items(least, first, zero.items());
+    }
+    lower_by_items(lowest, first, zero.items())
 }
 
 /// The lesser of a number and the least child of a version, if it has leads. O(1).

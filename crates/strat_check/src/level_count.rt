@@ -17,6 +17,7 @@ ghost use Rattle.def_check.specs.Told.{MayBeCounted};
 ghost use Rattle.strat_merge.specs.MergerFields.{runs_merged, views_of};
 ghost use Rattle.strat_merge.specs.Reading.{ReadsRuns};
 ghost use Rattle.strat_merge.specs.Runs.{lefts};
+ghost use Rattle.strat_tree.specs.Preorder.{IsPreorder};
 ghost use Rattle.strat_promote.specs.Job.{blocks_listed};
 ghost use Rattle.strat_promote.specs.Opening.{IsBlamed};
 ghost use Rattle.strat_check.specs.LevelPasses.{IsLevelPass, IsCountingLevel, IsLevelCounted};
@@ -62,6 +63,7 @@ fn count_group<D: Disk>(
         (IsLevelPass (length tree.now.parents) (length arrays.now) pass.new) }
     ensures same { pass.new.owners.items ≡ pass.old.owners.items }
     ensures len { length sights.new.own ≡ length sights.old.own }
+    ensures found { sights.new.order ≡ sights.old.order }
     ensures ok { IfOk result (λ more. IsTrue more → (f : Image) (runs : List (List Entry))
         → Exposes (D.view disk.old) f
         → AreOwners (map (λ a. a.versions) arrays.now) pass.old.owners.items
@@ -115,6 +117,7 @@ fn count_groups<D: Disk>(
     ensures kept { OnOk result
         (IsLevelPass (length tree.now.parents) (length arrays.now) pass.new) }
     ensures len { length sights.new.own ≡ length sights.old.own }
+    ensures state { sights.new.order ≡ sights.old.order }
     ensures ok { IfOk result (λ all. IsTrue all → (f : Image) (runs : List (List Entry))
         → Exposes (D.view disk.old) f
         → AreOwners (map (λ a. a.versions) arrays.now) pass.old.owners.items
@@ -157,7 +160,8 @@ pub fn count_level<D: Disk>(
     requires kept { (a : Desc) → Contains level.now.arrays a
         → IsTrue (list_all (λ v. nat_lt v (length tree.now.parents)) a.versions) }
     requires room { length level.now.arrays ≤ 16384 }
-    requires len { length sights.old.own ≡ length tree.now.parents }
+    requires len { (length sights.old.own ≡ length tree.now.parents)
+        × IsPreorder (length tree.now.parents) tree.now.parents sights.old.order }
     ensures ok { IfOk result (λ found. (f : Image) (on : Level) → Exposes (D.view disk.old) f
         → level_on f level.now ≡ Some on → MayBeCounted on
         → on.horizon ≤ length tree.now.parents
@@ -165,6 +169,7 @@ pub fn count_level<D: Disk>(
         → IsCountedLevel tree.now.parents on found.items sights.new) }
     ensures found { IfOk result (λ found. length found.items ≡ length level.now.arrays) }
     ensures len { length sights.new.own ≡ length sights.old.own }
+    ensures state { sights.new.order ≡ sights.old.order }
     ensures damaged { (b : ℕ) → IsErrOf result (Damaged b)
         → IsBlamed (D.view disk.old) level.now.arrays b }
     ensures same { OnlyReads (D.view disk.old) (D.view disk.new) }

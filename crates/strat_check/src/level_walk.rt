@@ -13,6 +13,7 @@ ghost use Rattle.strat_array.specs.Within.{AreWithin};
 ghost use Rattle.strat_base.specs.Entries.{Entry};
 ghost use Rattle.strat_base.specs.declared.descriptors.ArrayDesc.{ArrayDesc};
 ghost use Rattle.strat_base.specs.declared.failures.Trouble.TheVariants as trouble;
+ghost use Rattle.strat_tree.specs.Preorder.{IsPreorder};
 ghost use Rattle.strat_promote.specs.Job.{blocks_listed, IsBadInput};
 ghost use Rattle.strat_promote.specs.Leads.{misfit_in};
 ghost use Rattle.strat_check.specs.ArrayNumbers.{IsArrayTold};
@@ -115,12 +116,14 @@ fn tell_one<D: Disk>(
     requires fits { AreWithin desc.now.extents }
     requires kept { IsTrue (list_all (λ v. nat_lt v (length tree.now.parents)) desc.now.versions) }
     requires len { (length leads.now.own ≡ length tree.now.parents)
-        × (length array.old.own ≡ length tree.now.parents) }
+        × (length array.old.own ≡ length tree.now.parents)
+        × IsPreorder (length tree.now.parents) tree.now.parents array.old.order }
     ensures ok { IfOk result (λ told. (f : Image) (s : State) (on : Level) (a : TaggedArray)
         (groups : List (List Entry)) → Exposes (D.view disk.old) f
         → versions_of s ≡ tree.now.parents → array_on f desc.now ≡ Some a
         → IsArrayLooked s on a groups scan strays leads.now → IsArrayTold s on a told) }
     ensures len { length array.new.own ≡ length array.old.own }
+    ensures state { array.new.order ≡ array.old.order }
     ensures damaged { (b : ℕ) → IsErrOf result (trouble.Damaged b) → (f : Image)
         → Exposes (D.view disk.old) f → misfit_in f desc.now ≡ Some b }
     ensures same { OnlyReads (D.view disk.old) (D.view disk.new) }
@@ -147,7 +150,8 @@ fn tell_arrays<D: Disk>(
     requires kept { (a : ArrayDesc) → Contains level.now.arrays a
         → IsTrue (list_all (λ v. nat_lt v (length tree.now.parents)) a.versions) }
     requires len { (length leads.now.own ≡ length tree.now.parents)
-        × (length array.old.own ≡ length tree.now.parents) }
+        × (length array.old.own ≡ length tree.now.parents)
+        × IsPreorder (length tree.now.parents) tree.now.parents array.old.order }
     requires room { (length scans.now ≡ length level.now.arrays)
         × (length strays.now ≡ length level.now.arrays) }
     ensures ok { IfOk result (λ told. (f : Image) (s : State) (on : Level)
@@ -156,6 +160,7 @@ fn tell_arrays<D: Disk>(
         → AreArraysLooked s on groups scans.now strays.now leads.now
         → AreArraysTold s on on.arrays told) }
     ensures len { length array.new.own ≡ length array.old.own }
+    ensures state { array.new.order ≡ array.old.order }
     ensures damaged { (b : ℕ) → IsErrOf result (trouble.Damaged b) → (f : Image)
         → Exposes (D.view disk.old) f → IsBadInput f level.now.arrays b }
     ensures same { OnlyReads (D.view disk.old) (D.view disk.new) }

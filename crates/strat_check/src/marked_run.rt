@@ -85,7 +85,7 @@ pub struct MarkedRun {
 }
 
 impl MarkedRun {
-    ghost use Rattle.std.specs.Prelude.{◌*◌, nat_lt, map, filter, option_map, IfSome};
+    ghost use Rattle.std.specs.Prelude.{◌*◌, nat_lt, map, filter, option_map, IfSome, IsSome};
     ghost use Rattle.strat_array.specs.Within.{AreWithin};
     ghost use Rattle.strat_base.specs.Entries.{Entry as TheEntry, is_ascending};
     ghost use Rattle.strat_base.specs.EntryBytes.{fits_fields};
@@ -94,6 +94,7 @@ impl MarkedRun {
     ghost use Rattle.def_crash.specs.Faults.{ReadsAtMost};
     ghost use Rattle.def_bytes.specs.Arrays.{blocks_of, entries_on};
     ghost use Rattle.def_check.specs.Marked.{marked};
+    ghost use Rattle.strat_merge.specs.Runs.{Advances};
     ghost use Rattle.strat_promote.specs.Leads.{misfit_in};
     ghost use Rattle.strat_check.specs.MarkedRuns.{AreMisfitsOf, marked_seen, unmarked_seen};
 
@@ -111,8 +112,10 @@ impl MarkedRun {
         requires room { (place < 16384) × (versions ≤ 16384) }
         ensures ok { IfOk result (λ run. (f : Image) → Exposes (D.view disk.old) f
             → (c : List TheEntry) → entries_on f (blocks_of desc.now.extents) ≡ Some c
-            → IsTrue (is_ascending c) → (marked_seen run).left f
-            ≡ map (marked place) (filter (λ e. nat_lt e.version versions) c)) }
+            → IsTrue (is_ascending c)
+            → ((unmarked_seen run).left f ≡ filter (λ e. nat_lt e.version versions) c)
+            × ((marked_seen run).left f
+            ≡ map (marked place) (filter (λ e. nat_lt e.version versions) c))) }
         ensures found { IfOk result (λ run. (marked_seen run).versions ≡ 16384 * versions) }
         ensures kept { IfOk result (λ run. AreMisfitsOf (D.view disk.old) desc.now
             (marked_seen run)) }
@@ -149,5 +152,29 @@ impl MarkedRun {
         } else {
             None
         }
+    }
+
+    /// Passes over the first entry that is left, and reads blocks until there is another one whose version is below the
+    /// number. Device: the disk counted a fault. Damaged: this block holds no entries, or none that come after those before
+    /// it. After an error nothing is left.
+    pub(crate) fn pass<D: Disk>(&mut self, disk: &mut D) -> Result<(), Fault>
+        requires { IsSome (unmarked_seen self.old).first }
+        ensures ok { OnOk result
+            (Advances (D.view disk.old) (unmarked_seen self.old) (unmarked_seen self.new)) }
+        ensures found { self.new.place ≡ self.old.place }
+        ensures damaged { (b : ℕ) → IsErrOf result (Damaged b)
+            → Contains (unmarked_seen self.old).blocks b }
+        ensures err { (b : ℕ) → IsErrOf result (Damaged b) → (f : Image)
+            → Exposes (D.view disk.old) f → (unmarked_seen self.old).misfit f ≡ Some b }
+        ensures kept { (f : Image) (b : ℕ) → Exposes (D.view disk.old) f
+            → (unmarked_seen self.new).misfit f ≡ Some b
+            → (unmarked_seen self.old).misfit f ≡ Some b }
+        ensures same { OnlyReads (D.view disk.old) (D.view disk.new) }
+        ensures cause { HasCause Device (D.faults disk.old) (D.faults disk.new) result }
+        ensures reads { ReadsFront (unmarked_seen self.old).blocks (unmarked_seen self.new).blocks
+            (D.reads disk.old) (D.reads disk.new) }
+    {
+        self.at += 1;
+        reach_below(&mut self.blocks, self.versions, &mut self.at, disk)
     }
 }

@@ -1,6 +1,6 @@
 //! A marked run as a merge uses it.
 
-use crate::marked_run::{MarkedRun, PLACES, reach_below};
+use crate::marked_run::{MarkedRun, PLACES};
 use strat_base::{Entry, Fault};
 use strat_disk::Disk;
 use strat_merge::Run;
@@ -23,8 +23,7 @@ impl<D: Disk> Run<D> for MarkedRun {
     }
 
     fn advance(&mut self, disk: &mut D) -> Result<(), Fault> {
-        self.at += 1;
-        reach_below(&mut self.blocks, self.versions, &mut self.at, disk)
+        self.pass(disk)
     }
 
     ghost leaves_run = { marked_law };

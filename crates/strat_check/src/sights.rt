@@ -1,7 +1,7 @@
 //! What each version sees of keys: how many, and what their entries weigh. An entry weighs one more than its
 //! version.
 
-ghost use Rattle.std.specs.Prelude.{◌≡◌, ◌<◌, ◌≤◌, ◌+◌, ◌^◌, ℕ, suc, true, nat_lt, ◌==◌, if◌then◌else◌, List, [], ◌∷◌, ◌++◌, length, replicate, slice_index, sum_by, count_by, vec_capacity, IfOk, IsTrue};
+ghost use Rattle.std.specs.Prelude.{◌≡◌, ◌<◌, ◌≤◌, ◌+◌, ◌^◌, ℕ, suc, nat_lt, ◌==◌, if◌then◌else◌, List, [], ◌∷◌, ◌++◌, length, replicate, slice_index, sum_by, count_by, vec_capacity, IfOk, IsTrue};
 ghost use Rattle.std.specs.List.{list_all};
 ghost use Rattle.strat_base.specs.Order.{descends};
 ghost use Rattle.strat_base.specs.Tree.{Parents, parent_of, IsTree};
@@ -29,7 +29,6 @@ pub struct Sights {
     seen: Vec<u64>,
     weight: Vec<u64>,
     order: Preorder,
-    is_numbered: bool,
     bare: Vec<Bare>,
 }
 
@@ -46,18 +45,22 @@ impl Model for Sights {
 }
 
 impl Sights {
-    /// Sights of no keys, for the versions below a number. Takes 56 bytes for each version, and no other call
-    /// takes memory. Where it is short, none stays taken. O(versions).
-    pub fn new(alloc: Global, versions: u32) -> Result<Sights, NoMemory>
-        ensures ok { IfOk result (λ s. (parents : Parents) → IsSighting parents [] s) }
-        ensures len { IfOk result (λ s. length s.own ≡ versions) }
+    /// Sights of no keys, for the versions of a tree, which are put in order here. Takes 56 bytes for each version, and no
+    /// other call takes memory. Where it is short, none stays taken. O(versions).
+    pub fn new(alloc: Global, tree: &Tree) -> Result<Sights, NoMemory>
+        ensures ok { IfOk result (λ s. IsSighting tree.now.parents [] s) }
+        ensures len { IfOk result (λ s. length s.own ≡ length tree.now.parents) }
+        ensures kept { IfOk result
+            (λ s. IsPreorder (length tree.now.parents) tree.now.parents s.order) }
     {
+        let versions = tree.count();
         let own = zeros(alloc, versions)?;
         let hidden = zeros(alloc, versions)?;
         let hidden_weight = zeros(alloc, versions)?;
         let seen = zeros(alloc, versions)?;
         let weight = zeros(alloc, versions)?;
-        let order = Preorder::new(alloc, versions)?;
+        let mut order = Preorder::new(alloc, versions)?;
+        order.number(tree);
         let bare = Vec::with_capacity(alloc, versions as usize)?;
         Ok(Sights {
             own,
@@ -66,26 +69,25 @@ impl Sights {
             seen,
             weight,
             order,
-            is_numbered: false,
             bare,
         })
     }
 
-    /// Forgets all keys, and the tree. O(versions).
+    /// Forgets all keys. The order of the versions stays. O(versions).
     pub fn clear(&mut self)
-        ensures ok { (parents : Parents) → IsSighting parents [] self.new }
+        ensures ok { (parents : Parents) → length self.old.own ≡ length parents
+            → IsPreorder (length parents) parents self.old.order → IsSighting parents [] self.new }
         ensures len { length self.new.own ≡ length self.old.own }
+        ensures state { self.new.order ≡ self.old.order }
     {
         self.own.fill(0);
         self.hidden.fill(0);
         self.hidden_weight.fill(0);
-        self.is_numbered = false;
     }
 
     /// Adds the versions of one more key's entries, the greatest first. For each version O(log versions)
     /// comparisons, and a move of 8 bytes for each one that nothing hides yet and that has a smaller number in the
-    /// order of versions; that is none where children were made after the descendants of their older siblings. The
-    /// first call, and the first after `clear`, also puts the versions in order: O(versions).
+    /// order of versions; that is none where children were made after the descendants of their older siblings.
     pub fn add(&mut self, versions: &[Version], tree: &Tree)
         requires kept { IsTrue (descends versions.now) }
         requires fits { IsTrue (list_all (λ v. nat_lt v (length self.old.own)) versions.now) }
@@ -94,11 +96,10 @@ impl Sights {
             → versions_added (groups ++ versions.now ∷ []) ≤ 2 ^ 48
             → IsSighting tree.now.parents (groups ++ versions.now ∷ []) self.new }
         ensures len { length self.new.own ≡ length self.old.own }
-        ensures state { self.new.is_numbered ≡ true }
+        ensures state { self.new.order ≡ self.old.order }
     {
         // For the proof: the parents are a tree.
         let _ = tree.count();
-        number_once(&mut self.order, &mut self.is_numbered, tree);
         add_own(&mut self.own, versions);
         self.bare.clear();
         hide_each(
@@ -164,21 +165,6 @@ fn zeros(alloc: Global, n: u32) -> Result<Vec<u64>, NoMemory>
 {
     let list = vec![in alloc; 0; n as usize]?;
     Ok(list)
-}
-
-/// Numbers the versions at the first call.
-fn number_once(order: &mut Preorder, is_numbered: &mut bool, tree: &Tree)
-    requires len { length order.old.starts ≡ length tree.now.parents }
-    ensures ok { is_numbered.new ≡ true }
-    ensures kept { (is_numbered.old ≡ true
-        → IsPreorder (length order.old.starts) tree.now.parents order.old)
-        → IsPreorder (length order.old.starts) tree.now.parents order.new }
-    ensures len { length order.new.starts ≡ length order.old.starts }
-{
-    if !*is_numbered {
-        order.number(tree);
-        *is_numbered = true;
-    }
 }
 
 /// Adds to the number of a version.

@@ -24,7 +24,7 @@ ghost use Rattle.strat_check.specs.Places.{place_of, first_place, first_unless};
 ghost use Rattle.strat_check.specs.StoreScans.{scans_of, HaveScans, IsScannedLevel, AreScannedLevels};
 ghost use Rattle.strat_check.specs.Walked.{HaveRoomFor, AreFirstChildren, MayBeTold, IsFound};
 
-use crate::children::{first_children, lower_by_items};
+use crate::children::{first_children, lower_by_zeros};
 use crate::fit::are_fit;
 use crate::level_walk::{Findings, Tables, tell_level};
 use crate::places::{Broken, Places, kept};
@@ -171,10 +171,10 @@ fn begin(alloc: Global, store: &Reading) -> Result<(Tables, Findings), NoMemory>
 {
     let tree = store.tree();
     let first = first_children(alloc, tree)?;
-    let (zero, _pool) = store.zero();
-    let lowest = lower_by_items(tree.count(), &first, zero.items());
-    let leads = Sights::new(alloc, tree.count())?;
-    let array = Sights::new(alloc, tree.count())?;
+    let (zero, sealed, _pool) = store.zeros();
+    let lowest = lower_by_zeros(tree.count(), &first, zero, sealed);
+    let leads = Sights::new(alloc, tree)?;
+    let array = Sights::new(alloc, tree)?;
     let found = Findings {
         places: Places::new(),
         lowest,

@@ -8,7 +8,7 @@ ghost use Rattle.strat_base.specs.Entries.{is_of, is_same_value, holds_entry};
 ghost use Rattle.strat_base.specs.EntryView.{val_of};
 ghost use Rattle.strat_base.specs.declared.descriptors.ArrayDesc.{ArrayDesc as Desc};
 ghost use Rattle.def_state.specs.Live.{live};
-ghost use Rattle.def_check.specs.Marked.{is_from_run};
+ghost use Rattle.def_check.specs.Marked.{is_from_run, unmarked};
 ghost use Rattle.strat_live.specs.Group.{is_descending};
 ghost use Rattle.strat_check.specs.MarkedGroups.{is_owned};
 ghost use Rattle.strat_check.specs.StrayGroups.{group_entries, group_leads, IsStrayGroup, unmarked_item, items_told, is_stray, noted, with_answer, AreAllAsked};
@@ -102,6 +102,29 @@ fn unmark(item: &Item) -> Item
     }
 }
 
+/// Whether an item is of the array that has its version in its tag. O(1).
+fn is_owned(g: &StrayGroup<'_>, item: &Item) -> bool
+    requires kept { IsStrayGroup g.now }
+    requires found { Contains g.now.items.now item.now }
+    ensures ok { result
+        ≡ is_owned g.now.owners.now (entry_of_item g.now.arena.now.pairs item.now) }
+{
+    g.owners[(item.version / PLACES) as usize] == item.version % PLACES
+}
+
+/// Whether an item says what one of the group's leads says. O(1) where it is a lead itself, and else as `is_lead`.
+fn says_lead(g: &StrayGroup<'_>, item: &Item) -> bool
+    requires kept { IsStrayGroup g.now }
+    requires found { Contains g.now.items.now item.now }
+    ensures ok { result ≡ holds_entry (group_leads g.now)
+        (unmarked (entry_of_item g.now.arena.now.pairs item.now)) }
+{
+    if is_owned(g, item) {
+        return true;
+    }
+    is_lead(g, &unmark(item))
+}
+
 /// Notes of the array of an item whether the item is a stray.
 fn note_item(g: &StrayGroup<'_>, item: &Item, found: &mut [Strays])
     requires kept { IsStrayGroup g.now }
@@ -111,7 +134,7 @@ fn note_item(g: &StrayGroup<'_>, item: &Item, found: &mut [Strays])
         (strays_at found.old i) }
     ensures len { length found.new ≡ length found.old }
 {
-    if !is_lead(g, &unmark(item)) {
+    if !says_lead(g, item) {
         note(found, item.version % PLACES);
     }
 }
@@ -276,8 +299,8 @@ fn settle_all(
     Ok(())
 }
 
-/// Notes of each array whether it has a stray in a group, and whether one is live at a version of its tag. O(items), each
-/// with O(log items) comparisons. For an array with a stray also O(items), and for each version of its tag O(log versions)
+/// Notes of each array whether it has a stray in a group, and whether one is live at a version of its tag. O(items), and for
+/// each that is no lead O(log items) comparisons. For an array with a stray also O(items), and for each version of its tag O(log versions)
 /// for each of its items at most.
 pub(crate) fn note_group(
     alloc: Global,

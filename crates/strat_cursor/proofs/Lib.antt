@@ -22,3 +22,5 @@ pub mod RowLemmas
 pub mod StartLemmas
 pub mod TableRows
 pub mod ThereLemmas
+pub mod FirstLemmas
+pub mod WalkLemmas

@@ -1,5 +1,5 @@
 -- A scan so far: what was told, and what is to come, are the range.
-use Rattle.std.proofs.Common.{◌≡◌, ◌<◌, ◌≤◌, ◌^◌, ◌&&◌, map, length-append, ℕ, Bool, true, false, not, inl, inr, List, [], ◌∷◌, ◌++◌, length, take, Option, Some, None, IsSome, is_some, refl, sym, ap, ◌∙◌, subst, arith, true≢false, ltb}
+use Rattle.std.proofs.Common.{◌+◌, ◌≡◌, ◌<◌, ◌≤◌, ◌^◌, ◌&&◌, map, length-append, ℕ, Bool, true, false, not, inl, inr, List, [], ◌∷◌, ◌++◌, length, take, Option, Some, None, IsSome, is_some, refl, sym, ap, ◌∙◌, subst, arith, true≢false, ltb}
 use Rattle.std.specs.List.{slice_get}
 use Rattle.std.specs.Option.{option_and_then}
 use Rattle.std.specs.Ordering.{is_lt}
@@ -72,6 +72,27 @@ pub handled_fills : (e : Entry) (hi : List ℕ) (limit : ℕ) (last next : List 
     → FillsPage limit (length new) more
 handled_fills e hi limit last next old new true few handles = let same = ap length handles.4 in (omega (arith, same, few), λ on. omega (arith, same, few, handles.3))
 handled_fills e hi limit last next old new false few handles = let same = ap length handles.2 in (omega (arith, same, few), λ on. absurd (true≢false (sym on)))
+
+-- where others follow the key is not handled yet
+pub told_same : (e : Entry) (hi : List ℕ) (limit : ℕ) (last next : List ℕ) (old new : Pairs) (more : Bool) → more ≡ true → HandlesKey e hi limit last next old new (Some more) → (next ≡ last) × (new ≡ old)
+told_same e hi limit last next old new true is handles = (handles.5, handles.4)
+told_same e hi limit last next old new false is handles = absurd (true≢false (sym is))
+
+-- a key handled adds one pair at most
+pub handled_grows : (e : Entry) (hi : List ℕ) (limit : ℕ) (last next : List ℕ) (out new : Pairs) → HandlesKey e hi limit last next out new None → length new ≤ length out + 1
+handled_grows e hi limit last next out new handles = elim handles [
+  | inl before ↦ omega (arith, ap (λ (ps : Pairs). length ps) before.2)
+  | inr told ↦ adds e.value told.3
+]
+  where
+    adds : (o : Option (List ℕ)) → AddsValue e.key o limit out new → length new ≤ length out + 1
+    adds None is = omega (arith, ap (λ (ps : Pairs). length ps) is)
+    adds (Some x) is = omega (arith, ap (λ (ps : Pairs). length ps) is.1, length-append {A = Pair} out ((e.key, x) ∷ []))
+
+-- a scan that ends tells no pair more
+pub handled_none : (e : Entry) (hi : List ℕ) (limit : ℕ) (last next : List ℕ) (old new : Pairs) (more : Bool) → HandlesKey e hi limit last next old new (Some more) → new ≡ old
+handled_none e hi limit last next old new true handles = handles.4
+handled_none e hi limit last next old new false handles = handles.2
 
 -- no more than the limit is told
 pub handled_len : (e : Entry) (hi : List ℕ) (limit : ℕ) (last next : List ℕ) (out new : Pairs) → length out ≤ limit → HandlesKey e hi limit last next out new None → length new ≤ limit

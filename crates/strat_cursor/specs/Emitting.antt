@@ -41,7 +41,7 @@ HandlesKey e hi limit last next old new (Some false) =
     IsTrue (is_after last e.key) × (is_under hi e.key ≡ false) × (new ≡ old)
 HandlesKey e hi limit last next old new (Some true) =
     IsTrue (is_after last e.key) × IsTrue (is_under hi e.key)
-    × IsSome e.value × (limit ≤ length old) × (new ≡ old)
+    × IsSome e.value × (limit ≤ length old) × (new ≡ old) × (next ≡ last)
 
 -- each source can be read, and stands at an entry that is at hand and at a version or an ancestor of it
 pub record AreSettled (parents : Parents) (v : ℕ) (pool : List PoolEntry) (sources : List Source)

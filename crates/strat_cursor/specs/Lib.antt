@@ -14,3 +14,4 @@ pub mod Ranges
 pub mod Sources
 pub mod Emitting
 pub mod Views
+pub mod Walking

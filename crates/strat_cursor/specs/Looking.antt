@@ -115,3 +115,8 @@ reads_of_arrays n (a ∷ arrays) =
 abbrev pub ReadsArrays : List ArrayDesc → ℕ → ℕ → Type 0
 ReadsArrays arrays before now =
     (n : ℕ) → HaveFewBlocks n arrays → ReadsAtMost (reads_of_arrays n arrays) before now
+
+-- how many blocks arrays have
+abbrev pub blocks_of_arrays : List ArrayDesc → ℕ
+blocks_of_arrays [] = 0
+blocks_of_arrays (a ∷ arrays) = length (blocks_of a.extents) + blocks_of_arrays arrays

@@ -5,10 +5,12 @@ use Rattle.strat_array.specs.Kept.{Blocks}
 use Rattle.strat_base.specs.Tree.{Parents}
 use Rattle.strat_base.specs.declared.descriptors.ArrayDesc.{ArrayDesc}
 use Rattle.def_crash.specs.Image.{Image}
+use Rattle.strat_merge.specs.Bracket.{IsTournament}
 use Rattle.strat_merge.specs.Runs.{RunView}
 use Rattle.strat_cursor.specs.Contenders.{contenders}
-use Rattle.strat_cursor.specs.Emitting.{AreSettled, AreUpTo}
+use Rattle.strat_cursor.specs.Emitting.{AreSettled, AreUpTo, sum_over}
 use Rattle.strat_cursor.specs.Picking.{AreSourcesOf}
+use Rattle.strat_cursor.specs.Sources.{reads_left, steps_left}
 use Rattle.strat_cursor.specs.Views.{arrays_read}
 use Rattle.strat_cursor.specs.declared.query.Query.{Query}
 use Rattle.strat_cursor.specs.declared.scan_buffers.SourcePosition.{SourcePosition}
@@ -42,3 +44,16 @@ StandSettled q positions =
 abbrev pub StandUpTo : Image → Blocks → Query → List ℕ → List ℕ → List SourcePosition → Type 0
 StandUpTo f c q lo last positions =
     AreUpTo f c (pool_asked q) (tree_asked q) q.version lo last q.sources.now positions
+
+-- a query is under way: its sources stand at entries at hand, and a tournament of them is played
+abbrev pub IsUnderWay : Query → List SourcePosition → List ℕ → Type 0
+IsUnderWay q positions winners =
+    StandSettled q positions × IsTournament (contenders_asked q positions) winners
+
+-- how many steps the sources that a query asks may have to go
+abbrev pub steps_ahead : Query → List SourcePosition → ℕ
+steps_ahead q positions = sum_over (steps_left (pool_asked q)) q.sources.now positions
+
+-- how many blocks they have still to read at most
+abbrev pub reads_ahead : Query → List SourcePosition → ℕ
+reads_ahead q positions = sum_over reads_left q.sources.now positions

@@ -155,8 +155,13 @@ reads_left (source.Array a) position =
     then blocks_ahead position.scratch a.now.id (length (blocks_of a.now.extents)) position.place
     else 0
 
--- how many blocks a source reads at most until it has none left, where an array has fewer than 2^n
+-- how often a search for a key reads an array of fewer than 2^n blocks at most: none is made for the empty key
+abbrev pub reads_to_seek : List ℕ → ℕ → ℕ
+reads_to_seek [] n = 0
+reads_to_seek (b ∷ lo) n = n + 4
+
+-- how many blocks a source reads at most until it has none left, where a search reads so many
 abbrev pub reads_of_source : ℕ → Source → ℕ
-reads_of_source n source.None = 0
-reads_of_source n (source.Zero list) = 0
-reads_of_source n (source.Array a) = n + 4 + length (blocks_of a.now.extents)
+reads_of_source search source.None = 0
+reads_of_source search (source.Zero list) = 0
+reads_of_source search (source.Array a) = search + length (blocks_of a.now.extents)

@@ -14,8 +14,11 @@ mod sources;
 mod starting;
 mod tournament;
 mod view;
+mod walk;
 
 pub use cursors::{CursorFault, Cursors, NextFault};
 pub use scan_buffers::ScanBuffers;
 pub use scanning::scan;
+pub use starting::arrays_at;
 pub use view::{Picked, View};
+pub use walk::Walk;

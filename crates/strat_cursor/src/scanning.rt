@@ -1,16 +1,15 @@
 //! The first pairs of a range.
 
-ghost use Rattle.std.specs.Prelude.{◌≡◌, ◌≤◌, ◌<◌, ◌++◌, ℕ, ◌+◌, List, sum_by, [], length, vec_capacity, IfOk, OnOk, OnErr, IsErrOf};
+ghost use Rattle.std.specs.Prelude.{◌≡◌, ◌≤◌, ◌<◌, ◌++◌, ℕ, ◌+◌, ◌*◌, List, sum_by, [], length, vec_capacity, true, IfOk, OnOk, OnErr, IsErrOf};
 ghost use Rattle.strat_base.specs.declared.failures.Fault.TheVariants.{Damaged, Device};
 ghost use Rattle.def_crash.specs.Faults.{HasCause, ReadsAtMost};
 ghost use Rattle.def_crash.specs.Image.{Image};
 ghost use Rattle.def_crash.specs.Moments.{Exposes};
-ghost use Rattle.strat_merge.specs.Bracket.{IsBracket, IsTournament};
+ghost use Rattle.strat_merge.specs.Bracket.{IsBracket};
 ghost use Rattle.strat_model.specs.Pairs.{Pairs};
 ghost use Rattle.strat_cursor.specs.Ahead.{range_after};
-ghost use Rattle.strat_cursor.specs.Queries.{tree_asked, arrays_queried, contenders_asked, AsksSources, StandSettled, StandUpTo};
-ghost use Rattle.strat_cursor.specs.Sources.{reads_left, reads_of_source};
-ghost use Rattle.strat_cursor.specs.Emitting.{sum_over};
+ghost use Rattle.strat_cursor.specs.Queries.{tree_asked, arrays_queried, AsksSources, IsUnderWay, StandSettled, StandUpTo, reads_ahead, steps_ahead};
+ghost use Rattle.strat_cursor.specs.Sources.{reads_of_source, reads_to_seek};
 ghost use Rattle.strat_cursor.specs.ScanRoom.{HasScanRoom};
 ghost use Rattle.strat_cursor.specs.Looking.{LooksThrough, NamesNoBlock, HaveOwnIds, HaveFewBlocks, ReadsArrays};
 ghost use Rattle.strat_cursor.specs.Ranges.{FillsPage, IsMapSeen, IsPageOf};
@@ -49,11 +48,12 @@ fn begin_all<D: Disk>(
         → NamesNoBlock (D.view disk.old).content (arrays_queried query.now) b }
     ensures cause { HasCause Device (D.faults disk.old) (D.faults disk.new) result }
     ensures reads { (n : ℕ) → HaveFewBlocks n (arrays_queried query.now)
-        → ReadsAtMost (sum_by (reads_of_source n) query.now.sources.now)
-        (D.reads disk.old) (D.reads disk.new) }
+        → ReadsAtMost (sum_by (reads_of_source (reads_to_seek query.now.lo.now n))
+        query.now.sources.now) (D.reads disk.old) (D.reads disk.new) }
     ensures room { OnOk result ((n : ℕ) → HaveFewBlocks n (arrays_queried query.now)
-        → D.reads disk.new + sum_over reads_left query.now.sources.now positions.new
-        ≤ D.reads disk.old + sum_by (reads_of_source n) query.now.sources.now) }
+        → D.reads disk.new + reads_ahead query.now positions.new
+        ≤ D.reads disk.old
+        + sum_by (reads_of_source (reads_to_seek query.now.lo.now n)) query.now.sources.now) }
 {
     let sources = query.sources;
     for i in 0..sources.len() {
@@ -62,9 +62,47 @@ fn begin_all<D: Disk>(
     Ok(())
 }
 
+/// Lets each source stand at its first entry that is due, and plays the tournament of them. What `begin_all` costs, and
+/// O(sources) comparisons of keys.
+pub(crate) fn begin_contest<D: Disk>(
+    disk: &mut D,
+    cache: &mut Cache,
+    query: &Query<'_>,
+    positions: &mut [SourcePosition],
+    winners: &mut [usize],
+) -> Result<(), Fault>
+    requires fits { query.now.version < length (tree_asked query.now) }
+    requires same { AsksSources query.now }
+    requires room { (length positions.old ≡ length query.now.sources.now)
+        × (length winners.old ≡ 2 * length query.now.sources.now) }
+    ensures kept { OnOk result (IsUnderWay query.now positions.new winners.new) }
+    ensures len { (length positions.new ≡ length positions.old)
+        × (length winners.new ≡ length winners.old) }
+    ensures ok { OnOk result ((f : Image) (next : ℕ) → Exposes (D.view disk.old) f
+        → IsReadable f next query.now.view.now query.now.version cache.old
+        → StandUpTo f cache.new query.now query.now.lo.now [] positions.new) }
+    ensures same { LooksThrough (D.view disk.old) (D.view disk.new)
+        (arrays_queried query.now) cache.old cache.new }
+    ensures damaged { (b : ℕ) → IsErrOf result (Damaged b)
+        → NamesNoBlock (D.view disk.old).content (arrays_queried query.now) b }
+    ensures cause { HasCause Device (D.faults disk.old) (D.faults disk.new) result }
+    ensures reads { (n : ℕ) → HaveFewBlocks n (arrays_queried query.now)
+        → ReadsAtMost (sum_by (reads_of_source (reads_to_seek query.now.lo.now n))
+        query.now.sources.now) (D.reads disk.old) (D.reads disk.new) }
+    ensures room { OnOk result ((n : ℕ) → HaveFewBlocks n (arrays_queried query.now)
+        → D.reads disk.new + reads_ahead query.now positions.new
+        ≤ D.reads disk.old
+        + sum_by (reads_of_source (reads_to_seek query.now.lo.now n)) query.now.sources.now) }
+{
+    begin_all(disk, cache, query, positions)?;
+    seat(winners, query.sources.len());
+    play_all(&Heads { query, positions }, winners);
+    Ok(())
+}
+
 /// Tells the pairs that are to come, and answers whether there are others than those that may be told. Each turn
 /// handles one entry that is due at some source: O(log sources) comparisons of keys, and what `advance` costs.
-fn tell_all<D: Disk>(
+pub(crate) fn tell_all<D: Disk>(
     disk: &mut D,
     cache: &mut Cache,
     query: &Query<'_>,
@@ -75,8 +113,7 @@ fn tell_all<D: Disk>(
 ) -> Result<bool, Fault>
     requires fits { query.now.version < length (tree_asked query.now) }
     requires same { AsksSources query.now }
-    requires kept { StandSettled query.now positions.old }
-    requires found { IsTournament (contenders_asked query.now positions.old) winners.old }
+    requires kept { IsUnderWay query.now positions.old winners.old }
     requires room { (query.now.limit ≤ 256) × (255 ≤ vec_capacity last.old)
         × (length out.old ≤ query.now.limit) }
     ensures ok { IfOk result (λ more. (f : Image) (lo : List ℕ) (m : Pairs)
@@ -85,7 +122,16 @@ fn tell_all<D: Disk>(
         → IsMapSeen f (tree_asked query.now) (zeros_in query.now.view.now)
         (arrays_queried query.now) query.now.version m
         → IsPageOf (out.old ++ range_after m lo query.now.hi.now last.old.items)
-        query.now.limit out.new more) }
+        query.now.limit out.new more
+        × (more ≡ true → StandUpTo f cache.new query.now lo last.new.items positions.new
+        × (out.old ++ range_after m lo query.now.hi.now last.old.items
+        ≡ out.new ++ range_after m lo query.now.hi.now last.new.items))) }
+    ensures kept { IfOk result (λ more. (more ≡ true
+        → IsUnderWay query.now positions.new winners.new)
+        × (steps_ahead query.now positions.new + length out.new
+        ≤ steps_ahead query.now positions.old + length out.old)
+        × (D.reads disk.new + reads_ahead query.now positions.new
+        ≤ D.reads disk.old + reads_ahead query.now positions.old)) }
     ensures len { IfOk result (λ more. FillsPage query.now.limit (length out.new) more) }
     ensures room { (255 ≤ vec_capacity last.new) × (length positions.new ≡ length positions.old)
         × IsBracket (length query.now.sources.now) winners.new }
@@ -94,7 +140,7 @@ fn tell_all<D: Disk>(
     ensures damaged { (b : ℕ) → IsErrOf result (Damaged b)
         → NamesNoBlock (D.view disk.old).content (arrays_queried query.now) b }
     ensures cause { HasCause Device (D.faults disk.old) (D.faults disk.new) result }
-    ensures reads { ReadsAtMost (sum_over reads_left query.now.sources.now positions.old)
+    ensures reads { ReadsAtMost (reads_ahead query.now positions.old)
         (D.reads disk.old) (D.reads disk.new) }
 {
     // For the proof: the parents are a tree.
@@ -134,16 +180,14 @@ fn scan_sources<D: Disk>(
         → NamesNoBlock (D.view disk.old).content (arrays_queried query.now) b }
     ensures cause { HasCause Device (D.faults disk.old) (D.faults disk.new) result }
     ensures reads { (n : ℕ) → HaveFewBlocks n (arrays_queried query.now)
-        → ReadsAtMost (sum_by (reads_of_source n) query.now.sources.now)
-        (D.reads disk.old) (D.reads disk.new) }
+        → ReadsAtMost (sum_by (reads_of_source (reads_to_seek query.now.lo.now n))
+        query.now.sources.now) (D.reads disk.old) (D.reads disk.new) }
 {
     let count = query.sources.len();
     let positions = &mut positions[..count];
     let winners = &mut winners[..2 * count];
     last.clear();
-    begin_all(disk, cache, query, positions)?;
-    seat(winners, count);
-    play_all(&Heads { query, positions }, winners);
+    begin_contest(disk, cache, query, positions, winners)?;
     tell_all(disk, cache, query, last, positions, winners, out)
 }
 

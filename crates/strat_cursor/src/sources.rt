@@ -19,7 +19,7 @@ ghost use Rattle.strat_level.specs.Memtable.{ListStands, entries_held};
 ghost use Rattle.strat_array.specs.Steps.{blocks_ahead, left_from, HoldsPlace};
 ghost use Rattle.strat_cursor.specs.Ahead.{is_after};
 ghost use Rattle.strat_cursor.specs.Queries.{pool_asked, tree_asked};
-ghost use Rattle.strat_cursor.specs.Sources.{is_place, MayBeRead, HasHead, first_at_source, entry_held, is_due, arrays_at, left_at_source, steps_left, reads_left, reads_of_source, IsSettledAt, IsUpTo, IsSpent, MayBeBegun, StandsIn, left_behind, places_ahead, blocks_behind, PassesUndue};
+ghost use Rattle.strat_cursor.specs.Sources.{is_place, MayBeRead, HasHead, first_at_source, entry_held, is_due, arrays_at, left_at_source, steps_left, reads_left, reads_of_source, reads_to_seek, IsSettledAt, IsUpTo, IsSpent, MayBeBegun, StandsIn, left_behind, places_ahead, blocks_behind, PassesUndue};
 
 use crate::query::Query;
 use crate::scan_buffers::SourcePosition;
@@ -187,7 +187,37 @@ fn stand_place<D: Disk>(
     Ok(None)
 }
 
-/// The place of the first entry of an array that is due from a key on, when none was handled yet. What `seek` and
+/// The place of the first entry of an array whose key is `lo` or after it, or the end place: what `seek` answers, and costs.
+/// Where `lo` is empty it is the array's first place, and no block is read.
+fn place_from<D: Disk>(
+    disk: &mut D,
+    cache: &mut Cache,
+    desc: &ArrayDesc,
+    lo: &[u8],
+    scratch: &mut Scratch,
+) -> Result<Place, Fault>
+    requires fits { AreWithin desc.now.extents }
+    ensures ok { IfOk result (λ place. (lists : List (List TheEntry))
+        → ArrayStands (D.view disk.old).content desc.now.id (blocks_of desc.now.extents)
+        cache.old None lists
+        → IsTrue (is_ascending (all_in lists))
+        → left_from lists place ≡ filter (is_from lo.now) (all_in lists)) }
+    ensures same { Looks (D.view disk.old) (D.view disk.new)
+        desc.now.id (blocks_of desc.now.extents) cache.old cache.new None scratch.new }
+    ensures damaged { (b : ℕ) → IsErrOf result (Damaged b)
+        → IsNoBlock (D.view disk.old).content (blocks_of desc.now.extents) b }
+    ensures cause { HasCause Device (D.faults disk.old) (D.faults disk.new) result }
+    ensures reads { (n : ℕ) → length (blocks_of desc.now.extents) < 2 ^ n
+        → ReadsAtMost (reads_to_seek lo.now n) (D.reads disk.old) (D.reads disk.new) }
+{
+    if lo.is_empty() {
+        scratch.forget();
+        return Ok(Place { block: 0, index: 0 });
+    }
+    seek(disk, cache, desc, lo, scratch)
+}
+
+/// The place of the first entry of an array that is due from a key on, when none was handled yet. What `place_from` and
 /// `stand_place` cost.
 fn begin_place<D: Disk>(
     disk: &mut D,
@@ -214,14 +244,15 @@ fn begin_place<D: Disk>(
         → IsNoBlock (D.view disk.old).content (blocks_of desc.now.extents) b }
     ensures cause { HasCause Device (D.faults disk.old) (D.faults disk.new) result }
     ensures reads { (n : ℕ) → length (blocks_of desc.now.extents) < 2 ^ n
-        → ReadsAtMost (n + 4 + length (blocks_of desc.now.extents))
+        → ReadsAtMost (reads_to_seek query.now.lo.now n + length (blocks_of desc.now.extents))
         (D.reads disk.old) (D.reads disk.new) }
     ensures room { IfOk result (λ r. (n : ℕ) → length (blocks_of desc.now.extents) < 2 ^ n
         → D.reads disk.new
         + blocks_behind scratch.new desc.now.id (length (blocks_of desc.now.extents)) r
-        ≤ D.reads disk.old + (n + 4 + length (blocks_of desc.now.extents))) }
+        ≤ D.reads disk.old
+        + (reads_to_seek query.now.lo.now n + length (blocks_of desc.now.extents))) }
 {
-    let place = seek(disk, cache, desc, query.lo, scratch)?;
+    let place = place_from(disk, cache, desc, query.lo, scratch)?;
     stand_place(disk, cache, desc, query, &[], place, scratch)
 }
 
@@ -240,8 +271,8 @@ fn begin_item(query: &Query<'_>, list: &ZeroView) -> usize
     stand_item(query, list, &[], item)
 }
 
-/// Lets a source stand at its first entry that is due from a key on, when none was handled yet. What `seek` costs and
-/// the entries passed over, or `ZeroView::seek` and the items passed over.
+/// Lets a source stand at its first entry that is due from a key on, when none was handled yet. What `place_from` costs
+/// and the entries passed over, or `ZeroView::seek` and the items passed over.
 pub(crate) fn begin<D: Disk>(
     disk: &mut D,
     cache: &mut Cache,
@@ -264,10 +295,11 @@ pub(crate) fn begin<D: Disk>(
         → NamesNoBlock (D.view disk.old).content (arrays_at source.now) b }
     ensures cause { HasCause Device (D.faults disk.old) (D.faults disk.new) result }
     ensures reads { (n : ℕ) → HaveFewBlocks n (arrays_at source.now)
-        → ReadsAtMost (reads_of_source n source.now) (D.reads disk.old) (D.reads disk.new) }
+        → ReadsAtMost (reads_of_source (reads_to_seek query.now.lo.now n) source.now)
+        (D.reads disk.old) (D.reads disk.new) }
     ensures room { OnOk result ((n : ℕ) → HaveFewBlocks n (arrays_at source.now)
         → D.reads disk.new + reads_left source.now position.new
-        ≤ D.reads disk.old + reads_of_source n source.now) }
+        ≤ D.reads disk.old + reads_of_source (reads_to_seek query.now.lo.now n) source.now) }
 {
     match source {
         Source::None => Ok(()),

@@ -38,8 +38,8 @@ fn add_array(
 }
 
 /// Copies of the descriptors that are read at a version, of each level one at most, the shallowest level's first.
-/// O(22 log versions_max) and the time of copying them.
-fn arrays_at(
+/// O(22 log versions_max) and the time of copying them. The only error is want of memory.
+pub fn arrays_at(
     alloc: Global,
     tree: &Tree,
     levels: &Levels,

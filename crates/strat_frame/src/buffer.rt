@@ -53,8 +53,8 @@ impl OutBuf {
     }
 
     /// Adds bytes at the end.
-    pub(crate) fn put(&mut self, bytes: &[u8])
-        requires { length self.old + length bytes.now ≤ REPLY_MAX }
+    pub fn put(&mut self, bytes: &[u8])
+        requires { length self.old + length bytes.now ≤ 328460 }
         ensures ok { self.new ≡ self.old ++ bytes.now }
         ensures len { length self.new ≡ length self.old + length bytes.now }
     {
@@ -62,8 +62,8 @@ impl OutBuf {
     }
 
     /// Adds a byte.
-    pub(crate) fn put_u8(&mut self, n: u8)
-        requires { length self.old + 1 ≤ REPLY_MAX }
+    pub fn put_u8(&mut self, n: u8)
+        requires { length self.old + 1 ≤ 328460 }
         ensures ok { self.new ≡ self.old ++ n ∷ [] }
         ensures len { length self.new ≡ length self.old + 1 }
     {
@@ -72,7 +72,7 @@ impl OutBuf {
 
     /// Adds a number in two bytes.
     pub(crate) fn put_u16(&mut self, n: u16)
-        requires { length self.old + 2 ≤ REPLY_MAX }
+        requires { length self.old + 2 ≤ 328460 }
         ensures ok { self.new ≡ self.old ++ be 2 n }
         ensures len { length self.new ≡ length self.old + 2 }
     {
@@ -82,8 +82,8 @@ impl OutBuf {
     }
 
     /// Adds a number in four bytes.
-    pub(crate) fn put_u32(&mut self, n: u32)
-        requires { length self.old + 4 ≤ REPLY_MAX }
+    pub fn put_u32(&mut self, n: u32)
+        requires { length self.old + 4 ≤ 328460 }
         ensures ok { self.new ≡ self.old ++ be 4 n }
         ensures len { length self.new ≡ length self.old + 4 }
     {
@@ -94,7 +94,7 @@ impl OutBuf {
 
     /// Adds a number in eight bytes.
     pub(crate) fn put_u64(&mut self, n: u64)
-        requires { length self.old + 8 ≤ REPLY_MAX }
+        requires { length self.old + 8 ≤ 328460 }
         ensures ok { self.new ≡ self.old ++ be 8 n }
         ensures len { length self.new ≡ length self.old + 8 }
     {
@@ -106,7 +106,7 @@ impl OutBuf {
     /// Adds a length in two bytes and so many bytes.
     pub(crate) fn put_counted(&mut self, bytes: &[u8])
         requires fits { length bytes.now < 2 ^ 16 }
-        requires room { length self.old + 2 + length bytes.now ≤ REPLY_MAX }
+        requires room { length self.old + 2 + length bytes.now ≤ 328460 }
         ensures ok { self.new ≡ self.old ++ counted bytes.now }
         ensures len { length self.new ≡ length self.old + 2 + length bytes.now }
     {
@@ -114,8 +114,8 @@ impl OutBuf {
         self.put(bytes);
     }
 
-    /// Begins a frame: leaves four bytes for its length, and writes the tag.
-    pub(crate) fn begin(&mut self, tag: u32)
+    /// Begins a frame: leaves four bytes for its length, and writes the number that its body begins with.
+    pub fn begin(&mut self, tag: u32)
         requires { self.old ≡ [] }
         ensures len { length self.new ≡ 8 }
         ensures ok { drop 4 self.new ≡ be 4 tag }
@@ -125,9 +125,9 @@ impl OutBuf {
     }
 
     /// Ends a frame: writes the length of what follows the first four bytes into these.
-    pub(crate) fn end(&mut self)
+    pub fn end(&mut self)
         requires fits { 4 ≤ length self.old }
-        requires room { length self.old ≤ REPLY_MAX }
+        requires room { length self.old ≤ 328460 }
         ensures { self.new ≡ frame (drop 4 self.old) }
     {
         let body_len = (self.bytes.len() - 4) as u32;

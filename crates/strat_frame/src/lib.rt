@@ -24,4 +24,4 @@ mod sizes;
 pub use buffer::OutBuf;
 pub use commands::{BodyFault, parse_command, write_command};
 pub use deframer::{Deframer, Next};
-pub use replies::{parse_reply, write_reply};
+pub use replies::{parse_reply, refusal_status, write_reply};

@@ -18,7 +18,7 @@ use strat_base::{PairBuf, key_ok, value_ok};
 use strat_model::{Refusal, Reply};
 
 /// The status byte of a refusal.
-fn refusal_status(refusal: Refusal) -> u8
+pub fn refusal_status(refusal: Refusal) -> u8
     ensures { result ≡ status_byte (Reply.Refused refusal) }
 {
     match refusal {

@@ -11,9 +11,8 @@ use Rattle.def_crash.proofs.MomentLemmas.{settled_at, tears_wider}
 use Rattle.def_bytes.specs.Records.{records_bytes}
 use Rattle.strat_journal.specs.Records.{journal_changes}
 use Rattle.strat_gate.specs.Raising.{BehindOrRaised}
-use Rattle.strat_journal.proofs.KeepLemmas.{behind_split}
 use Rattle.strat_gate.proofs.RaisingLemmas.{patched_first, patched_twice}
-use Rattle.strat_journal.specs.Log.{Log, Keeps, Stands, GivesAllOrNone, batch_joined, batch_region, gate_of}
+use Rattle.strat_journal.specs.Log.{Log, Stands, GivesAllOrNone, batch_joined, gate_in}
 use Rattle.strat_journal.proofs.RecordLemmas.{window_front, window_rest, window_both}
 use Rattle.strat_journal.proofs.LaidLemmas.{LaidIn, records_bytes-append, all_lawful-append, length-records_bytes, region_takes, laid_given, given_laid}
 
@@ -53,36 +52,36 @@ module _ (log : Log) (ready : Ready log) where
     | inr past ↦ out.above (region_at log.mem (other_region log.active)) past
   ]
 
-  pub keeps_laid : (d c : Image) (n : ℕ) → Outside (gate_of log + 1) n d c → LaidIn d log.mem log.active log.list → LaidIn c log.mem log.active log.list
+  pub keeps_laid : (d c : Image) (n : ℕ) → Outside (gate_in log + 1) n d c → LaidIn d log.mem log.active log.list → LaidIn c log.mem log.active log.list
   keeps_laid d c n out laid = record {
     text = window_same d c (region_at log.mem log.active) (length (records_bytes log.list)) (record { byte = λ i low high. out.below i (omega arith) }) ∙ laid.text;
     lawful = laid.lawful;
     few = laid.few;
-    closed = λ lt up. laid.closed lt (sym (out.below (gate_of log) (omega arith)) ∙ up);
+    closed = λ lt up. laid.closed lt (sym (out.below (gate_in log) (omega arith)) ∙ up);
     within = laid.within;
   }
 
   -- the list and the whole batch stand where the gate of an image in which the rest of the batch was written is raised
   pub raised_laid : (f c : Image) (rest : List ℕ) → 0xa7 ∷ rest ≡ records_bytes log.batch ++ 0 ∷ [] → LaidIn f log.mem log.active log.list
-      → window f (gate_of log + 1) (length rest) ≡ rest → Outside (gate_of log) 1 f c → c (gate_of log) ≡ 0xa7
+      → window f (gate_in log + 1) (length rest) ≡ rest → Outside (gate_in log) 1 f c → c (gate_in log) ≡ 0xa7
       → LaidIn c log.mem log.active (log.list ++ log.batch)
   raised_laid f c rest split laid there out up =
       let behind : List ℕ = records_bytes log.batch in
-      let whole : window c (gate_of log) (length (behind ++ 0 ∷ [])) ≡ behind ++ 0 ∷ [] =
-      subst (λ (x : List ℕ). window c (gate_of log) (length x) ≡ x) split (first_raised c (gate_of log) rest up (window_same f c (gate_of log + 1) (length rest) (record { byte = λ i low high. out.above i (omega arith) }) ∙ there)) in
+      let whole : window c (gate_in log) (length (behind ++ 0 ∷ [])) ≡ behind ++ 0 ∷ [] =
+      subst (λ (x : List ℕ). window c (gate_in log) (length x) ≡ x) split (first_raised c (gate_in log) rest up (window_same f c (gate_in log + 1) (length rest) (record { byte = λ i low high. out.above i (omega arith) }) ∙ there)) in
       let front : window c (region_at log.mem log.active) (length (records_bytes log.list)) ≡ records_bytes log.list =
       window_same f c (region_at log.mem log.active) (length (records_bytes log.list)) (record { byte = λ i low high. out.below i (omega arith) }) ∙ laid.text in
       let text : window c (region_at log.mem log.active) (length (records_bytes log.list ++ behind)) ≡ records_bytes log.list ++ behind =
-      window_both c (region_at log.mem log.active) (records_bytes log.list) behind front (window_front c (gate_of log) behind (0 ∷ []) whole) in
+      window_both c (region_at log.mem log.active) (records_bytes log.list) behind front (window_front c (gate_in log) behind (0 ∷ []) whole) in
       let all : records_bytes log.list ++ behind ≡ records_bytes (log.list ++ log.batch) = sym (records_bytes-append log.list log.batch) in
       let size : length (records_bytes (log.list ++ log.batch)) ≡ length (records_bytes log.list) + length behind = omega (arith, ap length all, length-append (records_bytes log.list) behind) in
       let lawful : list_all is_lawful (log.list ++ log.batch) ≡ true = all_lawful-append log.list log.batch ready.list_fits ready.batch_fits in
-      let shut : c (gate_of log + length behind) ≡ 0 = one_is c (gate_of log + length behind) 0 (window_rest c (gate_of log) behind (0 ∷ []) whole) in
+      let shut : c (gate_in log + length behind) ≡ 0 = one_is c (gate_in log + length behind) 0 (window_rest c (gate_in log) behind (0 ∷ []) whole) in
       record {
         text = subst (λ (x : List ℕ). window c (region_at log.mem log.active) (length x) ≡ x) all text;
         lawful = lawful;
         few = omega (arith, length-append log.list log.batch, ready.few);
-        closed = λ lt open'. let same : region_at log.mem log.active + length (records_bytes (log.list ++ log.batch)) ≡ gate_of log + length behind = omega (arith, size) in
+        closed = λ lt open'. let same : region_at log.mem log.active + length (records_bytes (log.list ++ log.batch)) ≡ gate_in log + length behind = omega (arith, size) in
             let bad : 0 ≡ 0xa7 = sym shut ∙ ap c (sym same) ∙ open' in omega (arith, bad);
         within = omega (arith, length-records_bytes (log.list ++ log.batch) lawful, length-append log.list log.batch, ready.few, region_takes log.mem);
       }
@@ -90,7 +89,7 @@ module _ (log : Log) (ready : Ready log) where
 -- an append, over the views of the disk before and after it
 module _ (log : Log) (ready : Ready log) (old : DiskView) (holds : (d : Image) → Images old d → HoldsBytes d) (stands : Stands old log)
     (f : Image) (there : Images old f) (rest : List ℕ) (split : 0xa7 ∷ rest ≡ records_bytes log.batch ++ 0 ∷ [])
-    (high : gate_of log + 1 + length rest ≤ region_at log.mem log.active + region_size log.mem) where
+    (high : gate_in log + 1 + length rest ≤ region_at log.mem log.active + region_size log.mem) where
   fewer : length log.list < log.mem
   fewer = omega (arith, ready.some, ready.few)
 
@@ -99,24 +98,24 @@ module _ (log : Log) (ready : Ready log) (old : DiskView) (holds : (d : Image) �
 
   -- what was written while the gate was closed
   abbrev written : Image
-  written = patch f (gate_of log + 1) rest
+  written = patch f (gate_in log + 1) rest
 
   written_laid : LaidIn written log.mem log.active log.list
-  written_laid = keeps_laid log ready f written (length rest) (outside_patch f (gate_of log + 1) rest) (old_laid f there)
+  written_laid = keeps_laid log ready f written (length rest) (outside_patch f (gate_in log + 1) rest) (old_laid f there)
 
   -- the other region is closed in each image that differs from that one in the gate alone
-  raised_other : (c : Image) → Outside (gate_of log) 1 written c → c (region_at log.mem (other_region log.active)) ≢ 0xa7
+  raised_other : (c : Image) → Outside (gate_in log) 1 written c → c (region_at log.mem (other_region log.active)) ≢ 0xa7
   raised_other c out up =
-      stands.shut f there fewer (sym (keeps_other log ready f written (gate_of log + 1) (length rest) (omega arith) high (outside_patch f (gate_of log + 1) rest))
-      ∙ sym (keeps_other log ready written c (gate_of log) 1 (omega arith) (omega (arith, high)) out) ∙ up)
+      stands.shut f there fewer (sym (keeps_other log ready f written (gate_in log + 1) (length rest) (omega arith) high (outside_patch f (gate_in log + 1) rest))
+      ∙ sym (keeps_other log ready written c (gate_in log) 1 (omega arith) (omega (arith, high)) out) ∙ up)
 
-  raised_given : (c : Image) → Outside (gate_of log) 1 written c → c (gate_of log) ≡ 0xa7 → journal_changes c log.mem log.active ≡ Ok (log.list ++ log.batch)
+  raised_given : (c : Image) → Outside (gate_in log) 1 written c → c (gate_in log) ≡ 0xa7 → journal_changes c log.mem log.active ≡ Ok (log.list ++ log.batch)
   raised_given c out up =
       laid_given c log.mem log.active (log.list ++ log.batch)
-      (raised_laid log ready written c rest split written_laid (window_patch f (gate_of log + 1) rest) out up)
+      (raised_laid log ready written c rest split written_laid (window_patch f (gate_in log + 1) rest) out up)
       (λ full. raised_other c out)
 
-  shut_given : (c : Image) → Outside (gate_of log) 1 written c → c (gate_of log) ≢ 0xa7 → journal_changes c log.mem log.active ≡ Ok log.list
+  shut_given : (c : Image) → Outside (gate_in log) 1 written c → c (gate_in log) ≢ 0xa7 → journal_changes c log.mem log.active ≡ Ok log.list
   shut_given c out shut =
       laid_given c log.mem log.active log.list
       (record {
@@ -129,84 +128,21 @@ module _ (log : Log) (ready : Ready log) (old : DiskView) (holds : (d : Image) �
       (λ full. raised_other c out)
 
   -- each image gives the list or all
-  pub any_given : (c : Image) → BehindOrRaised old f (gate_of log) rest c → GivesAllOrNone log c
+  pub any_given : (c : Image) → BehindOrRaised old f (gate_in log) rest c → GivesAllOrNone log c
   any_given c (inl behind) =
       inl (laid_given c log.mem log.active log.list (keeps_laid log ready behind.0 c (length rest) behind.2 (old_laid behind.0 behind.1)) (λ full. absurd (omega (arith, fewer, full))))
   any_given c (inr out) =
-      elim (cases_eq (c (gate_of log)) 0xa7) [
+      elim (cases_eq (c (gate_in log)) 0xa7) [
         | inl up ↦ inr (raised_given c out up)
         | inr shut ↦ inl (shut_given c out shut)
       ]
 
   -- and after it all
-  pub all_given : (new : DiskView) → ((c : Image) → Images new c → c ≡ patch f (gate_of log) (0xa7 ∷ rest)) → Stands new (batch_joined log)
+  pub all_given : (new : DiskView) → ((c : Image) → Images new c → c ≡ patch f (gate_in log) (0xa7 ∷ rest)) → Stands new (batch_joined log)
   all_given new settled =
-      let out : Outside (gate_of log) 1 written (patch f (gate_of log) (0xa7 ∷ rest)) = patched_twice f (gate_of log) rest in
-      let up : patch f (gate_of log) (0xa7 ∷ rest) (gate_of log) ≡ 0xa7 = patched_first f (gate_of log) 0xa7 rest in
+      let out : Outside (gate_in log) 1 written (patch f (gate_in log) (0xa7 ∷ rest)) = patched_twice f (gate_in log) rest in
+      let up : patch f (gate_in log) (0xa7 ∷ rest) (gate_in log) ≡ 0xa7 = patched_first f (gate_in log) 0xa7 rest in
       record {
-        given = λ c left. subst (λ (c : Image). journal_changes c log.mem log.active ≡ Ok (log.list ++ log.batch)) (sym (settled c left)) (raised_given (patch f (gate_of log) (0xa7 ∷ rest)) out up);
-        shut = λ c left lt. subst (λ (c : Image). c (region_at log.mem (other_region log.active)) ≢ 0xa7) (sym (settled c left)) (raised_other (patch f (gate_of log) (0xa7 ∷ rest)) out);
+        given = λ c left. subst (λ (c : Image). journal_changes c log.mem log.active ≡ Ok (log.list ++ log.batch)) (sym (settled c left)) (raised_given (patch f (gate_in log) (0xa7 ∷ rest)) out up);
+        shut = λ c left lt. subst (λ (c : Image). c (region_at log.mem (other_region log.active)) ≢ 0xa7) (sym (settled c left)) (raised_other (patch f (gate_in log) (0xa7 ∷ rest)) out);
       }
-
--- the same, of a journal's buffer
-module _ (mem active : ℕ) (stale : Bool) (list batch : List Change) (bytes : List ℕ) (count staged end len : ℕ) (keeps : Keeps list batch bytes mem active count staged end len) where
-  pub len_within : len < length bytes
-  len_within =
-      omega (arith, keeps.room, keeps.list_end, keeps.batch_end, length-records_bytes list keeps.list_fits, length-records_bytes batch keeps.batch_fits, keeps.list_count, keeps.batch_count, keeps.few)
-
-  module _ (some : 0 < length batch) (old new : DiskView) (gate : ℕ) (rest : List ℕ) (gate_is : gate ≡ region_at mem active + end)
-      (rest_is : rest ≡ take (len - end) (drop (end + 1) bytes)) where
-    abbrev log : Log
-    log = record { mem = mem; active = active; stale = stale; list = list; batch = batch }
-
-    ready : Ready log
-    ready = record {
-      list_fits = keeps.list_fits;
-      batch_fits = keeps.batch_fits;
-      some = some;
-      few = omega (arith, keeps.few, keeps.list_count, keeps.batch_count);
-      active_most = keeps.active_most;
-    }
-
-    gate_same : gate ≡ gate_of log
-    gate_same = omega (arith, gate_is, keeps.list_end)
-
-    split : 0xa7 ∷ rest ≡ records_bytes batch ++ 0 ∷ []
-    split = ap (λ (x : List ℕ). 0xa7 ∷ x) rest_is ∙ behind_split list batch bytes mem active count staged end len keeps some len_within
-
-    high : gate_of log + 1 + length rest ≤ region_at mem active + region_size mem
-    high = omega (
-      arith,
-      ap length split,
-      length-append (records_bytes batch) (0 ∷ []),
-      length-records_bytes list keeps.list_fits,
-      length-records_bytes batch keeps.batch_fits,
-      keeps.list_count,
-      keeps.batch_count,
-      keeps.few,
-      region_takes mem,
-    )
-
-    -- the active region has room, so it is the one that takes the batch
-    taker : batch_region log ≡ active
-    taker = ap (λ (b : Bool). cond b active (other_region active)) (lt-ltb (length list) mem (omega (arith, some, keeps.few, keeps.list_count, keeps.batch_count)))
-
-    pub append_images : TearsOnly old new gate (1 + length rest) → TearsOnly old new (region_at mem (batch_region log)) (region_size mem)
-    append_images tears =
-        subst (λ (r : ℕ). TearsOnly old new (region_at mem r) (region_size mem)) (sym taker)
-        (tears_wider old new gate (1 + length rest) (region_at mem active) (region_size mem) (omega arith) (omega (arith, gate_same, high)) tears)
-
-    pub append_moment : ((f : Image) → old.content ≡ Some f → (c : Image) → Since new old.moment c → BehindOrRaised old f gate rest c)
-        → (f : Image) → old.content ≡ Some f → Images old f → ((d : Image) → Images old d → HoldsBytes d) → Stands old log → (c : Image) → Since new old.moment c → GivesAllOrNone log c
-    append_moment each f exposed there holds stands c since =
-        any_given log ready old holds stands f there rest split high c (subst (λ (n : ℕ). BehindOrRaised old f n rest c) gate_same (each f exposed c since))
-
-    pub append_stands : ((f : Image) → old.content ≡ Some f → new.content ≡ Some (patch f gate (0xa7 ∷ rest))) → IsDurable new
-        → (f : Image) → old.content ≡ Some f → Images old f → ((d : Image) → Images old d → HoldsBytes d) → Stands old log → Stands new (batch_joined log)
-    append_stands content settled f exposed there holds stands =
-        all_given log ready old holds stands f there rest split high new
-        (settled_at new (patch f (gate_of log) (0xa7 ∷ rest)) (content f exposed ∙ ap (λ (n : ℕ). Some (patch f n (0xa7 ∷ rest))) gate_same) settled)
-
-    pub append_content : ((f : Image) → old.content ≡ Some f → new.content ≡ Some (patch f gate (0xa7 ∷ rest)))
-        → (f : Image) → old.content ≡ Some f → new.content ≡ Some (patch f (gate_of log) (records_bytes batch ++ 0 ∷ []))
-    append_content content f exposed = content f exposed ∙ (λ i. Some (patch f (gate_same i) (split i)))

@@ -10,7 +10,7 @@ use Rattle.def_bytes.specs.Layout.{region_at, region_size, other_region}
 use Rattle.def_bytes.specs.Records.{records_bytes}
 use Rattle.strat_gate.specs.Raising.{BehindOrRaised}
 use Rattle.strat_gate.proofs.RaisingLemmas.{patched_first, patched_twice}
-use Rattle.strat_journal.specs.Log.{Log, Stands, GivesAllOrNone, batch_joined, gate_of}
+use Rattle.strat_journal.specs.Log.{Log, Stands, GivesAllOrNone, batch_joined, behind_log, gate_in}
 use Rattle.strat_journal.specs.Records.{journal_changes, logged_from}
 use Rattle.strat_journal.proofs.AppendLemmas.{Ready, keeps_laid, raised_laid}
 use Rattle.strat_journal.proofs.LaidLemmas.{LaidIn, changes-logged_from, length-logged_from}
@@ -57,16 +57,12 @@ full_stays d c mem region at n list few low high out full laid = record {
   within = laid.within;
 }
 
--- the other region's part of a journal, as a journal of its own
-abbrev pub behind_log : Log → Log
-behind_log log = record { mem = log.mem; active = other_region log.active; stale = log.stale; list = drop log.mem log.list; batch = log.batch }
-
 module _ (log : Log) (few : log.active ≤ 1) (long : log.mem ≤ length log.list) (ready : Ready (behind_log log)) (old : DiskView) (holds : (d : Image) → Images old d → HoldsBytes d)
     (given : (d : Image) → Images old d → journal_changes d log.mem log.active ≡ Ok log.list)
     (f : Image) (there : Images old f) (rest : List ℕ) (split : 0xa7 ∷ rest ≡ records_bytes log.batch ++ 0 ∷ [])
-    (high : gate_of (behind_log log) + 1 + length rest ≤ region_at log.mem (other_region log.active) + region_size log.mem) where
+    (high : gate_in (behind_log log) + 1 + length rest ≤ region_at log.mem (other_region log.active) + region_size log.mem) where
   abbrev gate : ℕ
-  gate = gate_of (behind_log log)
+  gate = gate_in (behind_log log)
 
   abbrev front : List Change
   front = take log.mem log.list

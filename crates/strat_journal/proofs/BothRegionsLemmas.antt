@@ -1,15 +1,18 @@
 -- How the journal of both regions is read.
-use Rattle.std.proofs.Common.{◌≡◌, ◌≤◌, ◌<◌, ◌-◌, ℕ, Bool, true, false, eqb, ltb, inl, inr, List, [], ◌∷◌, length, map, Ok, Err, refl, sym, ap, ◌∙◌, arith, true≢false}
+use Rattle.std.proofs.Common.{◌≡◌, ◌≤◌, ◌<◌, ◌+◌, ◌-◌, ℕ, Bool, IsTrue, ◌++◌, true, false, eqb, ltb, inl, inr, List, [], ◌∷◌, length, map, Ok, Err, refl, sym, ap, ◌∙◌, subst, arith, true≢false, length-append}
 use Rattle.std.proofs.lemmas.Bool.{cases_Bool, cases_eq, cond-true, eq-eqb, lt-ltb, le-ltb}
-use Rattle.std.proofs.lemmas.List.{append-nil, length-map}
+use Rattle.std.proofs.lemmas.List.{append-nil, length-map, map-append}
 use Rattle.strat_base.specs.Change.{Change}
 use Rattle.def_crash.specs.Image.{Image}
+use Rattle.std.specs.Prelude.{◌↔◌}
 use Rattle.def_bytes.specs.Damage.{Read, and_then, passed_or}
 use Rattle.def_bytes.specs.Layout.{region_first, region_at, other_region, is_open}
 use Rattle.def_bytes.specs.Records.{Logged, region_records, full_then, first_records, records_behind, journal_in_two}
 use Rattle.def_bytes.proofs.TwoRegionsLemmas.{joined_to, join_short, join_full, behind_none, two_whole}
 use Rattle.strat_journal.specs.declared.journal.Logged.{Logged as Owned}
+use Rattle.strat_journal.specs.Log.{Log, IsStale, RecoversTo}
 use Rattle.strat_journal.specs.Records.{changes_in_order, journal_changes, logged_of}
+use Rattle.strat_journal.proofs.ReadLemmas.{stale_is}
 
 -- the test of records behind a full region
 abbrev tested : ℕ → ℕ → Read (List Logged) → Read (List Logged)
@@ -33,14 +36,23 @@ module _ (c : Image) (mem active : ℕ) (items : List Owned) (read : region_reco
   abbrev logged : List Logged
   logged = map logged_of items
 
-  -- where a region has room, or the first gate of the other one is closed, it has the whole journal
-  pub alone : 1 < mem → length items ≤ mem → (length items ≡ mem → is_open (c (region_at mem (other_region active))) ≡ false) → journal_in_two c mem active ≡ Ok logged
-  alone some few shut = elim (cases_eq (length items) mem) [
-    | inr short ↦ join_short c mem active (records_behind c mem (other_region active)) logged read (omega (arith, few, short, length-map items logged_of))
-    | inl full ↦
-        join_full c mem active (records_behind c mem (other_region active)) logged [] read (length-map items logged_of ∙ full) (behind_none c mem (other_region active) some (shut full))
-        ∙ ap (λ (l : List Logged). Ok l) (append-nil logged)
-  ]
+  -- where a region has room, it has the whole journal
+  pub later_none : (later : List Owned) (stale : Bool) → length items < mem → later ≡ [] → stale ≡ is_open (c (region_at mem (other_region active)))
+      → (journal_in_two c mem active ≡ Ok (logged ++ map logged_of later)) × (IsTrue stale ↔ IsStale c mem active (length items + length later))
+  later_none later stale short none open' = (
+    join_short c mem active (records_behind c mem (other_region active)) logged read (omega (arith, short, length-map items logged_of))
+        ∙ ap (λ (l : List Logged). Ok l) (sym (append-nil logged))
+        ∙ ap (λ (l : List Owned). Ok (logged ++ map logged_of l)) (sym none),
+    stale_is stale (c (region_at mem (other_region active))) mem (length items) (length items + length later) open' (omega arith) (λ up. omega (arith, short)) (omega (arith, ap length none)),
+  )
+
+  -- where it is full, the other one has the rest
+  pub later_there : (later : List Owned) → length items ≡ mem → records_behind c mem (other_region active) ≡ Ok (map logged_of later)
+      → (journal_in_two c mem active ≡ Ok (logged ++ map logged_of later)) × (IsTrue false ↔ IsStale c mem active (length items + length later))
+  later_there later full there = (
+    join_full c mem active (records_behind c mem (other_region active)) logged (map logged_of later) read (length-map items logged_of ∙ full) there,
+    (λ up. absurd (true≢false (sym up)), λ stale. absurd (omega (arith, stale.0, full))),
+  )
 
   -- what is damaged behind a full region is damage of the journal
   pub behind_torn : (block : ℕ) → length items ≡ mem → records_behind c mem (other_region active) ≡ Err block → journal_in_two c mem active ≡ Err block
@@ -48,13 +60,6 @@ module _ (c : Image) (mem active : ℕ) (items : List Owned) (read : region_reco
       ap (λ (r : Read (List Logged)). and_then r (full_then mem (records_behind c mem (other_region active)))) read
       ∙ cond-true (eqb (length logged) mem) (joined_to logged (records_behind c mem (other_region active))) (Ok logged) (eq-eqb (length logged) mem (length-map items logged_of ∙ full))
       ∙ ap (joined_to logged) bad
-
--- a test of two things that failed, where one of them holds
-pub off_by : (r others : Bool) (P : Type 0) → (r ≡ true → (others ≡ true) × P) × ((others ≡ true) × P → r ≡ true) → r ≡ false → P → others ≡ false
-off_by r others P both off holds = elim (cases_Bool others) [
-  | inr down ↦ down
-  | inl up ↦ absurd (let f : true ≡ false = sym (both.1 (up, holds)) ∙ off in true≢false f)
-]
 
 changes-mapped : (items : List Owned) → map (λ (l : Logged). l.change) (map logged_of items) ≡ map (λ (l : Owned). l.change) items
 changes-mapped [] = refl
@@ -66,3 +71,19 @@ pub changes_now : (c : Image) (mem active : ℕ) (items : List Owned) (list : Li
 changes_now c mem active items list some e list_is =
     ap changes_in_order (two_whole c mem active some (map logged_of items) e).0
     ∙ ap (λ (xs : List Change). Ok xs) (changes-mapped items ∙ sym list_is)
+
+-- what was read of both regions is what recovery reads of an image
+pub recovers : (f : Image) (mem active : ℕ) (first later all : List Owned) (stale : Bool) (log : Log) → 0 < mem → all ≡ first ++ later
+    → log.list ≡ map (λ (l : Owned). l.change) first ++ map (λ (l : Owned). l.change) later → log.stale ≡ stale
+    → (journal_in_two f mem active ≡ Ok (map logged_of first ++ map logged_of later)) × (IsTrue stale ↔ IsStale f mem active (length first + length later))
+    → RecoversTo f mem active all log
+recovers f mem active first later all stale log some all_is list_is stale_is' read =
+    let mapped : map logged_of all ≡ map logged_of first ++ map logged_of later = ap (map logged_of) all_is ∙ map-append logged_of first later in
+    let found : journal_in_two f mem active ≡ Ok (map logged_of all) = read.0 ∙ ap (λ (l : List Logged). Ok l) (sym mapped) in
+    let changes : log.list ≡ map (λ (l : Owned). l.change) all = list_is ∙ sym (ap (map (λ (l : Owned). l.change)) all_is ∙ map-append (λ (l : Owned). l.change) first later) in
+    let size : length log.list ≡ length first + length later = ap length changes ∙ length-map all (λ (l : Owned). l.change) ∙ ap length all_is ∙ length-append first later in
+    record {
+      records = found;
+      changes = changes_now f mem active all log.list some found changes;
+      stale = subst (λ (b : Bool). IsTrue b ↔ IsStale f mem active (length log.list)) (sym stale_is') (subst (λ (n : ℕ). IsTrue stale ↔ IsStale f mem active n) (sym size) read.1);
+    }

@@ -1,14 +1,14 @@
 -- What the buffer of a journal keeps.
-use Rattle.std.proofs.Common.{◌≡◌, ◌≤◌, ◌<◌, ◌+◌, ◌-◌, ℕ, suc, Bool, true, List, [], ◌∷◌, ◌++◌, length, take, drop, get_or, replicate, refl, sym, ap, ◌∙◌, subst, arith, length-append, append_assoc, drop-cons}
+use Rattle.std.proofs.Common.{◌≡◌, ◌≤◌, ◌<◌, ◌+◌, ◌-◌, ℕ, suc, Bool, true, List, [], ◌∷◌, ◌++◌, length, take, drop, get_or, set, replicate, refl, sym, ap, ◌∙◌, subst, arith, length-append, append_assoc, drop-cons}
 use Rattle.std.specs.List.{list_all}
 use Rattle.std.proofs.lemmas.Bool.{and_parts, and_from}
-use Rattle.std.proofs.lemmas.List.{get_or-replicate, length-replicate, take_at, drop_at, drop-drop, append-nil, get_or-drop}
+use Rattle.std.proofs.lemmas.List.{get_or-replicate, get_or-set_same, length-replicate, length-set, take_at, drop_at, drop-drop, append-nil, get_or-drop}
 use Rattle.strat_base.specs.Numbers.{placed}
 use Rattle.strat_base.specs.Change.{Change, change_bytes, change_in, is_lawful}
 use Rattle.strat_base.proofs.ChangeLemmas.{change_in-bytes, length-change_bytes}
 use Rattle.strat_base.proofs.PlacedLemmas.{length-placed}
 use Rattle.def_bytes.specs.Records.{records_bytes}
-use Rattle.strat_journal.specs.Log.{Log, change_then, changes_in, room_for, Keeps}
+use Rattle.strat_journal.specs.Buffered.{Buffered, change_then, changes_in, room_for, Keeps}
 use Rattle.strat_journal.proofs.LaidLemmas.{records_bytes-append, all_lawful-append, length-records_bytes}
 
 -- records are read from a buffer as they were put there
@@ -53,9 +53,9 @@ split_batch (c ∷ cs) bytes end len some e size =
     (e ∙ ap (λ (x : List ℕ). 0xa7 ∷ x) (sym (append_assoc (change_bytes c ++ records_bytes cs) (0 ∷ []) (drop (len + 1) bytes))))
     (omega (arith, size, length-append (change_bytes c ++ records_bytes cs) (0 ∷ [])))
 
--- a list at the front without a batch is a batch without a list, in any region
-as_batch : (list : List Change) (bytes : List ℕ) (mem active other count end : ℕ) → Keeps list [] bytes mem active count 0 end end → count ≤ 16 → other ≤ 1 → Keeps [] list bytes mem other 0 count 0 end
-as_batch list bytes mem active other count end keeps short low = record {
+-- a list at the front without a batch is a batch without a list
+as_batch : (list : List Change) (bytes : List ℕ) (mem count end : ℕ) → Keeps list [] bytes mem count 0 end end → count ≤ 16 → Keeps [] list bytes mem 0 count 0 end
+as_batch list bytes mem count end keeps short = record {
   text = keeps.text;
   closed = keeps.closed;
   list_end = refl;
@@ -68,11 +68,10 @@ as_batch list bytes mem active other count end keeps short low = record {
   batch_few = short;
   mem_least = keeps.mem_least;
   mem_most = keeps.mem_most;
-  active_most = low;
   room = keeps.room;
 }
 
-module _ (list batch : List Change) (bytes : List ℕ) (mem active count staged end len : ℕ) (keeps : Keeps list batch bytes mem active count staged end len) where
+module _ (list batch : List Change) (bytes : List ℕ) (mem count staged end len : ℕ) (keeps : Keeps list batch bytes mem count staged end len) where
   pub list_kept : changes_in count bytes ≡ list
   list_kept =
       ap (λ (n : ℕ). changes_in n bytes) (sym keeps.list_count)
@@ -89,13 +88,17 @@ module _ (list batch : List Change) (bytes : List ℕ) (mem active count staged 
       ∙ changes_in-records batch (drop len bytes) keeps.batch_fits
 
   -- the same, of what is read from the buffer
-  pub read_keeps : Keeps (changes_in count bytes) (changes_in staged (drop end bytes)) bytes mem active count staged end len
+  pub read_keeps : Keeps (changes_in count bytes) (changes_in staged (drop end bytes)) bytes mem count staged end len
   read_keeps =
-      subst (λ (x : List Change). Keeps x (changes_in staged (drop end bytes)) bytes mem active count staged end len) (sym list_kept)
-      (subst (λ (x : List Change). Keeps list x bytes mem active count staged end len) (sym batch_kept) keeps)
+      subst (λ (x : List Change). Keeps x (changes_in staged (drop end bytes)) bytes mem count staged end len) (sym list_kept)
+      (subst (λ (x : List Change). Keeps list x bytes mem count staged end len) (sym batch_kept) keeps)
 
   front_size : length (records_bytes list ++ records_bytes batch) ≡ len
   front_size = omega (arith, length-append (records_bytes list) (records_bytes batch), keeps.list_end, keeps.batch_end)
+
+  pub len_within : len < length bytes
+  len_within =
+      omega (arith, keeps.room, keeps.list_end, keeps.batch_end, length-records_bytes list keeps.list_fits, length-records_bytes batch keeps.batch_fits, keeps.list_count, keeps.batch_count, keeps.few)
 
   -- the buffer has room for one more record of the largest size
   pub room_more : count + staged < mem → len + 1290 ≤ length bytes
@@ -136,7 +139,7 @@ module _ (list batch : List Change) (bytes : List ℕ) (mem active count staged 
         ∙ drop_at (records_bytes list ++ records_bytes (batch ++ change ∷ [])) (0 ∷ rest) next
         (omega (arith, length-append (records_bytes list) (records_bytes (batch ++ change ∷ [])), more_size, next_is, keeps.list_end, keeps.batch_end))
 
-    pub change_joined : Keeps list (batch ++ change ∷ []) new mem active count (staged + 1) end next
+    pub change_joined : Keeps list (batch ++ change ∷ []) new mem count (staged + 1) end next
     change_joined = record {
       text = new_text ∙ ap (λ (x : List ℕ). records_bytes list ++ (records_bytes (batch ++ change ∷ []) ++ x)) (sym new_behind);
       closed = let same : next ≡ next + 0 = omega arith in ap (λ (i : ℕ). get_or new i 0) same ∙ sym (get_or-drop next new 0 0) ∙ ap (λ (x : List ℕ). get_or x 0 0) new_behind;
@@ -150,7 +153,6 @@ module _ (list batch : List Change) (bytes : List ℕ) (mem active count staged 
       batch_few = omega (arith, few);
       mem_least = keeps.mem_least;
       mem_most = keeps.mem_most;
-      active_most = keeps.active_most;
       room = ap length put ∙ length-placed bytes (0xa7 ∷ (change_bytes change ++ 0 ∷ [])) len (omega (arith, fits, length-append (change_bytes change) (0 ∷ []))) ∙ keeps.room;
     }
 
@@ -169,7 +171,7 @@ module _ (list batch : List Change) (bytes : List ℕ) (mem active count staged 
     whole_behind : drop (length text) new ≡ 0 ∷ after
     whole_behind = ap (drop (length text)) whole ∙ drop_at text (0 ∷ after) (length text) refl
 
-    pub list_restored : Keeps changes [] new mem active n 0 (length text) (length text)
+    pub list_restored : Keeps changes [] new mem n 0 (length text) (length text)
     list_restored = record {
       text = whole ∙ (λ i. text_is i ++ sym whole_behind i);
       closed = let same : length text ≡ length text + 0 = omega arith in ap (λ (i : ℕ). get_or new i 0) same ∙ sym (get_or-drop (length text) new 0 0) ∙ ap (λ (x : List ℕ). get_or x 0 0) whole_behind;
@@ -183,7 +185,6 @@ module _ (list batch : List Change) (bytes : List ℕ) (mem active count staged 
       batch_few = omega arith;
       mem_least = keeps.mem_least;
       mem_most = keeps.mem_most;
-      active_most = keeps.active_most;
       room = ap length put ∙ length-placed bytes (text ++ 0 ∷ []) 0 (omega (arith, front_fits changes text n text_is lawful number few, length-append text (0 ∷ []))) ∙ keeps.room;
     }
 
@@ -194,7 +195,7 @@ module _ (list batch : List Change) (bytes : List ℕ) (mem active count staged 
       split_batch batch bytes end len some (behind_list ∙ ap (λ (x : List ℕ). records_bytes batch ++ x) tail) (omega (arith, keeps.batch_end))
 
   -- the batch joins the list
-  pub batch_joined : Keeps (list ++ batch) [] bytes mem active (count + staged) 0 len len
+  pub batch_joined : Keeps (list ++ batch) [] bytes mem (count + staged) 0 len len
   batch_joined = record {
     text = keeps.text ∙ sym (append_assoc (records_bytes list) (records_bytes batch) (drop len bytes)) ∙ ap (λ (x : List ℕ). x ++ drop len bytes) (sym (records_bytes-append list batch));
     closed = keeps.closed;
@@ -208,33 +209,32 @@ module _ (list batch : List Change) (bytes : List ℕ) (mem active count staged 
     batch_few = omega arith;
     mem_least = keeps.mem_least;
     mem_most = keeps.mem_most;
-    active_most = keeps.active_most;
     room = keeps.room;
   }
 
-  -- the batch is moved to the front, for any region
+  -- the batch is moved to the front
   pub batch_text : take (len - end) (drop end bytes) ≡ records_bytes batch
   batch_text = ap (take (len - end)) behind_list ∙ take_at (records_bytes batch) (drop len bytes) (len - end) (omega (arith, keeps.batch_end))
 
-  pub batch_moved : (new : List ℕ) (other : ℕ) → other ≤ 1 → new ≡ placed bytes 0 (take (len - end) (drop end bytes) ++ 0 ∷ []) → Keeps [] batch new mem other 0 staged 0 (len - end)
-  batch_moved new other low put =
+  pub batch_moved : (new : List ℕ) → new ≡ placed bytes 0 (take (len - end) (drop end bytes) ++ 0 ∷ []) → Keeps [] batch new mem 0 staged 0 (len - end)
+  batch_moved new put =
       let text : List ℕ = take (len - end) (drop end bytes) in
       let size : length text ≡ len - end = omega (arith, ap length batch_text, keeps.batch_end) in
-      let front : Keeps batch [] new mem active staged 0 (length text) (length text) = list_restored batch text new staged batch_text keeps.batch_fits keeps.batch_count (omega (arith, keeps.few)) put in
-      subst (λ (n : ℕ). Keeps [] batch new mem other 0 staged 0 n) size (as_batch batch new mem active other staged (length text) front keeps.batch_few low)
+      let front : Keeps batch [] new mem staged 0 (length text) (length text) = list_restored batch text new staged batch_text keeps.batch_fits keeps.batch_count (omega (arith, keeps.few)) put in
+      subst (λ (n : ℕ). Keeps [] batch new mem 0 staged 0 n) size (as_batch batch new mem staged (length text) front keeps.batch_few)
 
--- a journal of the same changes is the same journal
-pub same_log : (mem active : ℕ) (stale : Bool) (list list' batch batch' : List Change) → list ≡ list' → batch ≡ batch'
-    → ◌≡◌ {A = Log} (record { mem = mem; active = active; stale = stale; list = list; batch = batch }) (record { mem = mem; active = active; stale = stale; list = list'; batch = batch' })
-same_log mem active stale list list' batch batch' e f = λ i. record { mem = mem; active = active; stale = stale; list = e i; batch = f i }
+-- a buffer of the same changes is the same buffer
+pub same_buffered : (mem : ℕ) (list list' batch batch' : List Change) → list ≡ list' → batch ≡ batch'
+    → ◌≡◌ {A = Buffered} (record { mem = mem; list = list; batch = batch }) (record { mem = mem; list = list'; batch = batch' })
+same_buffered mem list list' batch batch' e f = λ i. record { mem = mem; list = e i; batch = f i }
 
--- a buffer of zeros keeps no change
-pub none_kept : (bytes : List ℕ) (mem active n : ℕ) → bytes ≡ replicate n 0 → n ≡ room_for mem → 4 ≤ mem → mem ≤ 4096 → active ≤ 1
-    → Keeps (changes_in 0 bytes) (changes_in 0 bytes) bytes mem active 0 0 0 0
-none_kept bytes mem active n zeros room least most region =
-    subst (λ (x : List Change). Keeps x x bytes mem active 0 0 0 0) (sym (none_in bytes)) (record {
+-- a buffer with a closed gate at its front keeps no change
+none_from : (bytes : List ℕ) (mem : ℕ) → get_or bytes 0 0 ≡ 0 → length bytes ≡ room_for mem → 4 ≤ mem → mem ≤ 4096
+    → Keeps (changes_in 0 bytes) (changes_in 0 bytes) bytes mem 0 0 0 0
+none_from bytes mem shut room least most =
+    subst (λ (x : List Change). Keeps x x bytes mem 0 0 0 0) (sym (none_in bytes)) (record {
       text = refl;
-      closed = ap (λ (x : List ℕ). get_or x 0 0) zeros ∙ get_or-replicate n 0 0 0 (omega (arith, room));
+      closed = shut;
       list_end = refl;
       batch_end = refl;
       list_count = refl;
@@ -245,6 +245,17 @@ none_kept bytes mem active n zeros room least most region =
       batch_few = omega arith;
       mem_least = least;
       mem_most = most;
-      active_most = region;
-      room = ap length zeros ∙ length-replicate n 0 ∙ room;
+      room = room;
     })
+
+-- a buffer of zeros keeps no change
+pub none_kept : (bytes : List ℕ) (mem n : ℕ) → bytes ≡ replicate n 0 → n ≡ room_for mem → 4 ≤ mem → mem ≤ 4096
+    → Keeps (changes_in 0 bytes) (changes_in 0 bytes) bytes mem 0 0 0 0
+none_kept bytes mem n zeros room least most =
+    none_from bytes mem (ap (λ (x : List ℕ). get_or x 0 0) zeros ∙ get_or-replicate n 0 0 0 (omega (arith, room))) (ap length zeros ∙ length-replicate n 0 ∙ room) least most
+
+-- nor does one whose first gate was closed
+pub cleared : (list batch : List Change) (bytes new : List ℕ) (mem count staged end len : ℕ) → Keeps list batch bytes mem count staged end len → new ≡ set bytes 0 0
+    → Keeps (changes_in 0 new) (changes_in 0 new) new mem 0 0 0 0
+cleared list batch bytes new mem count staged end len keeps new_is =
+    none_from new mem (ap (λ (x : List ℕ). get_or x 0 0) new_is ∙ get_or-set_same bytes 0 0 0 (omega (arith, keeps.room))) (ap length new_is ∙ length-set bytes 0 0 ∙ keeps.room) keeps.mem_least keeps.mem_most

@@ -9,3 +9,5 @@ pub mod ClosingLemmas
 pub mod BothRegionsLemmas
 pub mod TwoLemmas
 pub mod BehindLemmas
+pub mod TakingLemmas
+pub mod SplitLemmas

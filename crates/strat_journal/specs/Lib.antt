@@ -1,3 +1,4 @@
+pub mod Buffered
 pub mod Records
 pub mod Log
 pub mod RegionReader

@@ -1,7 +1,7 @@
 -- A journal in memory.
-use Rattle.std.specs.Prelude.{◌≡◌, ◌≢◌, ◌⊎◌, ◌≤◌, ◌<◌, ℕ, zero, suc, ◌+◌, ◌*◌, Bool, true, false, List, [], ◌∷◌, ◌++◌, length, map, drop, slice_index, nat_lt, if◌then◌else◌, Option, Some, None, Ok, IsTrue, ◌↔◌}
+use Rattle.std.specs.Prelude.{◌≡◌, ◌≢◌, ◌⊎◌, ◌≤◌, ◌<◌, ℕ, ◌+◌, ◌-◌, ◌*◌, Bool, true, false, List, [], ◌∷◌, ◌++◌, length, map, drop, nat_lt, if◌then◌else◌, Some, Ok, IsTrue, ◌↔◌}
 use Rattle.std.specs.List.{list_all}
-use Rattle.strat_base.specs.Change.{Change, change_bytes, change_in, is_lawful}
+use Rattle.strat_base.specs.Change.{Change, is_lawful}
 use Rattle.def_crash.specs.Image.{Image, patch}
 use Rattle.def_bytes.specs.Layout.{region_at, other_region, open_flag}
 use Rattle.def_crash.specs.Moments.{DiskView, Exposes, Images, IsDurable}
@@ -18,9 +18,28 @@ pub record Log : Type 0 where
   pub list : List Change
   pub batch : List Change
 
--- the offset of the first closed gate after the list
+-- the other region's part of a journal, as a journal of its own
+abbrev pub behind_log : Log → Log
+behind_log log = record log { active = other_region log.active; list = drop log.mem log.list }
+
+-- the part of a journal in the region that takes the next batch: all of it, or what stands behind a full region
+abbrev pub taking : Log → Log
+taking log = if nat_lt (length log.list) log.mem then log else behind_log log
+
+-- the offset of the first closed gate after the list, where the active region has all of it
+abbrev pub gate_in : Log → ℕ
+gate_in log = region_at log.mem log.active + length (records_bytes log.list)
+
+-- the offset of the gate of the next record
 abbrev pub gate_of : Log → ℕ
-gate_of log = region_at log.mem log.active + length (records_bytes log.list)
+gate_of log = gate_in (taking log)
+
+-- how many changes more the journal takes: those for which the active region has places, or those for which the other one
+-- has behind a full one, less two
+abbrev pub room_of : Log → ℕ
+room_of log =
+    if nat_lt (length log.list) log.mem then log.mem - length log.list
+    else 2 * log.mem - 2 - length log.list
 
 -- the batch is in the list, and the next one is empty
 abbrev pub batch_joined : Log → Log
@@ -50,40 +69,6 @@ region_turned log = record log {
 abbrev pub region_begun : Log → Log
 region_begun log = record log { active = other_region log.active; stale = false; list = [] }
 
--- a change and those of the records after it
-abbrev pub change_then : (List ℕ → List Change) → List ℕ → Option Change → List Change
-change_then later bytes None = []
-change_then later bytes (Some change) = change ∷ later (drop (length (change_bytes change)) bytes)
-
--- the changes of the first n records of these bytes
-unfoldable pub changes_in : ℕ → List ℕ → List Change
-changes_in zero bytes = []
-changes_in (suc n) [] = []
-changes_in (suc n) (gate ∷ bytes) = change_then (λ rest. changes_in n rest) bytes (change_in bytes)
-
--- bytes of a buffer for twice as many of the largest records as a region takes, for those of a batch, and
--- for a closed gate
-abbrev pub room_for : ℕ → ℕ
-room_for mem = 1288 * (2 * mem + 16) + 1
-
--- the buffer has the records of the list, those of the batch after them, and a closed gate
-pub record Keeps (list batch : List Change) (bytes : List ℕ)
-    (mem active count staged end len : ℕ) : Type 0 where
-  pub text : bytes ≡ records_bytes list ++ (records_bytes batch ++ drop len bytes)
-  pub closed : slice_index bytes len ≡ 0
-  pub list_end : end ≡ length (records_bytes list)
-  pub batch_end : len ≡ end + length (records_bytes batch)
-  pub list_count : length list ≡ count
-  pub batch_count : length batch ≡ staged
-  pub list_fits : list_all is_lawful list ≡ true
-  pub batch_fits : list_all is_lawful batch ≡ true
-  pub few : count + staged ≤ mem
-  pub batch_few : staged ≤ 16
-  pub mem_least : 4 ≤ mem
-  pub mem_most : mem ≤ 4096
-  pub active_most : active ≤ 1
-  pub room : length bytes ≡ room_for mem
-
 -- every image gives the list, and where that is shorter than a region takes the first gate of the region
 -- that is not active is closed
 pub record Stands (v : DiskView) (log : Log) : Type 0 where
@@ -101,6 +86,11 @@ KeepsShortJournal v mem active c = (d : Image) × Images v d
     × ((logged : List Record) → length logged < mem → journal_of d mem active ≡ Ok logged
     → journal_of c mem active ≡ Ok logged)
 
+-- no crash leaves anything else in the other region than what the list has behind a full one
+abbrev pub GivesLater : DiskView → Log → Type 0
+GivesLater v log = (c : Image) → Images v c
+    → journal_changes c log.mem (other_region log.active) ≡ Ok (drop log.mem log.list)
+
 -- an image gives the list, or the list with the whole batch after it
 abbrev pub GivesAllOrNone : Log → Image → Type 0
 GivesAllOrNone log c =
@@ -113,13 +103,20 @@ pub record HoldsBatch (old new : DiskView) (log : Log) : Type 0 where
       → new.content ≡ Some (patch f (gate_of log) (records_bytes log.batch ++ 0 ∷ []))
   pub settled : IsDurable new
 
--- a journal whose list are these changes in their order
+-- a journal that may take its batch: the changes are lawful, and find room where they go
+pub record HasRoomToAppend (log : Log) : Type 0 where
+  pub list_fits : list_all is_lawful (taking log).list ≡ true
+  pub batch_fits : list_all is_lawful log.batch ≡ true
+  pub few : length (taking log).list + length log.batch ≤ log.mem
+  pub active_most : log.active ≤ 1
+
+-- a journal whose list are these changes in their order, two fewer than both regions have places for, or less
 pub record Restores (mem active : ℕ) (logged : List Logged) (log : Log) : Type 0 where
   pub mem_is : log.mem ≡ mem
   pub active_is : log.active ≡ active
   pub list_is : log.list ≡ map (λ l. l.change) logged
   pub batch_is : log.batch ≡ []
-  pub few : length log.list ≤ mem
+  pub few : length log.list ≤ 2 * mem - 2
 
 -- so many changes leave room in the active region, and the other one's first gate is open
 abbrev pub IsStale : Image → ℕ → ℕ → ℕ → Type 0

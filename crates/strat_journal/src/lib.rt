@@ -19,6 +19,7 @@ mod closing;
 mod journal;
 pub mod laws;
 mod read;
+mod record_buf;
 mod region_reader;
 mod text;
 

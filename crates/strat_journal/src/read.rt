@@ -1,18 +1,19 @@
 //! Reading a journal at recovery.
 
-ghost use Rattle.std.specs.Prelude.{◌≡◌, ◌≢◌, ◌≤◌, ℕ, ◌+◌, ◌-◌, ◌*◌, map, Ok, Err, IfOk, IsErrOf, IsTrue, ◌↔◌, vec_len};
+ghost use Rattle.std.specs.Prelude.{◌≡◌, ◌≤◌, ◌<◌, ℕ, ◌+◌, ◌-◌, ◌*◌, ◌++◌, length, map, Ok, Err, IfOk, IsErrOf, IsTrue, ◌↔◌, vec_len};
 ghost use Rattle.def_crash.specs.Image.{Image};
 ghost use Rattle.def_bytes.specs.Layout as places;
 ghost use Rattle.def_crash.specs.Moments.{Exposes, OnlyReads};
 ghost use Rattle.def_bytes.specs.SuperBlock.{IsLawful};
 ghost use Rattle.strat_base.specs.declared.failures.Trouble.TheVariants.{Damaged, Device};
 ghost use Rattle.strat_gate.specs.SuperView.{super_of};
-ghost use Rattle.strat_journal.specs.Log.{Restores, RecoversTo};
+ghost use Rattle.strat_journal.specs.Log.{Restores, RecoversTo, IsStale};
+ghost use Rattle.strat_journal.specs.Buffered.{AreOfBoth};
 ghost use Rattle.strat_journal.specs.RegionReader.{AreRecords};
-ghost use Rattle.def_bytes.specs.Records.{first_records, records_behind, journal_in_two};
+ghost use Rattle.def_bytes.specs.Records.{first_records, region_records, records_behind, journal_in_two};
 ghost use Rattle.strat_journal.specs.Records.{logged_of};
 ghost use Rattle.def_crash.specs.Faults.{HasCause, ReadsAtMost};
-ghost use Rattle.def_bytes.specs.Layout.{IsRegion, is_open};
+ghost use Rattle.def_bytes.specs.Layout.{IsRegion};
 
 use crate::journal::{Journal, Logged};
 use crate::region_reader::RegionReader;
@@ -22,21 +23,28 @@ use strat_base::Trouble;
 use strat_disk::Disk;
 use strat_gate::{SuperBlock, gate_up};
 
-/// The first records of a region, up to its first closed gate or as many as are asked for, and their bytes. Reads each
-/// block at most once and none after that gate.
+/// Records of a region, and their bytes.
+#[derive(Drop)]
+pub(crate) struct RegionRecords {
+    pub(crate) logged: Vec<Logged>,
+    pub(crate) bytes: Vec<u8>,
+}
+
+/// The first records of a region, up to its first closed gate or as many as are asked for. Reads each block at most once and
+/// none after that gate.
 fn read_region<D: Disk>(
     alloc: Global,
     disk: &mut D,
     mem: u32,
     region: u8,
     most: u32,
-) -> Result<(Vec<Logged>, Vec<u8>), Trouble>
+) -> Result<RegionRecords, Trouble>
     requires fits { IsRegion mem region }
     requires len { most ≤ mem }
     ensures found { IfOk result (λ r. (f : Image) → Exposes (D.view disk.old) f
-        → first_records f mem region most ≡ Ok (map logged_of r.0.items)) }
-    ensures kept { IfOk result (λ r. AreRecords r.1.items r.0.items) }
-    ensures len { IfOk result (λ r. vec_len r.0 ≤ most) }
+        → first_records f mem region most ≡ Ok (map logged_of r.logged.items)) }
+    ensures kept { IfOk result (λ r. AreRecords r.bytes.items r.logged.items) }
+    ensures len { IfOk result (λ r. vec_len r.logged ≤ most) }
     ensures damaged { (b : ℕ) → IsErrOf result (Damaged b) → (f : Image)
         → Exposes (D.view disk.old) f → first_records f mem region most ≡ Err b }
     ensures same { OnlyReads (D.view disk.old) (D.view disk.new) }
@@ -48,12 +56,14 @@ fn read_region<D: Disk>(
     let mut at = 0;
     for _i in 0..most {
         let Some((record, next)) = reader.next(alloc, disk, at)? else {
-            return Ok((logged, reader.into_front(at)));
+            let bytes = reader.into_front(at);
+            return Ok(RegionRecords { logged, bytes });
         };
         logged.push(record)?;
         at = next;
     }
-    Ok((logged, reader.into_front(at)))
+    let bytes = reader.into_front(at);
+    Ok(RegionRecords { logged, bytes })
 }
 
 /// The records of a region behind a full one. `Damaged` names the region's first block where they are as many as it takes
@@ -63,71 +73,69 @@ fn read_behind<D: Disk>(
     disk: &mut D,
     mem: u32,
     region: u8,
-) -> Result<Vec<Logged>, Trouble>
+) -> Result<RegionRecords, Trouble>
     requires fits { (4 ≤ mem) × IsRegion mem region }
-    ensures found { IfOk result (λ logged. (f : Image) → Exposes (D.view disk.old) f
-        → records_behind f mem region ≡ Ok (map logged_of logged.items)) }
-    ensures len { IfOk result (λ logged. vec_len logged + 2 ≤ mem) }
+    ensures found { IfOk result (λ r. (f : Image) → Exposes (D.view disk.old) f
+        → records_behind f mem region ≡ Ok (map logged_of r.logged.items)) }
+    ensures kept { IfOk result (λ r. AreRecords r.bytes.items r.logged.items) }
+    ensures len { IfOk result (λ r. vec_len r.logged + 2 ≤ mem) }
     ensures damaged { (b : ℕ) → IsErrOf result (Damaged b) → (f : Image)
         → Exposes (D.view disk.old) f → records_behind f mem region ≡ Err b }
     ensures same { OnlyReads (D.view disk.old) (D.view disk.new) }
     ensures cause { HasCause Device (D.faults disk.old) (D.faults disk.new) result }
     ensures reads { ReadsAtMost (places.region_blocks mem) (D.reads disk.old) (D.reads disk.new) }
 {
-    let (logged, _bytes) = read_region(alloc, disk, mem, region, mem - 1)?;
-    if logged.len() >= mem as usize - 1 {
+    let records = read_region(alloc, disk, mem, region, mem - 1)?;
+    if records.logged.len() >= mem as usize - 1 {
         return Err(Trouble::Damaged {
             block: region_first(mem, region),
         });
     }
-    Ok(logged)
+    Ok(records)
 }
 
-/// Whether records are as many as a region takes and others may follow in the other region.
-fn goes_on(len: usize, mem: u32, others: bool) -> bool
-    ensures { IsTrue result ↔ (IsTrue others × (len ≡ mem)) }
-{
-    others && len == mem as usize
-}
-
-/// What recovery reads of a journal, and whether the other region's first gate is open. `NoMemory` also stands for a journal
-/// that goes on in the other region: it has more changes than this journal takes as yet.
-fn read_records<D: Disk>(
+/// What stands behind records of the active region: the other one's, if the active one is full. Else none are read, but
+/// whether the other one's first gate is open, where it should not be.
+fn read_later<D: Disk>(
     alloc: Global,
     disk: &mut D,
     mem: u32,
     region: u8,
-) -> Result<(Vec<Logged>, Vec<u8>, bool), Trouble>
+    first: &[Logged],
+) -> Result<(RegionRecords, bool), Trouble>
     requires fits { (4 ≤ mem) × IsRegion mem region }
+    requires len { length first.now ≤ mem }
     ensures found { IfOk result (λ r. (f : Image) → Exposes (D.view disk.old) f
-        → (journal_in_two f mem region ≡ Ok (map logged_of r.0.items))
-        × (r.2 ≡ is_open (f (places.region_at mem (places.other_region region))))) }
-    ensures len { IfOk result (λ r. (vec_len r.0 ≤ mem) × (IsTrue r.2 → vec_len r.0 ≢ mem)) }
-    ensures kept { IfOk result (λ r. AreRecords r.1.items r.0.items) }
+        → region_records f mem region ≡ Ok (map logged_of first.now)
+        → (journal_in_two f mem region
+        ≡ Ok (map logged_of first.now ++ map logged_of r.0.logged.items))
+        × (IsTrue r.1 ↔ IsStale f mem region (length first.now + length r.0.logged.items))) }
+    ensures kept { IfOk result (λ r. AreRecords r.0.bytes.items r.0.logged.items) }
+    ensures len { IfOk result (λ r. AreOfBoth mem (length first.now) (length r.0.logged.items)) }
     ensures damaged { (b : ℕ) → IsErrOf result (Damaged b) → (f : Image)
-        → Exposes (D.view disk.old) f → journal_in_two f mem region ≡ Err b }
+        → Exposes (D.view disk.old) f → region_records f mem region ≡ Ok (map logged_of first.now)
+        → journal_in_two f mem region ≡ Err b }
     ensures same { OnlyReads (D.view disk.old) (D.view disk.new) }
     ensures cause { HasCause Device (D.faults disk.old) (D.faults disk.new) result }
-    ensures reads { ReadsAtMost (2 * places.region_blocks mem + 1)
-        (D.reads disk.old) (D.reads disk.new)
-        × IfOk result (λ r. ReadsAtMost (places.region_blocks mem + 1)
-        (D.reads disk.old) (D.reads disk.new)) }
+    ensures reads { ReadsAtMost (places.region_blocks mem) (D.reads disk.old) (D.reads disk.new)
+        × (length first.now < mem → ReadsAtMost 1 (D.reads disk.old) (D.reads disk.new)) }
 {
-    let (logged, bytes) = read_region(alloc, disk, mem, region, mem)?;
-    let others = gate_up(disk, region_at(mem, 1 - region))?;
-    if goes_on(logged.len(), mem, others) {
-        let _later = read_behind(alloc, disk, mem, 1 - region)?;
-        return Err(Trouble::NoMemory);
+    if first.len() == mem as usize {
+        return Ok((read_behind(alloc, disk, mem, 1 - region)?, false));
     }
-    Ok((logged, bytes, others))
+    let stale = gate_up(disk, region_at(mem, 1 - region))?;
+    let none = RegionRecords {
+        logged: Vec::new(alloc),
+        bytes: Vec::new(alloc),
+    };
+    Ok((none, stale))
 }
 
 impl Journal {
     /// Reads the journal of a superblock, and gives it with its changes in order and the blocks of their
     /// gates. Takes all the memory that later calls need, and writes nothing. Reads each block of the active
-    /// region at most once, none after its first closed gate, and one of the other region. `NoMemory` also stands for
-    /// a journal of more changes than one region takes: the other region's blocks are then read up to its first
-    /// closed gate, too, so that what is damaged there is told.
+    /// region at most once, none after its first closed gate. Where that region is full it reads the other one in the same
+    /// way, and else one block of it.
     pub fn read<D: Disk>(
         alloc: Global,
         disk: &mut D,
@@ -142,15 +150,18 @@ impl Journal {
             → journal_in_two f sb.now.mem sb.now.region ≡ Err b }
         ensures same { OnlyReads (D.view disk.old) (D.view disk.new) }
         ensures cause { HasCause Device (D.faults disk.old) (D.faults disk.new) result }
-        ensures reads { ReadsAtMost (2 * places.region_blocks sb.now.mem + 1)
+        ensures reads { ReadsAtMost (2 * places.region_blocks sb.now.mem)
             (D.reads disk.old) (D.reads disk.new)
-            × IfOk result (λ r. ReadsAtMost (places.region_blocks sb.now.mem + 1)
+            × IfOk result (λ r. length r.1.items < sb.now.mem
+            → ReadsAtMost (places.region_blocks sb.now.mem + 1)
             (D.reads disk.old) (D.reads disk.new)) }
     {
         let mut journal = Journal::empty(alloc, sb.mem, sb.region)?;
-        let (logged, bytes, others) = read_records(alloc, disk, sb.mem, sb.region)?;
-        journal.restore(&logged, &bytes);
-        journal.set_stale(others);
-        Ok((journal, logged))
+        let mut first = read_region(alloc, disk, sb.mem, sb.region, sb.mem)?;
+        let (mut later, stale) = read_later(alloc, disk, sb.mem, sb.region, &first.logged)?;
+        journal.restore(&first, &later);
+        journal.set_stale(stale);
+        first.logged.append(&mut later.logged)?;
+        Ok((journal, first.logged))
     }
 }

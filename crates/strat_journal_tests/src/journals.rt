@@ -3,6 +3,7 @@
 ghost use Rattle.std.specs.Prelude.{◌≡◌, ◌≤◌, ◌+◌, [], length, IfSome, OnOk};
 ghost use Rattle.def_bytes.specs.SuperBlock.{IsLawful};
 ghost use Rattle.strat_gate.specs.SuperView.{super_of};
+ghost use Rattle.strat_journal.specs.Log.{room_of};
 
 use def_bytes::{region_at, region_blocks, region_first};
 use std::alloc::Global;
@@ -66,7 +67,7 @@ fn counts(journal: &Journal, count: u32, room: u32, stale: bool) -> bool {
 fn add_puts(journal: &mut Journal, n: u8)
     requires few { n ≤ 16 }
     requires empty { journal.old.batch ≡ [] }
-    requires room { length journal.old.list + n ≤ journal.old.mem }
+    requires room { n ≤ room_of journal.old }
     ensures batch { length journal.new.batch ≡ n }
 {
     for i in 0..n {
@@ -177,56 +178,84 @@ fn the_example_is_appended_and_read(rt: HostRuntime) -> Result<(), Fail> {
     Ok(())
 }
 
-/// Appends one change to a new journal with room for 17.
-fn append_first(journal: &mut Journal, disk: &mut MemDisk) -> Result<(), Failed>
-    requires { journal.old.batch ≡ [] }
-    ensures { OnOk result (journal.new.batch ≡ []) }
-{
-    if journal.room() != 17 {
-        return Err(Failed);
-    }
-    append_puts(journal, disk, 1)?;
-    if journal.room() != 16 {
-        return Err(Failed);
-    }
-    Ok(())
+/// A journal's changes per region, how many changes it has, and how many are in the batch behind them.
+#[derive(Clone, Copy)]
+struct Batch {
+    mem: u32,
+    first: u8,
+    n: u8,
 }
 
-/// Whether a crash leaves one change with so many behind it, or one alone where they were not appended.
-fn leaves_none_or_all(alloc: Global, left: &MemDisk, choice: u8, n: u8, appended: bool) -> bool {
+/// Whether a crash leaves the first changes with so many behind them, or these alone where they were not appended.
+fn leaves_none_or_all(
+    alloc: Global,
+    left: &MemDisk,
+    choice: u8,
+    batch: Batch,
+    appended: bool,
+) -> bool
+    requires { (4 ≤ batch.mem) × (batch.mem ≤ 20) }
+{
     let Ok(mut after) = left.crash(choice) else {
         return false;
     };
-    let all = open(alloc, &mut after, 17, 0, 1 + usize::from(n)).is_some();
-    all || !appended && open(alloc, &mut after, 17, 0, 1).is_some()
+    let first = usize::from(batch.first);
+    let all = open(
+        alloc,
+        &mut after,
+        batch.mem,
+        0,
+        first + usize::from(batch.n),
+    )
+    .is_some();
+    all || !appended && open(alloc, &mut after, batch.mem, 0, first).is_some()
 }
 
-/// Appends one change, and so many behind a fuse of so many calls, and looks at what each crash leaves.
-fn is_none_or_all(alloc: Global, mut disk: MemDisk, n: u8, calls: u64) -> bool
-    requires { n ≤ 16 }
+/// Appends the first changes, and a batch behind a fuse of so many calls, and looks at what each crash leaves.
+fn is_none_or_all(alloc: Global, mut disk: MemDisk, batch: Batch, calls: u64) -> bool
+    requires { (4 ≤ batch.mem) × (batch.mem ≤ 20) × (batch.first ≤ 16) × (batch.n ≤ 16) }
 {
-    let Some(mut journal) = open(alloc, &mut disk, 17, 0, 0) else {
+    let Some(mut journal) = open(alloc, &mut disk, batch.mem, 0, 0) else {
         return false;
     };
-    let Ok(()) = append_first(&mut journal, &mut disk) else {
+    let Ok(()) = append_puts(&mut journal, &mut disk, batch.first) else {
         return false;
     };
     let mut fuse = FuseDisk::new(disk, calls);
-    let appended = append_puts(&mut journal, &mut fuse, n).is_ok();
+    let appended = append_puts(&mut journal, &mut fuse, batch.n).is_ok();
     let left = fuse.into_inner();
     appended == (calls == 4)
-        && leaves_none_or_all(alloc, &left, 0, n, appended)
-        && leaves_none_or_all(alloc, &left, 1, n, appended)
-        && leaves_none_or_all(alloc, &left, 2, n, appended)
+        && leaves_none_or_all(alloc, &left, 0, batch, appended)
+        && leaves_none_or_all(alloc, &left, 1, batch, appended)
+        && leaves_none_or_all(alloc, &left, 2, batch, appended)
+}
+
+/// Whether it is so of a batch at each of its calls.
+fn is_whole_at_each_call(rt: &HostRuntime, mem: u32, first: u8, n: u8) -> Result<bool, Fail>
+    requires { (4 ≤ mem) × (mem ≤ 20) × (first ≤ 16) × (n ≤ 16) }
+{
+    for calls in 0..5 {
+        let disk = MemDisk::new(rt.alloc(), &[])?;
+        if !is_none_or_all(rt.alloc(), disk, Batch { mem, first, n }, calls) {
+            return Ok(false);
+        }
+    }
+    Ok(true)
 }
 
 #[test]
 fn a_crash_leaves_none_of_a_batch_or_all(rt: HostRuntime) -> Result<(), Fail> {
-    for calls in 0..5 {
-        assert!(rt; is_none_or_all(rt.alloc(), MemDisk::new(rt.alloc(), &[])?, 1, calls));
-        assert!(rt; is_none_or_all(rt.alloc(), MemDisk::new(rt.alloc(), &[])?, 2, calls));
-        assert!(rt; is_none_or_all(rt.alloc(), MemDisk::new(rt.alloc(), &[])?, 16, calls));
-    }
+    assert!(rt; is_whole_at_each_call(&rt, 17, 1, 1)?);
+    assert!(rt; is_whole_at_each_call(&rt, 17, 1, 2)?);
+    assert!(rt; is_whole_at_each_call(&rt, 17, 1, 16)?);
+    Ok(())
+}
+
+#[test]
+fn so_it_does_behind_a_full_region(rt: HostRuntime) -> Result<(), Fail> {
+    assert!(rt; is_whole_at_each_call(&rt, 4, 4, 1)?);
+    assert!(rt; is_whole_at_each_call(&rt, 4, 4, 2)?);
+    assert!(rt; is_whole_at_each_call(&rt, 9, 9, 7)?);
     Ok(())
 }
 
@@ -236,7 +265,18 @@ fn takes_a_fifth(alloc: Global, disk: &mut MemDisk) -> bool {
         return false;
     };
     let opened = counts(&journal, 4, 1, false) && disk.reads() == 5;
-    opened && append_largest(&mut journal, disk, 2).is_ok() && counts(&journal, 5, 0, false)
+    opened && append_largest(&mut journal, disk, 1).is_ok() && counts(&journal, 5, 3, false)
+}
+
+/// Whether three more go behind a full region of five, and no other, each by four calls.
+fn takes_three_behind(alloc: Global, disk: &mut MemDisk) -> bool {
+    let Some(mut journal) = open(alloc, disk, 5, 0, 5) else {
+        return false;
+    };
+    let opened = disk.calls();
+    append_largest(&mut journal, disk, 9).is_ok()
+        && disk.calls().checked_sub(opened) == Some(12)
+        && counts(&journal, 8, 0, false)
 }
 
 /// Whether the gates of these records stand in these blocks.
@@ -256,14 +296,6 @@ fn reads_blocks(alloc: Global, disk: &mut MemDisk, blocks: &[u32]) -> bool {
     }
 }
 
-/// Whether a journal has more changes than a region takes: want of memory, as long as no more are taken.
-fn wants_memory(alloc: Global, disk: &mut MemDisk) -> bool {
-    match Journal::read(alloc, disk, &block(5, 0)) {
-        Ok(_) => false,
-        Err(trouble) => trouble == Trouble::NoMemory,
-    }
-}
-
 /// Puts so many records of a byte each behind a full first region of five.
 fn put_behind(disk: &mut MemDisk, n: u8) -> Result<(), Failed> {
     for i in 0..n {
@@ -278,7 +310,7 @@ fn a_journal_goes_on_behind_a_full_region(rt: HostRuntime) -> Result<(), Fail> {
     let mut disk = MemDisk::new(rt.alloc(), &[])?;
     assert!(rt; takes_four(rt.alloc(), &mut disk));
     assert!(rt; takes_a_fifth(rt.alloc(), &mut disk));
-    assert!(rt; put_behind(&mut disk, 3).is_ok() && wants_memory(rt.alloc(), &mut disk));
+    assert!(rt; put_behind(&mut disk, 3).is_ok() && reads(rt.alloc(), &mut disk, Ok(8)));
     assert!(rt; put_behind(&mut disk, 4).is_ok() && reads(rt.alloc(), &mut disk, Err(4)));
     Ok(())
 }
@@ -290,7 +322,10 @@ fn a_region_takes_the_largest_records(rt: HostRuntime) -> Result<(), Fail> {
     assert!(rt; takes_a_fifth(rt.alloc(), &mut disk));
     assert!(rt; disk.bytes().len() == 8192 + 5 * 1288 + 1);
     assert!(rt; reads_blocks(rt.alloc(), &mut disk, &[2, 2, 2, 2, 3]));
-    assert!(rt; disk.write_at(16384, &[0xa7]).is_ok());
+    assert!(rt; takes_three_behind(rt.alloc(), &mut disk));
+    assert!(rt; disk.bytes().len() == 16384 + 3 * 1288 + 1);
+    assert!(rt; reads_blocks(rt.alloc(), &mut disk, &[2, 2, 2, 2, 3, 4, 4, 4]));
+    assert!(rt; disk.write_at(16384 + 3 * 1288, &[0xa7]).is_ok());
     assert!(rt; reads(rt.alloc(), &mut disk, Err(4)));
     Ok(())
 }
@@ -355,6 +390,16 @@ fn takes_two(alloc: Global, disk: &mut MemDisk) -> bool {
     }
 }
 
+/// Whether the second region takes two more than two.
+fn takes_two_more(alloc: Global, disk: &mut MemDisk) -> bool {
+    match open(alloc, disk, 4, 1, 2) {
+        Some(mut journal) => {
+            append_puts(&mut journal, disk, 2).is_ok() && counts(&journal, 4, 2, false)
+        }
+        None => false,
+    }
+}
+
 /// Whether an opening of the second region reads two changes in its first block.
 fn reads_two(alloc: Global, disk: &mut MemDisk) -> bool {
     match Journal::read(alloc, disk, &block(4, 1)) {
@@ -388,6 +433,28 @@ fn append_and_turn(journal: &mut Journal, disk: &mut MemDisk) -> Result<(), Fail
         return Err(Failed);
     }
     journal.append(disk)
+}
+
+/// Whether a turn keeps two changes that stand behind a full region of four, by three calls, and takes two more.
+fn keeps_what_is_behind(alloc: Global, disk: &mut MemDisk) -> bool {
+    let Some(mut journal) = open(alloc, disk, 4, 0, 0) else {
+        return false;
+    };
+    append_puts(&mut journal, disk, 4).is_ok()
+        && append_puts(&mut journal, disk, 2).is_ok()
+        && counts(&journal, 6, 0, false)
+        && journal.turn(disk).is_ok()
+        && disk.calls() == 2 + 4 + 4 + 3
+        && counts(&journal, 2, 2, false)
+}
+
+#[test]
+fn a_turn_keeps_what_is_behind(rt: HostRuntime) -> Result<(), Fail> {
+    let mut disk = MemDisk::new(rt.alloc(), &[])?;
+    assert!(rt; keeps_what_is_behind(rt.alloc(), &mut disk));
+    assert!(rt; reads_two(rt.alloc(), &mut disk));
+    assert!(rt; takes_two_more(rt.alloc(), &mut disk));
+    Ok(())
 }
 
 /// Whether a journal of the first region goes on in the second, by four calls, three and four.

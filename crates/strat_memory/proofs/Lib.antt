@@ -12,3 +12,5 @@ pub mod ThreeTests
 pub mod NumbersLemmas
 pub mod PayingLemmas
 pub mod OnDiskLemmas
+pub mod ClearLemmas
+pub mod FilterLemmas

@@ -1,6 +1,9 @@
 -- What a store has in memory, beside the head and the table that it is of.
-use Rattle.std.proofs.Common.{◌≡◌, ◌<◌, ◌≤◌, ◌+◌, ℕ, Bool, true, false, if◌then◌else◌, eqb, not, ◌&&◌, List, [], ◌∷◌, ◌++◌, length, Option, Some, None, refl, sym, ap, ◌∙◌, subst, arith, length-append, append-nil}
+use Rattle.std.proofs.Common.{◌≡◌, ◌<◌, ◌≤◌, ◌+◌, ℕ, Bool, true, false, if◌then◌else◌, eqb, not, ◌&&◌, List, [], ◌∷◌, ◌++◌, append-nil, fold, length, take, drop, Option, Some, None, refl, sym, ap, ◌∙◌, subst, arith, true≢false, length-append}
+use Rattle.std.specs.Option.{IfSome, option_map, option_map_or}
 use Rattle.std.specs.Prelude.{filter_map, is_some}
+use Rattle.std.proofs.lemmas.List.{append_assoc, length-drop, take_all, take-append-drop, take-append-le}
+use Rattle.std.proofs.lemmas.List.Sums.{fold-append}
 use Rattle.strat_base.specs.Change.{Change}
 use Rattle.strat_base.specs.Change as change
 use Rattle.strat_base.specs.Entries.{Entry}
@@ -17,6 +20,7 @@ use Rattle.strat_model.specs.Table.{Cursor, Table, parents_of}
 use Rattle.strat_model.specs.declared.replies.Refusal.{Refusal}
 use Rattle.strat_model.specs.declared.replies.Refusal.TheVariants as why
 use Rattle.strat_model.specs.declared.replies.Reply.TheVariants as reply
+use Rattle.def_recovery.specs.Asked.{asked}
 use Rattle.def_recovery.specs.Head.{Head, head_versions, head_updates, head_changes, head_marks}
 use Rattle.def_recovery.specs.Opened.{level_on, parents_in}
 use Rattle.def_recovery.specs.Opening.{state_of}
@@ -26,19 +30,21 @@ use Rattle.def_recovery.proofs.OpeningLemmas.{map_some}
 use Rattle.def_meaning.proofs.RowLemmas.{rows_many, parents_are, rows_known, rows_frozen}
 use Rattle.def_meaning.proofs.StateTableLemmas.{accepts_same}
 use Rattle.def_state.specs.Reading.{live_of, level_zero}
-use Rattle.def_state.specs.Setting.{set_entry, set_all}
-use Rattle.def_state.specs.Sound.{is_accepted, accepts_change, IsSound}
+use Rattle.def_slice.specs.Lists.{entries_left, HoldLists}
+use Rattle.def_slice.proofs.ListLemmas.{lists_asked, lists_kept, lists_room, lists_set, seal}
+use Rattle.def_state.specs.Setting.{set_all}
+use Rattle.def_state.specs.Sound.{is_accepted, accepts_change, journal_max, IsSound}
 use Rattle.def_state.specs.State.{State, versions_of, journal_updates, updates_of, changes_of, tree_after, update_of, marks_of, marks_after, map_at, is_living}
 use Rattle.def_state.proofs.SoundLemmas.{sound_tree}
 use Rattle.def_state.proofs.UpdateLemmas.{all_lives}
-use Rattle.strat_memory.specs.Memory.{Memory, refusal_of_update, refusal_of_clone, refusal_of_change, memory_after, HasRoomFor, reply_to, info_told, stat_told, emptied, fresh_memory, table_with, IsMemoryOf}
+use Rattle.strat_memory.specs.Memory.{Memory, SealedLevel, refusal_of_update, refusal_of_clone, refusal_of_change, with_update, memory_after, HasRoomFor, reply_to, info_told, stat_told, fresh_memory, head_full, lists_in_memory, oldest_changes, oldest_entries, oldest_parents, oldest_updates, oldest_versions, sealed_entries, sealed_off, unsealed, table_with, CountsSealed, IsMemoryOf}
 use Rattle.def_promote.proofs.PaidLemmas.{updates_few}
 use Rattle.strat_memory.proofs.MemoryLemmas.{left_few}
 use Rattle.strat_memory.proofs.ThreeTests.{three_none, three_pass, three_refuse}
 use Rattle.strat_base.specs.Marks.{Marks, none_dropped, is_dropped}
 use Rattle.strat_base.proofs.MarkLemmas.{living_child, living_at}
 use Rattle.def_state.proofs.UndroppedLemmas.{there_made, open_made, none_after}
-use Rattle.std.proofs.lemmas.Bool.{not_from_false}
+use Rattle.std.proofs.lemmas.Bool.{ltb-true, not_from_false}
 
 -- of three tests that refuse in turn none does where all pass
 three_pass_all : (k f l : Bool) (a b c : Refusal) → (k && not f && not l) ≡ not (is_some (if not k then Some a else if f then Some b else if l then Some c else None))
@@ -67,7 +73,69 @@ record Mirrors (s : State) (m : Memory) : Type 0 where
   undropped : none_dropped (marks_of s) ≡ true
   updates : m.updates ≡ updates_of s
   changes : m.changes ≡ changes_of s
-  entries : m.entries ≡ set_all (journal_updates s)
+  lists : HoldLists s.mem s.journal m.entries (sealed_entries m) m.spare
+
+-- lists where nothing is sealed, and where something is
+alone : (mem : ℕ) (journal : List Change) (entries : List Entry) (sealed : Option SealedLevel) (spare : ℕ) → sealed ≡ None → HoldLists mem journal entries (option_map (λ z. z.entries) sealed) spare
+    → HoldLists mem journal entries None spare
+alone mem journal entries sealed spare none lists = subst (λ (o : Option SealedLevel). HoldLists mem journal entries (option_map (λ z. z.entries) o) spare) none lists
+
+unmapped : (sealed : Option SealedLevel) → option_map (λ z. z.entries) sealed ≡ None → sealed ≡ None
+unmapped None none = refl
+unmapped (Some z) none = absurd (cc)
+
+sealed_full : (mem : ℕ) (journal : List Change) (entries : List Entry) (sealed : Option SealedLevel) (spare : ℕ) → HoldLists mem journal entries (option_map (λ z. z.entries) sealed) spare → length journal < mem → sealed ≡ None
+sealed_full mem journal entries None spare lists lt = refl
+sealed_full mem journal entries (Some z) spare lists lt = absurd (omega (arith, lists.0, lt))
+
+oldest_all : (mem : ℕ) (journal : List Change) (entries : List Entry) (sealed : Option SealedLevel) (spare : ℕ) → HoldLists mem journal entries (option_map (λ z. z.entries) sealed) spare → length journal ≤ mem
+    → option_map_or (λ (z : SealedLevel). z.entries) sealed entries ≡ entries_left journal
+oldest_all mem journal entries None spare lists few = lists.1
+oldest_all mem journal entries (Some z) spare lists few = lists.1 ∙ ap entries_left (take_all mem journal few)
+
+-- what a promotion takes is what fills the active region, or all of the journal where nothing is sealed
+oldest_part : (mem : ℕ) (journal : List Change) (entries : List Entry) (sealed : Option SealedLevel) (spare : ℕ) → HoldLists mem journal entries (option_map (λ z. z.entries) sealed) spare
+    → option_map_or (λ (z : SealedLevel). z.entries) sealed entries ≡ entries_left (take mem journal)
+oldest_part mem journal entries None spare lists = lists.1 ∙ ap entries_left (sym (take_all mem journal lists.0))
+oldest_part mem journal entries (Some z) spare lists = lists.1
+
+-- the counts of that are those of the head then
+record CountsOldest (h : Head) (m : Memory) (sealed : Option SealedLevel) : Type 0 where
+  versions : option_map_or (λ (z : SealedLevel). z.versions) sealed (length m.parents) ≡ length (head_versions (head_full h))
+  updates : option_map_or (λ (z : SealedLevel). z.updates) sealed m.updates ≡ head_updates (head_full h)
+  changes : option_map_or (λ (z : SealedLevel). z.changes) sealed m.changes ≡ head_changes (head_full h)
+
+counts_part : (h : Head) (m : Memory) → IsMemoryOf h m → (sealed : Option SealedLevel) → HoldLists h.sb.mem h.journal m.entries (option_map (λ z. z.entries) sealed) m.spare → IfSome sealed (CountsSealed h) → CountsOldest h m sealed
+counts_part h m of None lists counted =
+    let front : h.journal ≡ take h.sb.mem h.journal = sym (take_all h.sb.mem h.journal lists.0) in
+    record {
+      versions = ap (λ (ps : Parents). length ps) of.parents ∙ ap (λ (js : List Change). length (head_versions (record h { journal = js }))) front;
+      updates = of.updates ∙ ap (λ (js : List Change). head_updates (record h { journal = js })) front;
+      changes = of.changes ∙ ap (λ (js : List Change). head_changes (record h { journal = js })) front;
+    }
+counts_part h m of (Some z) lists counted = record { versions = counted.versions; updates = counted.updates; changes = counted.changes }
+
+-- versions that were there stay in front while changes come
+grown_front : (parents : Parents) (journal : List Change) → (rest : Parents) × (fold tree_after parents journal ≡ parents ++ rest)
+grown_front parents [] = ([], sym (append-nil parents))
+grown_front parents (change.Put v key value ∷ journal) = grown_front parents journal
+grown_front parents (change.Delete v key ∷ journal) = grown_front parents journal
+grown_front parents (change.DropVersion v ∷ journal) = grown_front parents journal
+grown_front parents (change.Clone v ∷ journal) =
+    let more = grown_front (with_child parents v) journal in
+    (Some v ∷ more.0, more.1 ∙ append_assoc parents (Some v ∷ []) more.0)
+
+spare_some : (mem : ℕ) (journal : List Change) (entries : List Entry) (sealed : Option (List Entry)) (spare : ℕ) → HoldLists mem journal entries sealed spare → length journal < mem → 1 ≤ spare
+spare_some mem journal entries None spare lists lt = omega (arith, lists.2, lt)
+spare_some mem journal entries (Some older) spare lists lt = absurd (omega (arith, lists.0, lt))
+
+held_few : (mem : ℕ) (journal : List Change) (entries : List Entry) (sealed : Option (List Entry)) (spare : ℕ) → HoldLists mem journal entries sealed spare → length entries ≤ length journal
+held_few mem journal entries None spare lists =
+    let same : length entries ≡ length (entries_left journal) = ap (λ (es : List Entry). length es) lists.1 in
+    omega (arith, same, left_few (filter_map update_of journal), updates_few journal)
+held_few mem journal entries (Some older) spare lists =
+    let same : length entries ≡ length (entries_left (drop mem journal)) = ap (λ (es : List Entry). length es) lists.2 in
+    omega (arith, same, left_few (filter_map update_of (drop mem journal)), updates_few (drop mem journal), length-drop mem journal)
 
 mirrors : (f : Image) (h : Head) (s : State) (m : Memory) → state_of f h ≡ Some s → IsMemoryOf h m → Mirrors s m
 mirrors f h s m read of =
@@ -79,7 +147,7 @@ mirrors f h s m read of =
       undropped = sym (ap (λ (x : State). none_dropped (marks_of x)) made.2) ∙ of.undropped;
       updates = of.updates ∙ ap updates_of made.2;
       changes = of.changes ∙ ap changes_of made.2;
-      entries = of.entries ∙ ap (λ (x : State). set_all (journal_updates x)) made.2;
+      lists = subst (λ (x : State). HoldLists x.mem x.journal m.entries (sealed_entries m) m.spare) made.2 of.lists;
     }
 
 module _ (s : State) (m : Memory) (of : Mirrors s m) (cursors : List Cursor) (n : ℕ) where
@@ -167,10 +235,10 @@ module _ (s : State) (m : Memory) (of : Mirrors s m) where
   taken : (c : Change) → refusal_of_change m c ≡ None → accepts_change s c ≡ true
   taken c e = sym (accepts_same s c) ∙ ap (λ (a : Answer). accepts a.reply) (answered s m of [] 1 c e) ∙ told_accepts c
 
-  lives_same : IsSound s → (v : ℕ) (key : List ℕ) → live_of m.parents m.entries v key ≡ live_of m.parents (level_zero s) v key
-  lives_same sound v key =
+  lives_same : IsSound s → m.sealed ≡ None → (v : ℕ) (key : List ℕ) → live_of m.parents m.entries v key ≡ live_of m.parents (level_zero s) v key
+  lives_same sound none v key =
       let here : live_of (versions_of s) m.entries v key ≡ live_of (versions_of s) (level_zero s) v key =
-      ap (λ (es : List Entry). live_of (versions_of s) es v key) of.entries ∙ all_lives (versions_of s) (sound_tree s sound.formed) (journal_updates s) v key in
+      ap (λ (es : List Entry). live_of (versions_of s) es v key) (alone s.mem s.journal m.entries m.sealed m.spare none of.lists).1 ∙ all_lives (versions_of s) (sound_tree s sound.formed) (journal_updates s) v key in
       subst (λ (ps : Parents). live_of ps m.entries v key ≡ live_of ps (level_zero s) v key) (sym of.parents) here
 
 -- the laws of a state that was read, at its table with any cursors
@@ -227,16 +295,20 @@ module _ (f : Image) (h : Head) (s : State) (m : Memory) (read : state_of f h �
   pub key_unknown : (v : ℕ) (key : List ℕ) → is_known m.parents v ≡ false → step (table_of s) (Get v key) ≡ refuses (table_of s) why.UnknownVersion
   key_unknown = unfound s m the [] 1
 
-  pub key_found : IsSound s → (v : ℕ) (key : List ℕ) → live_of m.parents m.entries v key ≡ live_of m.parents (level_zero s) v key
+  pub key_found : IsSound s → m.sealed ≡ None → (v : ℕ) (key : List ℕ) → live_of m.parents m.entries v key ≡ live_of m.parents (level_zero s) v key
   key_found = lives_same s m the
+
+  -- level 0, what is sealed and the levels are asked as the table is
+  pub key_asked : IsSound s → (v : ℕ) (key : List ℕ) → is_known m.parents v ≡ true → asked f m.parents (lists_in_memory m) h.manifest.levels v key ≡ value_of (pairs_at (table_of s) v) key
+  key_asked sound v key here =
+      let lt : v < length (versions_of s) = subst (λ (ps : Parents). v < length ps) the.parents (ltb-true v (length m.parents) here) in
+      ap (λ (ps : Parents). asked f ps (lists_in_memory m) h.manifest.levels v key) the.parents
+      ∙ lists_asked f h s m.entries (sealed_entries m) m.spare v key read sound the.lists lt (living_of v)
 
 -- a head with one more change
 module _ (h : Head) (m : Memory) (of : IsMemoryOf h m) where
   grown_versions : (c : Change) → head_versions (record h { journal = h.journal ++ c ∷ [] }) ≡ tree_after (head_versions h) c
   grown_versions c = fold-push tree_after (parents_in h.manifest) h.journal c
-
-  set_in : (e : Entry) → set_entry e m.entries ≡ set_all (filter_map update_of h.journal ++ e ∷ [])
-  set_in e = ap (set_entry e) of.entries ∙ sym (fold-push (λ entries d. set_entry d entries) [] (filter_map update_of h.journal) e)
 
   marks_pushed : (c : Change) → head_marks (record h { journal = h.journal ++ c ∷ [] }) ≡ marks_after (head_marks h) c
   marks_pushed c = fold-push marks_after h.manifest.marks h.journal c
@@ -247,38 +319,43 @@ module _ (h : Head) (m : Memory) (of : IsMemoryOf h m) where
       ∙ none_after m.changes_max m.versions_max m.parents (head_marks h) m.changes c of.undropped
       (accepted_same m (head_marks h) c of.undropped ∙ ap (λ (o : Option Refusal). not (is_some o)) free)
 
-  pub memory_follows : (c : Change) → refusal_of_change m c ≡ None → IsMemoryOf (record h { journal = h.journal ++ c ∷ [] }) (memory_after m c)
-  memory_follows (change.Put v key value) free =
-      let e : Entry = record { key = key; version = v; value = Some value } in
-      let more = filter_map-append update_of h.journal (change.Put v key value ∷ []) in
-      let long : length (filter_map update_of (h.journal ++ change.Put v key value ∷ [])) ≡ length (filter_map update_of h.journal) + 1 =
-      ap (λ (es : List Entry). length es) more ∙ length-append (filter_map update_of h.journal) (e ∷ []) in
+  -- the journal of the region that was full stays
+  counted_more : (c : Change) (sealed : Option SealedLevel) → HoldLists h.sb.mem h.journal m.entries (option_map (λ z. z.entries) sealed) m.spare → IfSome sealed (CountsSealed h)
+      → IfSome sealed (CountsSealed (record h { journal = h.journal ++ c ∷ [] }))
+  counted_more c None lists counted = tt
+  counted_more c (Some z) lists counted =
+      let same : take h.sb.mem h.journal ≡ take h.sb.mem (h.journal ++ c ∷ []) = sym (take-append-le h.sb.mem h.journal (c ∷ []) lists.0) in
       record {
-        changes_max = of.changes_max;
-        versions_max = of.versions_max;
-        parents = of.parents ∙ sym (grown_versions (change.Put v key value));
-        undropped = undropped_after (change.Put v key value) free;
-        updates = omega (arith, of.updates, long);
-        changes = omega (arith, of.changes, length-append h.journal (change.Put v key value ∷ []));
-        entries = set_in e ∙ ap (λ (es : List Entry). set_all es) (sym more);
-        room = omega (arith, of.room, length-append h.journal (change.Put v key value ∷ []));
+        versions = counted.versions ∙ ap (λ (js : List Change). length (head_versions (record h { journal = js }))) same;
+        updates = counted.updates ∙ ap (λ (js : List Change). head_updates (record h { journal = js })) same;
+        changes = counted.changes ∙ ap (λ (js : List Change). head_changes (record h { journal = js })) same;
       }
-  memory_follows (change.Delete v key) free =
-      let e : Entry = record { key = key; version = v; value = None } in
-      let more = filter_map-append update_of h.journal (change.Delete v key ∷ []) in
-      let long : length (filter_map update_of (h.journal ++ change.Delete v key ∷ [])) ≡ length (filter_map update_of h.journal) + 1 =
-      ap (λ (es : List Entry). length es) more ∙ length-append (filter_map update_of h.journal) (e ∷ []) in
-      record {
-        changes_max = of.changes_max;
-        versions_max = of.versions_max;
-        parents = of.parents ∙ sym (grown_versions (change.Delete v key));
-        undropped = undropped_after (change.Delete v key) free;
-        updates = omega (arith, of.updates, long);
-        changes = omega (arith, of.changes, length-append h.journal (change.Delete v key ∷ []));
-        entries = set_in e ∙ ap (λ (es : List Entry). set_all es) (sym more);
-        room = omega (arith, of.room, length-append h.journal (change.Delete v key ∷ []));
-      }
-  memory_follows (change.Clone v) free =
+
+  module _ (c : Change) (free : refusal_of_change m c ≡ None) (room : m.sealed ≡ None → length h.journal < h.sb.mem) where
+    room_here : sealed_entries m ≡ None → length h.journal < h.sb.mem
+    room_here none = room (unmapped m.sealed none)
+
+    with_entry : (e : Entry) → update_of c ≡ Some e → filter_map update_of (c ∷ []) ≡ e ∷ [] → tree_after (head_versions h) c ≡ head_versions h
+        → IsMemoryOf (record h { journal = h.journal ++ c ∷ [] }) (with_update m e)
+    with_entry e is one same =
+        let more = filter_map-append update_of h.journal (c ∷ []) in
+        let long : length (filter_map update_of (h.journal ++ c ∷ [])) ≡ length (filter_map update_of h.journal) + 1 =
+        ap (λ (es : List Entry). length es) (more ∙ ap (λ (es : List Entry). filter_map update_of h.journal ++ es) one) ∙ length-append (filter_map update_of h.journal) (e ∷ []) in
+        record {
+          changes_max = of.changes_max;
+          versions_max = of.versions_max;
+          parents = of.parents ∙ sym (grown_versions c ∙ same);
+          undropped = undropped_after c free;
+          updates = omega (arith, of.updates, long);
+          changes = omega (arith, of.changes, length-append h.journal (c ∷ []));
+          lists = lists_set h.sb.mem h.journal c m.entries (sealed_entries m) m.spare e is of.lists room_here;
+          counted = counted_more c m.sealed of.lists of.counted;
+        }
+
+  pub memory_follows : (c : Change) → refusal_of_change m c ≡ None → (m.sealed ≡ None → length h.journal < h.sb.mem) → IsMemoryOf (record h { journal = h.journal ++ c ∷ [] }) (memory_after m c)
+  memory_follows (change.Put v key value) free room = with_entry (change.Put v key value) free room (record { key = key; version = v; value = Some value }) refl refl refl
+  memory_follows (change.Delete v key) free room = with_entry (change.Delete v key) free room (record { key = key; version = v; value = None }) refl refl refl
+  memory_follows (change.Clone v) free room =
       let more = filter_map-append update_of h.journal (change.Clone v ∷ []) in
       let long : length (filter_map update_of (h.journal ++ change.Clone v ∷ [])) ≡ length (filter_map update_of h.journal) + 0 =
       ap (λ (es : List Entry). length es) more ∙ length-append (filter_map update_of h.journal) [] in
@@ -289,34 +366,96 @@ module _ (h : Head) (m : Memory) (of : IsMemoryOf h m) where
         undropped = undropped_after (change.Clone v) free;
         updates = omega (arith, of.updates, long);
         changes = omega (arith, of.changes, length-append h.journal (change.Clone v ∷ []));
-        entries = of.entries ∙ ap (λ (es : List Entry). set_all es) (sym (more ∙ append-nil (filter_map update_of h.journal)));
-        room = omega (arith, of.room, length-append h.journal (change.Clone v ∷ []));
+        lists = lists_kept h.sb.mem h.journal (change.Clone v) m.entries (sealed_entries m) m.spare refl of.lists (λ none. room (unmapped m.sealed none));
+        counted = counted_more (change.Clone v) m.sealed of.lists of.counted;
       }
-  memory_follows (change.DropVersion v) free = absurd (cc)
+  memory_follows (change.DropVersion v) free room = absurd (cc)
+
+  room_any : (c : Change) → 1 ≤ m.spare → HasRoomFor m c
+  room_any (change.Put v key value) some = some
+  room_any (change.Delete v key) some = some
+  room_any (change.Clone v) some = tt
+  room_any (change.DropVersion v) some = tt
 
   pub room_for : (c : Change) → length h.journal < h.sb.mem → HasRoomFor m c
-  room_for (change.Put v key value) free = omega (arith, of.room, free)
-  room_for (change.Delete v key) free = omega (arith, of.room, free)
-  room_for (change.Clone v) free = tt
-  room_for (change.DropVersion v) free = tt
+  room_for c free = room_any c (spare_some h.sb.mem h.journal m.entries (sealed_entries m) m.spare of.lists free)
+
+  pub room_behind : (c : Change) → (m.sealed ≡ None → length h.journal < h.sb.mem) → length h.journal < journal_max h.sb.mem → HasRoomFor m c
+  room_behind c room free =
+      room_any c (lists_room h.sb.mem h.journal m.entries (sealed_entries m) m.spare of.lists (λ none. room (unmapped m.sealed none)) free)
 
   pub entries_few : length m.entries ≤ length h.journal
-  entries_few =
-      let same : length m.entries ≡ length (set_all (filter_map update_of h.journal)) = ap (λ (es : List Entry). length es) of.entries in
-      omega (arith, same, left_few (filter_map update_of h.journal), updates_few h.journal)
+  entries_few = held_few h.sb.mem h.journal m.entries (sealed_entries m) m.spare of.lists
+
+  -- what a promotion takes is all that the journal says, where that fits a region
+  pub oldest_whole : length h.journal ≤ h.sb.mem → oldest_entries m ≡ set_all (filter_map update_of h.journal)
+  oldest_whole few = oldest_all h.sb.mem h.journal m.entries m.sealed m.spare of.lists few
+
+  pub oldest_front : oldest_entries m ≡ entries_left (take h.sb.mem h.journal)
+  oldest_front = oldest_part h.sb.mem h.journal m.entries m.sealed m.spare of.lists
+
+  pub oldest_counted : (oldest_versions m ≡ length (head_versions (head_full h))) × (oldest_updates m ≡ head_updates (head_full h)) × (oldest_changes m ≡ head_changes (head_full h))
+  oldest_counted = let counts = counts_part h m of m.sealed of.lists of.counted in (counts.versions, counts.updates, counts.changes)
+
+  -- the versions then are the first ones
+  pub versions_front : (rest : Parents) × (m.parents ≡ head_versions (head_full h) ++ rest)
+  versions_front =
+      let front = take h.sb.mem h.journal in
+      let back = drop h.sb.mem h.journal in
+      let two : head_versions h ≡ fold tree_after (head_versions (head_full h)) back =
+      ap (fold tree_after (parents_in h.manifest)) (sym (take-append-drop h.sb.mem h.journal)) ∙ fold-append tree_after (parents_in h.manifest) front back in
+      let more = grown_front (head_versions (head_full h)) back in
+      (more.0, of.parents ∙ two ∙ more.1)
+
+  pub parents_front : oldest_parents m ≡ head_versions (head_full h)
+  parents_front =
+      let vs : Parents = head_versions (head_full h) in
+      let more = versions_front in
+      ap (λ (n : ℕ). take n m.parents) oldest_counted.0 ∙ ap (take (length vs)) more.1 ∙ take-append-le (length vs) vs more.0 (omega arith) ∙ take_all (length vs) vs (omega arith)
+
+  pub unsealed_below : length h.journal < h.sb.mem → m.sealed ≡ None
+  unsealed_below lt = sealed_full h.sb.mem h.journal m.entries m.sealed m.spare of.lists lt
+
+  -- level 0 may be sealed
+  pub memory_sealed : m.sealed ≡ None → length h.journal ≡ h.sb.mem → IsMemoryOf h (sealed_off h.sb.mem m)
+  memory_sealed none full =
+      let front : h.journal ≡ take h.sb.mem h.journal = sym (take_all h.sb.mem h.journal (omega (arith, full))) in
+      record {
+        changes_max = of.changes_max;
+        versions_max = of.versions_max;
+        parents = of.parents;
+        undropped = of.undropped;
+        updates = of.updates;
+        changes = of.changes;
+        lists = seal h.sb.mem h.journal m.entries m.spare (alone h.sb.mem h.journal m.entries m.sealed m.spare none of.lists) full;
+        counted = record {
+          versions = ap (λ (ps : Parents). length ps) of.parents ∙ ap (λ (js : List Change). length (head_versions (record h { journal = js }))) front;
+          updates = of.updates ∙ ap (λ (js : List Change). head_updates (record h { journal = js })) front;
+          changes = of.changes ∙ ap (λ (js : List Change). head_changes (record h { journal = js })) front;
+        };
+      }
 
 -- after a publication
-pub memory_emptied : (h new : Head) (m : Memory) → IsMemoryOf h m → new.journal ≡ [] → new.sb.changes_max ≡ h.sb.changes_max → new.sb.versions_max ≡ h.sb.versions_max
-    → head_versions new ≡ head_versions h → head_updates new ≡ head_updates h → head_changes new ≡ head_changes h → none_dropped (head_marks new) ≡ true → IsMemoryOf new (emptied new.sb.mem m)
-memory_emptied h new m of none changes_max versions_max versions updates changes undropped = record {
+left_behind : (mem : ℕ) (journal : List Change) (entries : List Entry) (sealed : Option SealedLevel) (spare : ℕ) → HoldLists mem journal entries (option_map (λ z. z.entries) sealed) spare → is_some sealed ≡ true
+    → length (drop mem journal) ≤ mem → HoldLists mem (drop mem journal) entries None spare
+left_behind mem journal entries None spare lists some few = absurd (true≢false (sym some))
+left_behind mem journal entries (Some z) spare lists some few = (few, lists.2, lists.3)
+
+pub memory_unsealed : (h new : Head) (m : Memory) → IsMemoryOf h m → is_some m.sealed ≡ true → new.journal ≡ drop h.sb.mem h.journal → length new.journal ≤ new.sb.mem → new.sb.mem ≡ h.sb.mem
+    → new.sb.changes_max ≡ h.sb.changes_max → new.sb.versions_max ≡ h.sb.versions_max
+    → head_versions new ≡ head_versions h → head_updates new ≡ head_updates h → head_changes new ≡ head_changes h → none_dropped (head_marks new) ≡ true → IsMemoryOf new (unsealed m)
+memory_unsealed h new m of some journal few mem changes_max versions_max versions updates changes undropped = record {
   changes_max = of.changes_max ∙ sym changes_max;
   versions_max = of.versions_max ∙ sym versions_max;
   parents = of.parents ∙ sym versions;
   undropped = undropped;
   updates = of.updates ∙ sym updates;
   changes = of.changes ∙ sym changes;
-  entries = ap (λ (js : List Change). set_all (filter_map update_of js)) (sym none);
-  room = omega arith;
+  lists =
+      let less : length (drop h.sb.mem h.journal) ≤ h.sb.mem = let size = ap (λ (js : List Change). length js) journal in omega (arith, few, mem, size) in
+      let left = left_behind h.sb.mem h.journal m.entries m.sealed m.spare of.lists some less in
+      subst (λ (n : ℕ). HoldLists n new.journal m.entries None m.spare) (sym mem) (subst (λ (js : List Change). HoldLists h.sb.mem js m.entries None m.spare) (sym journal) left);
+  counted = tt;
 }
 
 -- and of a manifest alone
@@ -332,6 +471,6 @@ memory_loaded h none undropped =
       undropped = ap (λ (js : List Change). none_dropped (head_marks (record h { journal = js }))) none ∙ undropped;
       updates = omega (arith, updates);
       changes = omega (arith, changes);
-      entries = ap (λ (js : List Change). set_all (filter_map update_of js)) (sym none);
-      room = omega arith;
+      lists = (omega (arith, changes), ap entries_left (sym none), omega arith);
+      counted = tt;
     }

@@ -25,15 +25,16 @@ use Rattle.def_publish.specs.Contents.{Contents, contents_state}
 use Rattle.def_publish.specs.Occupied.{extents_of}
 use Rattle.def_publish.specs.Standing.{ContentsStand}
 use Rattle.def_state.specs.Level.{Level}
-use Rattle.def_state.specs.Sound.{are_accepted}
+use Rattle.def_state.specs.Sound.{are_accepted, journal_max}
 use Rattle.strat_cursor.specs.Cursors.{MayGoOn, are_named, arrays_named}
 use Rattle.strat_cursor.specs.Held.{HeldCursor, AreRowsOf}
 use Rattle.strat_cursor.specs.Looking.{AreCachedFrom, HaveOwnIds, levels_there, arrays_there}
+use Rattle.strat_memory.specs.Filters.{LevelFilters, AreFiltersOf}
 use Rattle.strat_memory.specs.Memory.{Memory, IsMemoryOf, table_with}
 
 -- a store as its callers see it: the newest superblock and its slot, the manifest with the blocks of its
--- chain, the journal, what is in memory of versions and level 0, levels 1 to 22, the blocks that are
--- cached, and whether a fault left it unfit for use
+-- chain, the journal, what is in memory of versions and level 0, levels 1 to 22 and the filters of their arrays, the blocks
+-- that are cached, and whether a fault left it unfit for use
 pub record Held : Type 0 where
   pub slot : ℕ
   pub sb : Super
@@ -41,6 +42,7 @@ pub record Held : Type 0 where
   pub log : Log
   pub memory : Memory
   pub levels : List (Option LevelDesc)
+  pub filters : List LevelFilters
   pub cached : Blocks
   pub spent : Bool
 
@@ -65,13 +67,13 @@ pub record ArePlaced (listed : List LevelDesc) (levels : List (Option LevelDesc)
   pub numbered : (n : ℕ) (level : LevelDesc) → level_numbered levels n ≡ Some level
       → level.number ≡ n
 
--- a journal in memory goes on behind a superblock: it has no batch, and no more changes than a region, of sizes that a
--- change may have
+-- a journal in memory goes on behind a superblock: it has no batch, and no more changes than recovery takes from both
+-- regions, of sizes that a change may have
 pub record IsLogBehind (sb : Super) (log : Log) : Type 0 where
   pub mem : log.mem ≡ sb.mem
   pub active : log.active ≡ sb.region
   pub batch : log.batch ≡ []
-  pub few : length log.list ≤ sb.mem
+  pub few : length log.list ≤ journal_max sb.mem
   pub lawful : IsTrue (list_all is_lawful log.list)
 
 -- the arrays of levels, and those that no level names any more but a cursor does
@@ -116,13 +118,14 @@ pub record IsConsistent (s : Held) : Type 0 where
   pub placed : ArePlaced s.chained.manifest.levels s.levels
   pub kept : AreKept s.sb s.chained s.levels s.memory
 
--- a store stands on a disk with these contents: every crash leaves them, they are what it holds, and
--- what it has cached is on the disk
+-- a store stands on a disk with these contents: every crash leaves them, they are what it holds, what it has cached is on
+-- the disk, and its filters are of the keys of their arrays
 pub record StandsWith (v : DiskView) (s : Held) (x : Contents) : Type 0 where
   pub stands : ContentsStand v x
   pub held : x ≡ contents_held s x.levels
   pub cached : AreCachedFrom stands.content s.chained.manifest.next_array
       (descriptors s.chained.manifest) s.cached
+  pub filtered : AreFiltersOf x.levels s.filters
 
 -- a disk exposes its content, and each crash leaves the superblock and the manifest that a store holds; so has the content,
 -- which is one of the images of a disk

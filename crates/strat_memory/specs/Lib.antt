@@ -2,6 +2,8 @@ pub mod Memory
 pub mod MemoryFields
 pub mod Paying
 pub mod Belonging
+pub mod Filters
+pub mod FilterFields
 pub mod Held
 pub mod Admitting
 pub mod RecoveredFields

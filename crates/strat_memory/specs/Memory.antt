@@ -1,5 +1,6 @@
 -- What a store has in memory of its versions and of level 0, and what changes do to it.
-use Rattle.std.specs.Prelude.{◌≡◌, ◌≤◌, ℕ, ◌+◌, ◌-◌, ◌==◌, not, if◌then◌else◌, List, [], ◌∷◌, ◌++◌, length, filter_map, Option, Some, None, IsTrue}
+use Rattle.std.specs.Prelude.{◌≡◌, ◌≤◌, ◌⊎◌, ℕ, ◌+◌, ◌-◌, ◌==◌, not, if◌then◌else◌, List, [], ◌∷◌, ◌++◌, length, take, Option, Some, None, option_map, IfSome, IsTrue}
+use Rattle.std.specs.Option.{option_map_or}
 use Rattle.strat_base.specs.Change.{Change, Put, Delete, Clone, DropVersion}
 use Rattle.strat_base.specs.Entries.{Entry}
 use Rattle.strat_base.specs.Tree.{Parents, is_known, parent_of, depth, has_child, with_child}
@@ -14,15 +15,24 @@ use Rattle.strat_model.specs.declared.replies.Refusal.TheVariants as why
 use Rattle.strat_model.specs.declared.replies.Reply.{Reply}
 use Rattle.strat_model.specs.declared.replies.Reply.TheVariants as reply
 use Rattle.def_recovery.specs.Head.{Head, head_versions, head_updates, head_changes, head_marks}
-use Rattle.def_state.specs.Setting.{set_entry, set_all}
+use Rattle.def_slice.specs.Lists.{lists_read, HoldLists}
+use Rattle.def_state.specs.Setting.{set_entry}
 use Rattle.def_meaning.specs.StateTable.{table_of}
-use Rattle.def_state.specs.State.{State, update_of}
+use Rattle.def_state.specs.State.{State}
 use Rattle.strat_cursor.specs.Looking.{arrays_asked}
 use Rattle.strat_base.specs.Marks.{none_dropped}
 
--- the limits of a store, its versions, what it accepted, the entries of level 0 in their order, for how
--- many more updates level 0 has room, for how many the next level 0 has, where one stands ready, and the
--- open cursors
+-- a sealed level 0: its entries in their order, and how many versions there were, and how many updates and changes had
+-- been accepted, when it was sealed
+pub record SealedLevel : Type 0 where
+  pub entries : List Entry
+  pub versions : ℕ
+  pub updates : ℕ
+  pub changes : ℕ
+
+-- the limits of a store, its versions, what it accepted, the entries of level 0 in their order, the sealed level 0 behind
+-- it, where there is one, for how many more updates level 0 has room, for how many the next level 0 has, where one stands
+-- ready, and the open cursors
 pub record Memory : Type 0 where
   pub changes_max : ℕ
   pub versions_max : ℕ
@@ -30,9 +40,37 @@ pub record Memory : Type 0 where
   pub updates : ℕ
   pub changes : ℕ
   pub entries : List Entry
+  pub sealed : Option SealedLevel
   pub spare : ℕ
   pub ready : Option ℕ
   pub cursors : HeldCursors
+
+-- the entries of the sealed level 0, where there is one
+abbrev pub sealed_entries : Memory → Option (List Entry)
+sealed_entries m = option_map (λ z. z.entries) m.sealed
+
+-- the lists of level 0 that a look-up asks, the newest first
+abbrev pub lists_in_memory : Memory → List (List Entry)
+lists_in_memory m = lists_read m.entries (sealed_entries m)
+
+-- the entries that a promotion takes: those that are sealed, or level 0's where nothing is
+abbrev pub oldest_entries : Memory → List Entry
+oldest_entries m = option_map_or (λ z. z.entries) m.sealed m.entries
+
+-- how many versions there were, and how many updates and changes had been accepted, when level 0 was sealed, or are now where
+-- nothing is sealed
+abbrev pub oldest_versions : Memory → ℕ
+oldest_versions m = option_map_or (λ z. z.versions) m.sealed (length m.parents)
+
+-- the versions that there were then
+abbrev pub oldest_parents : Memory → Parents
+oldest_parents m = take (oldest_versions m) m.parents
+
+abbrev pub oldest_updates : Memory → ℕ
+oldest_updates m = option_map_or (λ z. z.updates) m.sealed m.updates
+
+abbrev pub oldest_changes : Memory → ℕ
+oldest_changes m = option_map_or (λ z. z.changes) m.sealed m.changes
 
 -- why an update at a version is refused, if it is
 abbrev pub refusal_of_update : Memory → ℕ → Option Refusal
@@ -93,18 +131,40 @@ info_told m v = reply.Info (parent_of m.parents v) (depth m.parents v) (has_chil
 abbrev pub stat_told : Memory → Reply
 stat_told m = reply.Stat (length m.parents) m.updates m.changes (length m.cursors.opened)
 
--- memory with a level 0 that has no entries yet, and room for so many updates
+-- level 0 of memory, sealed now
+abbrev pub sealed_now : Memory → SealedLevel
+sealed_now m = record {
+  entries = m.entries;
+  versions = length m.parents;
+  updates = m.updates;
+  changes = m.changes;
+}
+
+-- memory whose level 0 was sealed: a new one is in its place, without entries and with room for so many updates
+abbrev pub sealed_off : ℕ → Memory → Memory
+sealed_off n m = record m { entries = []; sealed = Some (sealed_now m); spare = n; ready = None }
+
+-- memory that let go of what was sealed
+abbrev pub unsealed : Memory → Memory
+unsealed m = record m { sealed = None }
+
+-- memory with a level 0 that has no entries yet, nothing that is sealed, and room for so many updates
 abbrev pub emptied : ℕ → Memory → Memory
-emptied mem m = record m { entries = []; spare = mem; ready = None }
+emptied mem m = record m { entries = []; sealed = None; spare = mem; ready = None }
 
 -- memory in which the next level 0 stands ready, or does not, and with this room for arrays that are kept for cursors
 abbrev pub prepared : Memory → Option ℕ → ℕ → Memory
 prepared m o n = record m { ready = o; cursors = record m.cursors { room = n } }
 
--- memory with a new level 0 after these arrays left the levels, too
-abbrev pub renewed : ℕ → List ArrayDesc → Memory → Memory
-renewed mem gone m =
-    record (emptied mem m) { cursors = retired_all gone m.cursors }
+-- memory after what was sealed went into the levels, and these arrays left them
+abbrev pub renewed : List ArrayDesc → Memory → Memory
+renewed gone m = record (unsealed m) { cursors = retired_all gone m.cursors }
+
+-- memory made ready for a checkpoint: as it was, but for the next level 0, which may stand ready, and for the room for arrays
+-- that are kept for cursors; and if level 0 was not sealed, it may be now, with room for so many updates in the new one
+abbrev pub IsReadyFrom : ℕ → Memory → Memory → Type 0
+IsReadyFrom mem old new = (new ≡ prepared old new.ready new.cursors.room)
+    ⊎ ((old.sealed ≡ None) × (new ≡ prepared (sealed_off mem old) None new.cursors.room))
 
 -- memory of a new store
 abbrev pub fresh_memory : ℕ → ℕ → ℕ → Memory
@@ -115,6 +175,7 @@ fresh_memory mem changes_max versions_max = record {
   updates = 0;
   changes = 0;
   entries = [];
+  sealed = None;
   spare = mem;
   ready = None;
   cursors = no_cursors;
@@ -126,7 +187,7 @@ cursor_from m levels v lo hi = record {
   number = m.cursors.next;
   version = v;
   zero = m.entries;
-  sealed = None;
+  sealed = sealed_entries m;
   arrays = arrays_asked m.parents levels v;
   from = Some lo;
   hi = hi;
@@ -146,7 +207,18 @@ KeepsRows old new = (f : Image) (rows : List Cursor)
 abbrev pub table_with : State → List Cursor → ℕ → Table
 table_with s rows n = record (table_of s) { cursors = rows; next_cursor = n }
 
--- memory is that of a head, and level 0 has room for as many updates more as the journal has for changes
+-- a head as it was when its journal just filled a region
+abbrev pub head_full : Head → Head
+head_full h = record h { journal = take h.sb.mem h.journal }
+
+-- a sealed level 0 has the counts of a head as it was then
+pub record CountsSealed (h : Head) (z : SealedLevel) : Type 0 where
+  pub versions : z.versions ≡ length (head_versions (head_full h))
+  pub updates : z.updates ≡ head_updates (head_full h)
+  pub changes : z.changes ≡ head_changes (head_full h)
+
+-- memory is that of a head: level 0, and the sealed one behind it where there is one, hold what its journal says, and level 0
+-- has room for as many updates more as its region has for changes
 pub record IsMemoryOf (h : Head) (m : Memory) : Type 0 where
   pub changes_max : m.changes_max ≡ h.sb.changes_max
   pub versions_max : m.versions_max ≡ h.sb.versions_max
@@ -155,5 +227,5 @@ pub record IsMemoryOf (h : Head) (m : Memory) : Type 0 where
   pub undropped : IsTrue (none_dropped (head_marks h))
   pub updates : m.updates ≡ head_updates h
   pub changes : m.changes ≡ head_changes h
-  pub entries : m.entries ≡ set_all (filter_map update_of h.journal)
-  pub room : h.sb.mem ≤ m.spare + length h.journal
+  pub lists : HoldLists h.sb.mem h.journal m.entries (sealed_entries m) m.spare
+  pub counted : IfSome m.sealed (CountsSealed h)

@@ -28,6 +28,7 @@ held_of r cached = record {
   log = r.journal;
   memory = r.memory;
   levels = r.published.levels;
+  filters = r.filters;
   cached = cached;
   spent = false;
 }

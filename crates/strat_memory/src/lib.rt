@@ -6,6 +6,7 @@ pub mod admitting;
 pub mod belonging;
 pub mod belonging_laws;
 pub mod copying;
+pub mod filters;
 pub mod memory;
 pub mod memory_laws;
 pub mod open_store;

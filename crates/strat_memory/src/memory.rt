@@ -1,7 +1,9 @@
 //! What an open store has in memory beside its levels and its journal: the tree of its versions, its
-//! counts, level 0 with what the latest updates say, and the open cursors.
+//! counts, level 0 with what the latest updates say, a sealed one behind it, and the open cursors.
 
-ghost use Rattle.std.specs.Prelude.{◌≡◌, ◌<◌, ◌≤◌, ℕ, ◌+◌, ◌↔◌, [], ◌∷◌, length, map, false, Some, None, Contains, IfOk, OnOk, OnErr, IsErrOf, IsTrue, is_some};
+ghost use Rattle.std.specs.List.{list_all};
+ghost use Rattle.std.specs.Option.{option_copied, option_to_list};
+ghost use Rattle.std.specs.Prelude.{◌≡◌, ◌<◌, ◌≤◌, ℕ, ◌+◌, ◌↔◌, [], ◌∷◌, length, map, option_map, nat_lt, false, Some, None, Contains, IfOk, IfSome, OnOk, OnErr, IsErrOf, IsTrue, is_some};
 ghost use Rattle.strat_array.specs.Told.{TellsFound};
 ghost use Rattle.strat_base.specs.Change.{is_lawful};
 ghost use Rattle.strat_base.specs.ChangeView.{change_of};
@@ -16,15 +18,16 @@ ghost use Rattle.def_crash.specs.Moments.{Exposes};
 ghost use Rattle.strat_cursor.specs.Cursors.{MayGoOn, TellsNext, arrays_named, arrays_of_number, closed_at, is_opened, moved_at, retired_by};
 ghost use Rattle.strat_cursor.specs.Held.{HeldCursor, IsMapHeld};
 ghost use Rattle.strat_cursor.specs.Looking.{LooksThrough, MayBeFound, NamesNoBlock, ReadsArrays, arrays_there};
-ghost use Rattle.strat_cursor.specs.Ranges.{FillsPage};
+ghost use Rattle.strat_cursor.specs.Ranges.{FillsPage, sealed_held};
 ghost use Rattle.strat_cursor.specs.declared.cursors.CursorFault.TheVariants as start_fault;
 ghost use Rattle.strat_cursor.specs.declared.cursors.NextFault.TheVariants as next_fault;
 ghost use Rattle.def_bytes.specs.Manifest.{are_older};
 ghost use Rattle.strat_level.specs.Memtable.{entries_held, ListStands};
 ghost use Rattle.strat_model.specs.Pairs.{Pairs};
 ghost use Rattle.def_meaning.specs.TableOver.{are_known};
+ghost use Rattle.def_state.specs.LookUp.{first_live};
 ghost use Rattle.def_state.specs.Reading.{live_of};
-ghost use Rattle.strat_memory.specs.Memory.{refusal_of_update, refusal_of_clone, refusal_of_change, with_update, memory_after, HasRoomFor, reply_to, info_told, stat_told, emptied, fresh_memory, KeepsRows, cursor_from, with_cursor};
+ghost use Rattle.strat_memory.specs.Memory.{SealedLevel, refusal_of_update, refusal_of_clone, refusal_of_change, with_update, memory_after, HasRoomFor, reply_to, info_told, stat_told, fresh_memory, KeepsRows, cursor_from, with_cursor, lists_in_memory, oldest_changes, oldest_entries, oldest_updates, oldest_versions, sealed_entries, sealed_off, unsealed};
 ghost use Rattle.strat_base.specs.Marks.{is_dropped};
 
 use std::alloc::Global;
@@ -35,12 +38,23 @@ use strat_array::{Cache, Seen};
 use strat_base::{ArrayDesc, Change, NoMemory, PairBuf, Val, Version};
 use strat_cursor::{CursorFault, Cursors, NextFault, ScanBuffers};
 use strat_disk::Disk;
-use strat_level::{Levels, Zero};
+use strat_level::{Levels, Zero, ZeroView};
 use strat_model::{Refusal, Reply};
 use strat_tree::Tree;
 
-/// What a store has in memory of its versions, of level 0 and of its cursors, which share level 0's memory.
-/// Beside level 0 the next one may stand ready, which takes its place when level 0 has gone into the levels.
+/// A level 0 that takes no more updates, and how many versions there were, and how many updates and changes had been
+/// accepted, when it was sealed.
+#[derive(Drop)]
+pub struct Sealed {
+    zero: Zero,
+    versions: u32,
+    updates: u32,
+    changes: u32,
+}
+
+/// What a store has in memory of its versions, of level 0 and of its cursors, which share level 0's memory. Behind level 0
+/// there may be a sealed one, until it has gone into the levels. Beside it the next one may stand ready, which takes its
+/// place when it is sealed.
 #[derive(Drop)]
 pub struct Memory {
     changes_max: u32,
@@ -50,6 +64,7 @@ pub struct Memory {
     tree: Tree,
     pool: ArenaPool,
     zero: Zero,
+    sealed: Option<Sealed>,
     next: Option<Zero>,
     cursors: Cursors,
 }
@@ -66,7 +81,7 @@ impl Model for Memory {
     ghost invariant = { IsInMemory };
 }
 
-/// Makes a version of each of these, a child of it.
+/// Makes a version of each of these, a child of it, and numbers all versions that there are then.
 fn grow(tree: &mut Tree, parents: &[u32])
     requires fits { IsTrue (are_older 1 parents.now) }
     requires room { 1 + length parents.now ≤ tree.old.versions_max }
@@ -79,10 +94,60 @@ fn grow(tree: &mut Tree, parents: &[u32])
     for p in parents {
         tree.add_child(*p);
     }
+    tree.number();
+}
+
+/// A sealed level 0, if there is one.
+fn sealed_zero(sealed: &Option<Sealed>) -> Option<&Zero>
+    ensures ok { option_copied result ≡ option_map (λ z. z.zero) sealed.now }
+{
+    match sealed {
+        Some(sealed) => Some(&sealed.zero),
+        None => None,
+    }
+}
+
+/// The items of a sealed level 0, if there is one.
+fn sealed_view(sealed: &Option<Sealed>) -> Option<&ZeroView>
+    ensures ok { option_copied result ≡ option_map (λ z. z.zero.list) sealed.now }
+{
+    match sealed {
+        Some(sealed) => Some(sealed.zero.view()),
+        None => None,
+    }
+}
+
+/// What one level 0 says of a key at a version. The pair of a value is added to `out`. O(log items) comparisons of keys,
+/// and a walk over the items of the key at versions up to this one.
+fn find_in(
+    zero: &Zero,
+    pool: &ArenaPool,
+    tree: &Tree,
+    key: &[u8],
+    version: Version,
+    out: &mut PairBuf,
+) -> Seen
+    requires kept { ListStands pool.now zero.now.list }
+    requires found { version < length tree.now.parents }
+    requires room { length out.old < PAIRS_MAX }
+    ensures ok { TellsFound
+        (live_of tree.now.parents (entries_held pool.now zero.now.list) version key.now)
+        key.now out.old out.new result }
+{
+    let Some(place) = zero.find(pool, tree, key, version) else {
+        return Seen::None;
+    };
+    match zero.value(pool, place) {
+        None => Seen::Gone,
+        Some(value) => {
+            out.push(key, value);
+            Seen::Put
+        }
+    }
 }
 
 impl Memory {
-    /// Memory of a new store. It takes 1.3 KB for each of `mem` updates and 75 bytes for each version
+    /// Memory of a new store. It takes 1.3 KB for each of `mem` updates and 83 bytes for each version
     /// that there may be; the only error is want of memory. Of the other calls `prepare`, `open_cursor` and
     /// `reserve_retired` alone take any.
     pub fn new(
@@ -107,6 +172,7 @@ impl Memory {
             tree,
             pool,
             zero,
+            sealed: None,
             next: None,
             cursors,
         })
@@ -119,7 +185,7 @@ impl Memory {
         requires fits { IsTrue (are_older 1 parents.now) }
         requires room { 1 + length parents.now ≤ self.old.versions_max }
         requires none { (self.old.parents ≡ None ∷ []) × (self.old.entries ≡ [])
-            × (self.old.cursors.opened ≡ []) }
+            × (self.old.sealed ≡ None) × (self.old.cursors.opened ≡ []) }
         requires kept { (updates ≤ changes) × (changes ≤ self.old.changes_max) }
         ensures ok { self.new ≡ record self.old {
           parents = None ∷ map (λ p. Some p) parents.now;
@@ -271,27 +337,48 @@ impl Memory {
         }
     }
 
-    /// What level 0 says of a key at a version. The pair of a value is added to `out`. O(log items)
-    /// comparisons of keys, and a walk over the items of the key at versions up to this one.
+    /// What level 0 says of a key at a version, and else the sealed one, where there is one. The pair of a value is added to
+    /// `out`. In each O(log items) comparisons of keys, and a walk over the items of the key at versions up to this one.
     pub fn find(&self, key: &[u8], version: Version, out: &mut PairBuf) -> Seen
         requires found { version < length self.now.parents }
         requires room { length out.old < PAIRS_MAX }
-        ensures ok { TellsFound (live_of self.now.parents self.now.entries version key.now)
+        ensures ok { TellsFound
+            (first_live self.now.parents (lists_in_memory self.now) version key.now)
             key.now out.old out.new result }
     {
-        let Some(place) = self.zero.find(&self.pool, &self.tree, key, version) else {
-            return Seen::None;
-        };
-        match self.zero.value(&self.pool, place) {
-            None => Seen::Gone,
-            Some(value) => {
-                out.push(key, value);
-                Seen::Put
-            }
+        match find_in(&self.zero, &self.pool, &self.tree, key, version, out) {
+            Seen::None => {}
+            seen => return seen,
+        }
+        match &self.sealed {
+            Some(sealed) => find_in(&sealed.zero, &self.pool, &self.tree, key, version, out),
+            None => Seen::None,
         }
     }
 
-    /// Level 0, the pool that has its keys and values, and the versions, as a promotion takes them. O(1).
+    /// Level 0 and the sealed one, where there is one, the pool that has their keys and values, and the versions, as a
+    /// reader takes them. O(1).
+    pub fn lists(&self) -> (&ZeroView, Option<&ZeroView>, &ArenaPool, &Tree)
+        ensures ok { (entries_held result.2.now result.0.now ≡ self.now.entries)
+            × (sealed_held result.2.now (option_map (λ z. z.now) result.1)
+            ≡ option_to_list (sealed_entries self.now)) }
+        ensures kept { ListStands result.2.now result.0.now
+            × IfSome (option_map (λ z. z.now) result.1) (λ z. ListStands result.2.now z
+            × IsTrue (are_known self.now.parents (entries_held result.2.now z))) }
+        ensures fits { IsTrue (are_known self.now.parents self.now.entries) }
+        ensures found { (result.3.now.parents ≡ self.now.parents) × IsTree result.3.now.parents }
+    {
+        // For the proof: the parents are a tree.
+        let _ = self.tree.count();
+        (
+            self.zero.view(),
+            sealed_view(&self.sealed),
+            &self.pool,
+            &self.tree,
+        )
+    }
+
+    /// Level 0, the pool that has its keys and values, and the versions. O(1).
     #[tactic(auto, using(crate::proofs::MemoryLemmas::items_counted))]
     pub fn parts(&self) -> (&Zero, &ArenaPool, &Tree)
         ensures ok { entries_held result.1.now result.0.now.list ≡ self.now.entries }
@@ -303,6 +390,44 @@ impl Memory {
         // For the proof: the parents are a tree.
         let _ = self.tree.count();
         (&self.zero, &self.pool, &self.tree)
+    }
+
+    /// What a promotion takes: what is sealed, or level 0 where nothing is, the pool that has its keys and values, and the
+    /// versions. O(1).
+    pub fn sealed_parts(&self) -> (&Zero, &ArenaPool, &Tree)
+        ensures ok { entries_held result.1.now result.0.now.list ≡ oldest_entries self.now }
+        ensures kept { ListStands result.1.now result.0.now.list }
+        ensures fits { (z : SealedLevel) → self.now.sealed ≡ Some z
+            → IsTrue (list_all (λ e. nat_lt e.version z.versions) z.entries)
+            × (z.versions ≤ length self.now.parents) }
+        ensures found { (result.2.now.parents ≡ self.now.parents) × IsTree result.2.now.parents }
+    {
+        // For the proof: the parents are a tree.
+        let _ = self.tree.count();
+        match &self.sealed {
+            Some(sealed) => (&sealed.zero, &self.pool, &self.tree),
+            None => (&self.zero, &self.pool, &self.tree),
+        }
+    }
+
+    /// How many versions there were, and how many changes and updates had been accepted, when level 0 was sealed, or are now
+    /// where nothing is sealed. O(1).
+    pub fn sealed_counts(&self) -> (u32, u32, u32)
+        ensures ok { (result.0 ≡ oldest_versions self.now) × (result.1 ≡ oldest_changes self.now)
+            × (result.2 ≡ oldest_updates self.now) }
+        ensures fits { result.0 ≤ length self.now.parents }
+    {
+        match &self.sealed {
+            Some(sealed) => (sealed.versions, sealed.changes, sealed.updates),
+            None => (self.tree.count(), self.changes, self.updates),
+        }
+    }
+
+    /// Whether a level 0 is sealed. O(1).
+    pub fn is_sealed(&self) -> bool
+        ensures ok { result ≡ is_some self.now.sealed }
+    {
+        self.sealed.is_some()
     }
 
     /// How many changes and how many updates were accepted. O(1).
@@ -337,14 +462,32 @@ impl Memory {
         Ok(())
     }
 
-    /// Puts the next level 0, which stands ready, in the place of level 0, whose memory is given back unless a
-    /// cursor shares it. It takes no memory and cannot fail.
-    pub fn restart(&mut self)
+    /// Seals level 0: it takes no more updates, and the next one, which stands ready, takes its place. It takes no memory
+    /// and cannot fail. O(1).
+    pub fn seal(&mut self)
+        requires none { self.old.sealed ≡ None }
         requires found { IsTrue (is_some self.old.ready) }
-        ensures ok { (mem : ℕ) → self.old.ready ≡ Some mem → self.new ≡ emptied mem self.old }
+        ensures ok { (n : ℕ) → self.old.ready ≡ Some n → self.new ≡ sealed_off n self.old }
     {
         if let Some(next) = self.next.take() {
-            mem::replace(&mut self.zero, next).release(&mut self.pool);
+            let zero = mem::replace(&mut self.zero, next);
+            self.sealed = Some(Sealed {
+                zero,
+                versions: self.tree.count(),
+                updates: self.updates,
+                changes: self.changes,
+            });
+        }
+    }
+
+    /// Lets go of what is sealed, once it has gone into the levels: its memory is given back unless a cursor shares it. It
+    /// then numbers the versions. It takes no memory and cannot fail. O(versions).
+    pub fn forget_sealed(&mut self)
+        ensures ok { self.new ≡ unsealed self.old }
+    {
+        if let Some(sealed) = self.sealed.take() {
+            sealed.zero.release(&mut self.pool);
+            self.tree.number();
         }
     }
 
@@ -384,7 +527,7 @@ impl Memory {
             &mut self.pool,
             &self.tree,
             &self.zero,
-            None,
+            sealed_zero(&self.sealed),
             levels,
             version,
             lo,

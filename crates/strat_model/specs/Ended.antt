@@ -17,3 +17,4 @@ status_of ended.NoMemory = 8
 status_of (ended.Damaged block) = 9
 status_of ended.Budget = 10
 status_of ended.Unsound = 11
+status_of ended.UnknownVersion = 12

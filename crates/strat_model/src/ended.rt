@@ -30,10 +30,12 @@ pub enum Ended {
     Budget,
     /// The store breaks a rule.
     Unsound,
+    /// The store has no such version.
+    UnknownVersion,
 }
 
 impl Ended {
-    /// The program's exit status, 0 to 11 in the order of the endings.
+    /// The program's exit status, 0 to 12 in the order of the endings.
     pub fn status(&self) -> u8
         ensures { result ≡ status_of self.now }
     {
@@ -50,6 +52,7 @@ impl Ended {
             Ended::Damaged { .. } => 9,
             Ended::Budget => 10,
             Ended::Unsound => 11,
+            Ended::UnknownVersion => 12,
         }
     }
 }

@@ -5,6 +5,7 @@ pub mod ShutLemmas
 pub mod OtherLemmas
 pub mod RedoLemmas
 pub mod RecoverLemmas
+pub mod BothLemmas
 pub mod OpenLemmas
 pub mod SeveralLemmas
 pub mod ReadingLemmas

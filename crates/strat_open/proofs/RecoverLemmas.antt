@@ -1,5 +1,5 @@
 -- What recovery finds of a store, part by part.
-use Rattle.std.proofs.Common.{◌≡◌, ◌≤◌, ◌<◌, ◌+◌, ℕ, suc, Bool, true, false, cond, ltb, List, [], ◌∷◌, length, Option, Some, Result, Ok, Err, refl, sym, ap, ◌∙◌, subst, arith}
+use Rattle.std.proofs.Common.{◌≡◌, ◌≤◌, ◌<◌, ◌+◌, ℕ, suc, Bool, true, false, cond, ltb, List, [], ◌∷◌, length, Option, None, Some, Result, Ok, Err, refl, sym, ap, ◌∙◌, subst, arith}
 use Rattle.std.proofs.lemmas.Bool.{and_from, leb-true}
 use Rattle.std.specs.List.{list_all}
 use Rattle.std.specs.Prelude.{fold}
@@ -21,7 +21,9 @@ use Rattle.def_recovery.specs.Opened.{parents_in}
 use Rattle.def_recovery.specs.Opening.{belongs, recover_manifest, accepted_in, recover_journal, recover_head, recover_slot, recover}
 use Rattle.def_state.specs.Sound.{is_accepted, are_accepted}
 use Rattle.def_state.specs.State.{tree_after, marks_after}
-use Rattle.strat_memory.specs.Memory.{Memory, memory_after, IsMemoryOf}
+use Rattle.strat_base.specs.Entries.{Entry}
+use Rattle.def_slice.specs.Lists.{HoldLists}
+use Rattle.strat_memory.specs.Memory.{Memory, memory_after, sealed_entries, IsMemoryOf}
 use Rattle.strat_open.proofs.RedoLemmas.{accepted_by, any_marks, memory_follows_all}
 use Rattle.def_bytes.specs.SuperBlock.{Super, newest_in}
 use Rattle.def_bytes.proofs.ManifestLemmas.{pass_at}
@@ -71,6 +73,11 @@ same_err_in r e d one other = let both : Err e ≡ Err d = sym one ∙ other in 
 pub damaged_block : {T : Type 0} (b block : ℕ) → ◌≡◌ {A = Result T Trouble} (Err (Damaged b)) (Err (Damaged block)) → b ≡ block
 damaged_block b block e = cc
 
+-- before any change level 0 has room for a whole region
+spare_all : (mem : ℕ) (entries : List Entry) (sealed : Option (List Entry)) (spare : ℕ) → HoldLists mem [] entries sealed spare → mem ≤ spare
+spare_all mem entries None spare lists = omega (arith, lists.2)
+spare_all mem entries (Some older) spare lists = omega (arith, lists.0)
+
 -- memory of a manifest accepts the changes that a store with it does
 module _ (sb : Super) (manifest : Manifest) (m : Memory) (of : IsMemoryOf (record { sb = sb; manifest = manifest; journal = [] }) m) where
   pub memory_accepts : (logged : List Logged) → accepted_by m logged ≡ accepted_in sb.changes_max sb.versions_max (parents_in manifest) manifest.marks manifest.changes logged
@@ -80,10 +87,10 @@ module _ (sb : Super) (manifest : Manifest) (m : Memory) (of : IsMemoryOf (recor
       ∙ any_marks sb.changes_max sb.versions_max (parents_in manifest) [] manifest.marks manifest.changes logged refl of.undropped
 
   pub memory_room : (n : ℕ) → n ≤ sb.mem → n ≤ m.spare
-  memory_room n few = omega (arith, of.room, few)
+  memory_room n few = omega (arith, spare_all sb.mem m.entries (sealed_entries m) m.spare of.lists, few)
 
-  pub memory_redone : (now : Memory) (changes : List Change) → are_accepted m.changes_max m.versions_max m.parents [] m.changes changes ≡ true → now ≡ fold memory_after m changes → IsMemoryOf (record { sb = sb; manifest = manifest; journal = changes }) now
-  memory_redone now changes accepted is = subst (IsMemoryOf (record { sb = sb; manifest = manifest; journal = changes })) (sym is) (memory_follows_all sb manifest [] changes m [] of refl accepted)
+  pub memory_redone : (now : Memory) (changes : List Change) → are_accepted m.changes_max m.versions_max m.parents [] m.changes changes ≡ true → length changes ≤ sb.mem → now ≡ fold memory_after m changes → IsMemoryOf (record { sb = sb; manifest = manifest; journal = changes }) now
+  memory_redone now changes accepted few is = subst (IsMemoryOf (record { sb = sb; manifest = manifest; journal = changes })) (sym is) (memory_follows_all sb manifest [] changes m [] of refl accepted (λ unsealed. omega (arith, few)))
 
 -- changes that are accepted as records are accepted each in its turn
 pub accepted_in_turn : (changes_max versions_max : ℕ) (parents : Parents) (marks : Marks) (n : ℕ) (logged : List Logged) (journal : List Change)

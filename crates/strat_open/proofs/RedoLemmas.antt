@@ -1,5 +1,5 @@
 -- A journal's changes carried out one by one on what is in memory.
-use Rattle.std.proofs.Common.{◌≡◌, ◌≤◌, ◌<◌, ◌+◌, ℕ, suc, true, not, List, [], ◌∷◌, ◌++◌, length, map, take, drop, get_or, Option, None, Ok, Err, refl, sym, ap, ◌∙◌, subst, arith, append_assoc, append-nil, Bool, false, cond, eqb, ◌&&◌, Some}
+use Rattle.std.proofs.Common.{◌≡◌, ◌≤◌, ◌<◌, ◌+◌, ℕ, suc, true, not, List, [], ◌∷◌, ◌++◌, length, map, take, drop, get_or, Option, None, Ok, Err, refl, sym, ap, ◌∙◌, subst, arith, append_assoc, append-nil, length-append, Bool, false, cond, eqb, ◌&&◌, Some}
 use Rattle.std.specs.Prelude.{fold, is_some}
 use Rattle.std.specs.List.{list_all}
 use Rattle.std.proofs.lemmas.Bool.{and_from, and_parts, cond-true, cond-false}
@@ -13,9 +13,10 @@ use Rattle.def_bytes.specs.Records.{Logged}
 use Rattle.def_bytes.specs.SuperBlock.{Super}
 use Rattle.strat_model.specs.declared.replies.Refusal.{Refusal}
 use Rattle.def_recovery.specs.Opening.{accepted_in}
+use Rattle.def_recovery.specs.Head.{Head}
 use Rattle.def_state.specs.State.{tree_after, marks_after}
-use Rattle.strat_memory.specs.Memory.{Memory, refusal_of_change, memory_after, HasRoomFor, IsMemoryOf}
-use Rattle.strat_memory.proofs.MemoryLawLemmas.{accepted_same, memory_follows}
+use Rattle.strat_memory.specs.Memory.{Memory, refusal_of_change, memory_after, HasRoomFor, IsMemoryOf, sealed_off}
+use Rattle.strat_memory.proofs.MemoryLawLemmas.{accepted_same, memory_follows, memory_sealed}
 use Rattle.strat_base.specs.Marks.{Marks, none_dropped}
 use Rattle.def_state.specs.Sound.{is_accepted, are_accepted}
 use Rattle.def_state.proofs.UndroppedLemmas.{there_made, open_made, none_after}
@@ -25,7 +26,7 @@ abbrev pub changes_before : ℕ → List Logged → List Change
 changes_before k logged = map (λ (l : Logged). l.change) (take k logged)
 
 -- changes in front of those that are read
-abbrev after_these : List Change → Read (List Change) → Read (List Change)
+abbrev pub after_these : List Change → Read (List Change) → Read (List Change)
 after_these xs r = and_then r (λ ys. Ok (xs ++ ys))
 
 -- the changes of records, as memory, which knows of no dropped version, accepts them in turn
@@ -44,19 +45,19 @@ after_one xs c (Ok ys) = ap (λ (zs : List Change). Ok zs) (sym (append_assoc xs
 after_one xs c (Err block) = refl
 
 -- what a change leaves of the limits, the versions, the count and the room
-after_limits : (m : Memory) (c : Change) → ((memory_after m c).changes_max ≡ m.changes_max) × ((memory_after m c).versions_max ≡ m.versions_max)
+pub after_limits : (m : Memory) (c : Change) → ((memory_after m c).changes_max ≡ m.changes_max) × ((memory_after m c).versions_max ≡ m.versions_max)
 after_limits m (Put v key value) = (refl, refl)
 after_limits m (Delete v key) = (refl, refl)
 after_limits m (Clone v) = (refl, refl)
 after_limits m (DropVersion v) = (refl, refl)
 
-after_parents : (m : Memory) (c : Change) → (memory_after m c).parents ≡ tree_after m.parents c
+pub after_parents : (m : Memory) (c : Change) → (memory_after m c).parents ≡ tree_after m.parents c
 after_parents m (Put v key value) = refl
 after_parents m (Delete v key) = refl
 after_parents m (Clone v) = refl
 after_parents m (DropVersion v) = refl
 
-after_changes : (m : Memory) (c : Change) → refusal_of_change m c ≡ None → (memory_after m c).changes ≡ m.changes + 1
+pub after_changes : (m : Memory) (c : Change) → refusal_of_change m c ≡ None → (memory_after m c).changes ≡ m.changes + 1
 after_changes m (Put v key value) free = refl
 after_changes m (Delete v key) free = refl
 after_changes m (Clone v) free = refl
@@ -164,20 +165,37 @@ module _ (m : Memory) (logged : List Logged) (k : ℕ) (now : Memory) (l : Logge
       rest_is
       ∙ ap (after_these (changes_before k logged)) (cond-false _ (put_first l.change (later now (suc now.changes) (tree_after now.parents l.change))) (Err l.block) (accepted_same now [] l.change refl ∙ ap not refused))
 
+-- a change that memory does not refuse is accepted, where no version was dropped
+pub freely_accepted : (m : Memory) (c : Change) → refusal_of_change m c ≡ None → is_accepted m.changes_max m.versions_max m.parents [] m.changes c ≡ true
+freely_accepted m c free = accepted_same m [] c refl ∙ none_some (refusal_of_change m c) free
+
 -- a change that is accepted is not refused
-free_from : (m : Memory) (marks : Marks) (c : Change) → none_dropped marks ≡ true → is_accepted m.changes_max m.versions_max m.parents marks m.changes c ≡ true → refusal_of_change m c ≡ None
+pub free_from : (m : Memory) (marks : Marks) (c : Change) → none_dropped marks ≡ true → is_accepted m.changes_max m.versions_max m.parents marks m.changes c ≡ true → refusal_of_change m c ≡ None
 free_from m marks c none accepted = unrefused (refusal_of_change m c) (sym (accepted_same m marks c none) ∙ accepted)
   where
     unrefused : (o : Option Refusal) → not (is_some o) ≡ true → o ≡ None
     unrefused None e = refl
     unrefused (Some r) e = absurd (cc)
 
--- memory after changes that are accepted in turn is that of the head with them in its journal
+-- a change leaves what is sealed
+pub after_sealed : (m : Memory) (c : Change) → (memory_after m c).sealed ≡ m.sealed
+after_sealed m (Put v key value) = refl
+after_sealed m (Delete v key) = refl
+after_sealed m (Clone v) = refl
+after_sealed m (DropVersion v) = refl
+
+-- memory whose level 0 was sealed when it had what fills a region is that of the same head
+pub sealed_of : (h : Head) (m : Memory) → IsMemoryOf h m → m.sealed ≡ None → length h.journal ≡ h.sb.mem → IsMemoryOf h (sealed_off h.sb.mem m)
+sealed_of h m of none full = memory_sealed h m of none full
+
+-- memory after changes that are accepted in turn, and which fit a region with those before where nothing is sealed, is that
+-- of the head with them in its journal
 pub memory_follows_all : (sb : Super) (manifest : Manifest) (before changes : List Change) (m : Memory) (marks : Marks) → IsMemoryOf (record { sb = sb; manifest = manifest; journal = before }) m
-    → none_dropped marks ≡ true → are_accepted m.changes_max m.versions_max m.parents marks m.changes changes ≡ true
+    → none_dropped marks ≡ true → are_accepted m.changes_max m.versions_max m.parents marks m.changes changes ≡ true → (m.sealed ≡ None → length before + length changes ≤ sb.mem)
     → IsMemoryOf (record { sb = sb; manifest = manifest; journal = before ++ changes }) (fold memory_after m changes)
-memory_follows_all sb manifest before [] m marks of none accepted = subst (λ (js : List Change). IsMemoryOf (record { sb = sb; manifest = manifest; journal = js }) m) (sym (append-nil before)) of
-memory_follows_all sb manifest before (c ∷ changes) m marks of none accepted =
+memory_follows_all sb manifest before [] m marks of none accepted few = subst (λ (js : List Change). IsMemoryOf (record { sb = sb; manifest = manifest; journal = js }) m) (sym (append-nil before)) of
+memory_follows_all sb manifest before (c ∷ changes) m marks of none accepted few =
+    let size = length-append before (c ∷ []) in
     let parts = and_parts (is_accepted m.changes_max m.versions_max m.parents marks m.changes c) (are_accepted m.changes_max m.versions_max (tree_after m.parents c) (marks_after marks c) (suc m.changes) changes) accepted in
     let free = free_from m marks c none parts.0 in
     let limits = after_limits m c in
@@ -185,8 +203,9 @@ memory_follows_all sb manifest before (c ∷ changes) m marks of none accepted =
     let later : are_accepted (memory_after m c).changes_max (memory_after m c).versions_max (memory_after m c).parents (marks_after marks c) (memory_after m c).changes changes ≡ true =
     (λ i. are_accepted (limits.0 i) (limits.1 i) (after_parents m c i) (marks_after marks c) (sym count i) changes) ∙ parts.1 in
     subst (λ (js : List Change). IsMemoryOf (record { sb = sb; manifest = manifest; journal = js }) (fold memory_after (memory_after m c) changes)) (append_assoc before (c ∷ []) changes)
-    (memory_follows_all sb manifest (before ++ c ∷ []) changes (memory_after m c) (marks_after marks c) (memory_follows (record { sb = sb; manifest = manifest; journal = before }) m of c free)
-    (none_after m.changes_max m.versions_max m.parents marks m.changes c none parts.0) later)
+    (memory_follows_all sb manifest (before ++ c ∷ []) changes (memory_after m c) (marks_after marks c)
+    (memory_follows (record { sb = sb; manifest = manifest; journal = before }) m of c free (λ unsealed. let fits = few unsealed in omega (arith, fits)))
+    (none_after m.changes_max m.versions_max m.parents marks m.changes c none parts.0) later (λ unsealed. let fits = few (sym (after_sealed m c) ∙ unsealed) in omega (arith, fits, size)))
 
 -- changes leave the cursors
 pub cursors_redone : (changes : List Change) (m : Memory) → (fold memory_after m changes).cursors ≡ m.cursors
@@ -195,3 +214,8 @@ cursors_redone (Put version key value ∷ changes) m = cursors_redone changes (m
 cursors_redone (Delete version key ∷ changes) m = cursors_redone changes (memory_after m (Delete version key))
 cursors_redone (Clone version ∷ changes) m = cursors_redone changes (memory_after m (Clone version))
 cursors_redone (DropVersion version ∷ changes) m = cursors_redone changes (memory_after m (DropVersion version))
+
+-- nor what is sealed
+pub sealed_redone : (changes : List Change) (m : Memory) → (fold memory_after m changes).sealed ≡ m.sealed
+sealed_redone [] m = refl
+sealed_redone (c ∷ changes) m = sealed_redone changes (memory_after m c) ∙ after_sealed m c

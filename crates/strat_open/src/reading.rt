@@ -1,6 +1,6 @@
 //! Reading a store without opening it: what recovery finds is taken into memory, and nothing is written.
 
-ghost use Rattle.std.specs.Prelude.{◌≡◌, ◌≤◌, ◌+◌, ℕ, length, filter_map, Ok, Err, Some, None, IfOk, IsErrOf};
+ghost use Rattle.std.specs.Prelude.{◌≡◌, ◌≤◌, ◌+◌, ◌*◌, ℕ, length, option_map, Ok, Err, Some, None, IfOk, IfSome, IsErrOf};
 ghost use Rattle.def_crash.specs.Faults.{HasCause, ReadsAtMost};
 ghost use Rattle.def_crash.specs.Image.{Image};
 ghost use Rattle.def_crash.specs.Moments.{Exposes, OnlyReads};
@@ -8,8 +8,7 @@ ghost use Rattle.def_bytes.specs.Chain.{chain_length};
 ghost use Rattle.def_bytes.specs.Layout.{region_blocks};
 ghost use Rattle.strat_base.specs.Tree.{IsTree};
 ghost use Rattle.strat_level.specs.Memtable.{entries_held, ListStands};
-ghost use Rattle.def_state.specs.Setting.{set_all};
-ghost use Rattle.def_state.specs.State.{update_of};
+ghost use Rattle.def_slice.specs.Lists.{HoldLists};
 ghost use Rattle.strat_gate.specs.SuperView.{super_of};
 ghost use Rattle.strat_manifest.specs.ManifestView.{manifest_of};
 ghost use Rattle.def_recovery.specs.Head.{head_versions, journal_count, head_changes, head_updates};
@@ -100,14 +99,18 @@ impl Reading {
         tree
     }
 
-    /// Level 0, which has what the journal's updates leave, and the pool that has its keys and values.
-    pub fn zero(&self) -> (&ZeroView, &ArenaPool)
-        ensures ok { entries_held result.1.now result.0.now
-            ≡ set_all (filter_map update_of self.now.journal) }
-        ensures kept { ListStands result.1.now result.0.now }
+    /// Level 0, and a sealed one behind it where the journal goes on behind a full region, and the pool that has their keys
+    /// and values. The sealed one has what the updates of the full region leave, and level 0 what those behind it do, or
+    /// those of the whole journal.
+    pub fn zeros(&self) -> (&ZeroView, Option<&ZeroView>, &ArenaPool)
+        ensures ok { (spare : ℕ) × HoldLists self.now.sb.mem self.now.journal
+            (entries_held result.2.now result.0.now)
+            (option_map (entries_held result.2.now) (option_map (λ z. z.now) result.1)) spare }
+        ensures kept { ListStands result.2.now result.0.now
+            × IfSome (option_map (λ z. z.now) result.1) (λ z. ListStands result.2.now z) }
     {
-        let (zero, pool, _) = self.found.memory.parts();
-        (zero.view(), pool)
+        let (zero, sealed, pool, _) = self.found.memory.lists();
+        (zero, sealed, pool)
     }
 
     /// How many of the journal's changes are updates.
@@ -133,7 +136,7 @@ pub fn read_store<D: Disk>(alloc: Global, disk: &mut D) -> Result<Reading, Attac
     ensures same { OnlyReads (D.view disk.old) (D.view disk.new) }
     ensures cause { HasCause fault.Device (D.faults disk.old) (D.faults disk.new) result }
     ensures reads { ReadsAtMost 1052183 (D.reads disk.old) (D.reads disk.new)
-        × IfOk result (λ r. ReadsAtMost (chain_length r.sb.length + region_blocks r.sb.mem + 3)
+        × IfOk result (λ r. ReadsAtMost (chain_length r.sb.length + 2 * region_blocks r.sb.mem + 2)
         (D.reads disk.old) (D.reads disk.new)) }
 {
     sync_first(disk)?;

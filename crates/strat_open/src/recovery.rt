@@ -1,6 +1,6 @@
 //! Recovering a store over levels: what its manifest and its journal say is taken into memory.
 
-ghost use Rattle.std.specs.Prelude.{◌≡◌, ◌≢◌, ◌≤◌, ◌<◌, ◌+◌, ◌-◌, ◌*◌, ℕ, [], length, map, fold, Ok, Err, Some, None, IfOk, IfErr, OnOk, IsErrOf, IsTrue, false, ◌↔◌, is_some};
+ghost use Rattle.std.specs.Prelude.{◌≡◌, ◌≢◌, ◌≤◌, ◌<◌, ◌+◌, ◌-◌, ◌*◌, ℕ, [], length, map, fold, replicate, Ok, Err, Some, None, IfOk, IfErr, OnOk, IsErrOf, IsTrue, false, ◌↔◌, is_some};
 ghost use Rattle.std.specs.List.{list_all};
 ghost use Rattle.strat_array.specs.Kept.{Blocks};
 ghost use Rattle.strat_base.specs.Change.{is_lawful};
@@ -12,7 +12,8 @@ ghost use Rattle.strat_cursor.specs.Held.{no_cursors};
 ghost use Rattle.def_bytes.specs.Chain.{chain_length};
 ghost use Rattle.def_bytes.specs.Chained.{manifest_at};
 ghost use Rattle.def_bytes.specs.Layout.{region_blocks, region_at, other_region, newest_format, open_flag};
-ghost use Rattle.def_bytes.specs.SuperBlock.{IsLawful, newest_in};
+ghost use Rattle.def_bytes.specs.Manifest.{Manifest};
+ghost use Rattle.def_bytes.specs.SuperBlock.{IsLawful, Super, newest_in};
 ghost use Rattle.strat_model.specs.Table.{Table};
 ghost use Rattle.strat_gate.specs.SuperView.{super_of};
 ghost use Rattle.strat_journal.specs.Log.{IsStale};
@@ -22,10 +23,11 @@ ghost use Rattle.def_recovery.specs.Opening.{accepted_in, recover_manifest, reco
 ghost use Rattle.def_publish.specs.Contents.{Contents};
 ghost use Rattle.def_publish.specs.Several.{EachShows, ShowsOneOf};
 ghost use Rattle.def_publish.specs.Standing.{ReadsAs, ShowsTable, ContentsStand};
-ghost use Rattle.def_state.specs.Sound.{are_accepted};
+ghost use Rattle.def_state.specs.Sound.{are_accepted, journal_max};
 ghost use Rattle.strat_open.specs.Following.{IsOpenedAs, IsUnchanged, LeavesOpening};
+ghost use Rattle.strat_memory.specs.Filters.{no_filters};
 ghost use Rattle.strat_memory.specs.Held.{IsConsistent, IsLogBehind};
-ghost use Rattle.strat_memory.specs.Memory.{refusal_of_change, memory_after, HasRoomFor, IsMemoryOf};
+ghost use Rattle.strat_memory.specs.Memory.{refusal_of_change, memory_after, HasRoomFor, IsMemoryOf, sealed_off};
 ghost use Rattle.strat_memory.specs.Admitting.{chained_of, IsAdmitted};
 ghost use Rattle.strat_memory.specs.RecoveredFields.{held_of, empty_cache};
 ghost use Rattle.strat_open.specs.Recovering.{IsRecoveredFrom, ReadsAsSound};
@@ -38,6 +40,7 @@ use strat_disk::Disk;
 use strat_gate::{SuperBlock, newest};
 use strat_journal::{Journal, Logged, close_region};
 use strat_memory::admitting::{Published, admit};
+use strat_memory::filters::Filters;
 use strat_memory::memory::Memory;
 use strat_memory::open_store::OpenStore;
 
@@ -139,9 +142,56 @@ fn replay(memory: &mut Memory, logged: &[Logged]) -> Result<(), Trouble>
     Ok(())
 }
 
+/// Seals level 0, and puts a new one with room for `mem` updates in its place. The only error is want of memory.
+fn seal_full(alloc: Global, memory: &mut Memory, mem: u32) -> Result<(), NoMemory>
+    requires fits { (4 ≤ mem) × (mem ≤ 4096) }
+    requires none { memory.old.sealed ≡ None }
+    ensures ok { OnOk result (memory.new ≡ sealed_off mem memory.old) }
+{
+    memory.prepare(alloc, mem)?;
+    memory.seal();
+    Ok(())
+}
+
+/// Carries out the changes of a journal that goes on behind a full region of `mem`, each of which has to be accepted in its
+/// turn; `Damaged` names the block of the first that is not. Level 0 is sealed once it has those of the full region, and
+/// the others go into a new one, which is all the memory that it takes. One insertion a change.
+fn replay_both(
+    alloc: Global,
+    memory: &mut Memory,
+    mem: u32,
+    logged: &[Logged],
+) -> Result<(), Trouble>
+    requires fits { (4 ≤ mem) × (mem ≤ 4096) }
+    requires none { memory.old.sealed ≡ None }
+    requires room { (mem ≤ memory.old.spare) × (mem < length logged.now)
+        × (length logged.now ≤ journal_max mem) }
+    ensures found { OnOk result (accepted_in memory.old.changes_max memory.old.versions_max
+        memory.old.parents [] memory.old.changes (map logged_of logged.now)
+        ≡ Ok (map (λ l. l.change) logged.now)) }
+    ensures ok { OnOk result ((sb : Super) (manifest : Manifest) → sb.mem ≡ mem
+        → IsMemoryOf (record { sb = sb; manifest = manifest; journal = [] }) memory.old
+        → IsMemoryOf (record {
+          sb = sb;
+          manifest = manifest;
+          journal = map (λ l. l.change) logged.now;
+        }) memory.new) }
+    ensures cursors { OnOk result (memory.new.cursors ≡ memory.old.cursors) }
+    ensures fits { OnOk result (IsTrue (list_all is_lawful (map (λ l. l.change) logged.now))) }
+    ensures damaged { (block : ℕ) → IsErrOf result (Damaged block)
+        → accepted_in memory.old.changes_max memory.old.versions_max
+        memory.old.parents [] memory.old.changes (map logged_of logged.now) ≡ Err block }
+    ensures err { IsErrOf result Device → ⊥ }
+{
+    replay(memory, &logged[..mem as usize])?;
+    seal_full(alloc, memory, mem)?;
+    replay(memory, &logged[mem as usize..])?;
+    Ok(())
+}
+
 /// What a store has in memory of its versions and of level 0, with the changes of its journal carried out. `Damaged`
-/// names the block of the first that is refused. One insertion a change, and all the memory that changes take until
-/// the journal is full.
+/// names the block of the first that is refused. Where the journal goes on behind a full region, level 0 is sealed in
+/// between. One insertion a change, and all the memory that changes take until the journal is full.
 fn recover_memory(
     alloc: Global,
     sb: &SuperBlock,
@@ -150,7 +200,7 @@ fn recover_memory(
 ) -> Result<Memory, Trouble>
     requires fits { IsLawful (super_of sb.now) }
     requires kept { IsAdmitted (super_of sb.now) published.now }
-    requires room { length logged.now ≤ sb.now.mem }
+    requires room { length logged.now ≤ journal_max sb.now.mem }
     ensures found { OnOk result (accepted_in sb.now.changes_max sb.now.versions_max
         (parents_in (chained_of published.now).manifest) (chained_of published.now).manifest.marks
         published.now.manifest.changes
@@ -170,14 +220,19 @@ fn recover_memory(
     ensures err { IsErrOf result Device → ⊥ }
 {
     let mut memory = load_memory(alloc, sb, published)?;
+    if logged.len() > sb.mem as usize {
+        replay_both(alloc, &mut memory, sb.mem, logged)?;
+        return Ok(memory);
+    }
     replay(&mut memory, logged)?;
     Ok(memory)
 }
 
 /// The journal of a superblock, behind what the last checkpoint left, and memory with its changes carried out. It
-/// reads each block of the active region at most once, none after its first closed gate, and one of the other region.
+/// reads each block of the active region at most once, none after its first closed gate, and one of the other region,
+/// or, if the active one is full, that one in the same way.
 /// Damaged: the block of a record that is no change, or of a change that is refused, or the other region's first where
-/// both regions hold too many. `NoMemory` also stands for a journal that goes on in the other region.
+/// both regions hold too many. A journal that goes on in the other region takes the memory of a second level 0.
 fn read_journal<D: Disk>(
     alloc: Global,
     disk: &mut D,
@@ -204,18 +259,16 @@ fn read_journal<D: Disk>(
         → recover_journal f (super_of sb.now) (chained_of published.now).manifest ≡ Err block }
     ensures same { OnlyReads (D.view disk.old) (D.view disk.new) }
     ensures cause { HasCause Device (D.faults disk.old) (D.faults disk.new) result }
-    ensures reads { ReadsAtMost (2 * region_blocks sb.now.mem + 1)
-        (D.reads disk.old) (D.reads disk.new)
-        × IfOk result (λ r. ReadsAtMost (region_blocks sb.now.mem + 1)
-        (D.reads disk.old) (D.reads disk.new)) }
+    ensures reads { ReadsAtMost (2 * region_blocks sb.now.mem)
+        (D.reads disk.old) (D.reads disk.new) }
 {
     let (journal, logged) = Journal::read(alloc, disk, sb)?;
     let memory = recover_memory(alloc, sb, published, &logged)?;
     Ok((journal, memory))
 }
 
-/// The store behind a superblock in a slot: each block of its manifest's chain, those of the active journal region up
-/// to its first closed gate and one of the other region are read, each once.
+/// The store behind a superblock in a slot: each block of its manifest's chain and those of the journal are read, each
+/// once.
 fn recover_at<D: Disk>(
     alloc: Global,
     disk: &mut D,
@@ -228,15 +281,13 @@ fn recover_at<D: Disk>(
     ensures kept { IfOk result (λ r. (cached : Blocks) → IsConsistent (held_of r cached)) }
     ensures ok { IfOk result (λ r. r.sb ≡ sb) }
     ensures cursors { IfOk result (λ r. r.memory.cursors ≡ no_cursors) }
+    ensures filters { IfOk result (λ r. r.filters ≡ replicate 22 no_filters) }
     ensures damaged { (block : ℕ) → IsErrOf result (Damaged block) → (f : Image)
         → Exposes (D.view disk.old) f → recover_head f (super_of sb) ≡ Err block }
     ensures same { OnlyReads (D.view disk.old) (D.view disk.new) }
     ensures cause { HasCause Device (D.faults disk.old) (D.faults disk.new) result }
-    ensures reads { ReadsAtMost (chain_length sb.length - 1 + 1 + (2 * region_blocks sb.mem + 1))
-        (D.reads disk.old) (D.reads disk.new)
-        × IfOk result (λ r. ReadsAtMost
-        (chain_length sb.length - 1 + 1 + (region_blocks sb.mem + 1))
-        (D.reads disk.old) (D.reads disk.new)) }
+    ensures reads { ReadsAtMost (chain_length sb.length - 1 + 1 + 2 * region_blocks sb.mem)
+        (D.reads disk.old) (D.reads disk.new) }
 {
     let published = read_published(alloc, disk, &sb)?;
     let (journal, memory) = read_journal(alloc, disk, &sb, &published)?;
@@ -246,18 +297,21 @@ fn recover_at<D: Disk>(
         published,
         journal,
         memory,
+        filters: Filters::new(alloc),
     })
 }
 
-/// The store on a disk, with all the memory that its changes take until the journal is full. It writes nothing. It
-/// reads the two superblock slots and what `recover_at` reads behind the newest. NotAStore: no slot is open with the
-/// text of a store. Device: the disk counted a fault. Damaged: the block that recovery finds damaged. Linear in the
-/// manifest and the journal, but for O(log versions_max) at each version and one insertion at each change.
+/// The store on a disk, with all the memory that its changes take until the journal is full, and that of a second level 0
+/// where the journal goes on in the other region. It writes nothing. It reads the two superblock slots and what
+/// `recover_at` reads behind the newest. NotAStore: no slot is open with the text of a store. Device: the disk counted a
+/// fault. Damaged: the block that recovery finds damaged. Linear in the manifest and the journal, but for
+/// O(log versions_max) at each version and one insertion at each change.
 pub(crate) fn recover_store<D: Disk>(alloc: Global, disk: &mut D) -> Result<OpenStore, AttachFault>
     ensures found { IfOk result (λ r. (f : Image) → Exposes (D.view disk.old) f
         → IsRecoveredFrom f r) }
     ensures kept { IfOk result (λ r. (cached : Blocks) → IsConsistent (held_of r cached)) }
     ensures cursors { IfOk result (λ r. r.memory.cursors ≡ no_cursors) }
+    ensures filters { IfOk result (λ r. r.filters ≡ replicate 22 no_filters) }
     ensures none { IsErrOf result fault.NotAStore → (f : Image)
         → Exposes (D.view disk.old) f → recover f ≡ Ok None }
     ensures damaged { (block : ℕ) → IsErrOf result (fault.Damaged block) → (f : Image)
@@ -265,7 +319,7 @@ pub(crate) fn recover_store<D: Disk>(alloc: Global, disk: &mut D) -> Result<Open
     ensures same { OnlyReads (D.view disk.old) (D.view disk.new) }
     ensures cause { HasCause fault.Device (D.faults disk.old) (D.faults disk.new) result }
     ensures reads { ReadsAtMost 1052183 (D.reads disk.old) (D.reads disk.new)
-        × IfOk result (λ r. ReadsAtMost (chain_length r.sb.length + region_blocks r.sb.mem + 3)
+        × IfOk result (λ r. ReadsAtMost (chain_length r.sb.length + 2 * region_blocks r.sb.mem + 2)
         (D.reads disk.old) (D.reads disk.new)) }
 {
     let Some((slot, sb)) = newest(disk)? else {
@@ -307,10 +361,11 @@ fn shut_other<D: Disk>(disk: &mut D, sb: &SuperBlock, journal: &Journal) -> Resu
 /// Opens the store on a disk. It syncs, and reads what `recover_store` does. If the first gate of the region that is not
 /// active was read open while the active one has room, it shuts that gate (a run that was killed in a checkpoint leaves
 /// it open): at most one read, one write and one sync more. Until the sync succeeds a crash leaves only what it might
-/// have left before. It takes all the memory that the store needs beside its cache until its journal is full. After
-/// an error other than `Device` the disk is as it was; after that one too, or its last step failed, which shuts that
-/// gate. A disk may be opened each of whose crashes leaves a table, though not all of them one: what a crash leaves
-/// meanwhile shows one of these, and afterwards that of the content.
+/// have left before. It takes all the memory that the store needs beside its cache until its journal is full, and that of
+/// a second level 0 where the journal goes on in the other region. After an error other than `Device` the disk is as it
+/// was; after that one too, or its last step failed, which shuts that gate. A disk may be opened each of whose crashes
+/// leaves a table, though not all of them one: what a crash leaves meanwhile shows one of these, and afterwards that of
+/// the content.
 pub fn open<D: Disk>(alloc: Global, disk: &mut D) -> Result<OpenStore, AttachFault>
     ensures ok { IfOk result (λ r. (cap : ℕ)
         → IsOpenedAs (D.view disk.old) (D.view disk.new) (held_of r (empty_cache cap))) }
@@ -331,7 +386,7 @@ pub fn open<D: Disk>(alloc: Global, disk: &mut D) -> Result<OpenStore, AttachFau
     ensures time { Passes (D.view disk.old) (D.view disk.new) }
     ensures cause { HasCause fault.Device (D.faults disk.old) (D.faults disk.new) result }
     ensures reads { ReadsAtMost 1052184 (D.reads disk.old) (D.reads disk.new)
-        × IfOk result (λ r. ReadsAtMost (chain_length r.sb.length + region_blocks r.sb.mem + 4)
+        × IfOk result (λ r. ReadsAtMost (chain_length r.sb.length + 2 * region_blocks r.sb.mem + 3)
         (D.reads disk.old) (D.reads disk.new)) }
 {
     sync_first(disk)?;

@@ -1,5 +1,5 @@
 -- How many entries the arrays of a promotion have.
-use Rattle.std.proofs.Common.{◌≡◌, ◌≤◌, ◌+◌, ◌^◌, ℕ, Bool, true, false, cond, List, [], ◌∷◌, ◌++◌, length, map, filter, Some, length-append, refl, sym, ap, ◌∙◌, subst, arith}
+use Rattle.std.proofs.Common.{◌≡◌, ◌≤◌, ◌+◌, ◌^◌, ℕ, Bool, true, false, cond, List, [], ◌∷◌, length, map, filter, Some, length-append, ap, arith}
 use Rattle.std.specs.List.{slice_get}
 use Rattle.strat_array.specs.Progress.{ArrayProgress}
 use Rattle.strat_base.specs.Entries.{Entry}
@@ -12,7 +12,7 @@ use Rattle.def_split.specs.Planned.{is_taken}
 use Rattle.def_promote.specs.Merging.{MergesTo, rest_of}
 use Rattle.def_promote.specs.Purge.{is_needed, purged}
 use Rattle.strat_split.specs.PlanSeen.{plan_seen}
-use Rattle.strat_promote.specs.Job.{Job, runs_in, input_count, groups_kept, part_content}
+use Rattle.strat_promote.specs.Job.{Job, runs_in, groups_kept, part_content}
 use Rattle.strat_promote.specs.Written.{IsWriting}
 use Rattle.strat_promote.specs.declared.second_pass.Writing.{Writing}
 use Rattle.strat_promote.proofs.BudgetLemmas.{goes_with, next_fits}

@@ -52,6 +52,7 @@ taking_next v m n s t u old mid q w x so_far at takes torn = record {
 abbrev pub IsSealedAt : DiskView → DiskView → List ArrayProgress → ℕ → ArrayProgress → Type 0
 IsSealedAt disk now new q w = (x : ArrayProgress) × (slice_get new q ≡ Some x) × (x.id ≡ w.id) × (x.count ≡ w.count)
     × ((f g : Image) (es : List Entry) → Exposes disk f → Exposes now g → IsPushed f w es → entries_on g (blocks_of x.extents) ≡ Some es)
+    × (x.filter ≡ w.filter)
 
 -- the writers below a number are sealed, and the others are as they were
 pub record AreSealing (disk now : DiskView) (before after : SpaceView) (i : ℕ) (old new : List ArrayProgress) : Type 0 where
@@ -60,10 +61,10 @@ pub record AreSealing (disk now : DiskView) (before after : SpaceView) (i : ℕ)
   pub left : (q : ℕ) → i ≤ q → slice_get new q ≡ slice_get old q
 
 pub sealing_next : (v m n : DiskView) (s t u : SpaceView) (old mid : List ArrayProgress) (i : ℕ) (w x : ArrayProgress) → AreAllUsed s old → AreSealing v m s t i old mid
-    → slice_get mid i ≡ Some w → TakesMore t u w.extents x.extents → TearsBlocks (is_free t) m n → x.id ≡ w.id → x.count ≡ w.count
+    → slice_get mid i ≡ Some w → TakesMore t u w.extents x.extents → TearsBlocks (is_free t) m n → x.id ≡ w.id → x.count ≡ w.count → x.filter ≡ w.filter
     → ((f g : Image) (es : List Entry) → Exposes m f → Exposes n g → IsPushed f w es → entries_on g (blocks_of x.extents) ≡ Some es)
     → AreSealing v n s u (i + 1) old (set mid i x)
-sealing_next v m n s t u old mid i w x used so_far at takes torn id count sealed = record {
+sealing_next v m n s t u old mid i w x used so_far at takes torn id count filter sealed = record {
   taking = taking_next v m n s t u old mid i w x so_far.taking at takes torn;
   sealed = λ q y lt there. elim (cases_eq q i) [ inl same ↦ here q y same there | inr other ↦ before q y (omega arith) other there ];
   left = λ q le. get_set_other mid i q x (omega arith) ∙ so_far.left q (omega arith);
@@ -82,6 +83,7 @@ sealing_next v m n s t u old mid i w x used so_far at takes torn id count sealed
               let middle = still_told v m f so_far.taking.torn.time told in
               let own : AreUsed s (blocks_of w.extents) = used q w (there ∙ ap Some (sym e)) in
               sealed middle.0 g es middle.1 now (others_stay s v m f middle.0 w es own so_far.taking.torn told middle.1 pushed),
+          filter,
         )
 
     before : (q : ℕ) (y : ArrayProgress) → q < i → q ≢ i → slice_get old q ≡ Some y → IsSealedAt v n (set mid i x) q y
@@ -95,6 +97,7 @@ sealing_next v m n s t u old mid i w x used so_far at takes torn id count sealed
               let middle = still_told v m f so_far.taking.torn.time told in
               let agree = used_agree t (blocks_of was.0.extents) middle.0 g (so_far.taking.used q was.0 was.1) (torn.content middle.0 g middle.1 now) in
               entries_on-kept middle.0 g (blocks_of was.0.extents) agree ∙ was.4 f middle.0 es told middle.1 pushed,
+          was.5,
         )
 
 pub all_sealed : (v n : DiskView) (s u : SpaceView) (i : ℕ) (old new : List ArrayProgress) → AreSealing v n s u i old new → length old ≤ i → AreSealed v n old new

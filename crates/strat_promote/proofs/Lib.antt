@@ -26,3 +26,4 @@ pub mod StateInputsLemmas
 pub mod OwnedLemmas
 pub mod BoundLemmas
 pub mod PlanBlocksLemmas
+pub mod FilterLemmas

@@ -43,7 +43,7 @@ contains_from [] x among = absurd among
 contains_from (y ∷ ys) x (inl here) = (0, omega arith, sym here)
 contains_from (y ∷ ys) x (inr there) = Contains-append_right (y ∷ []) ys x (contains_from ys x there)
 
-there_at : {X : Type 0} (xs : List X) (i : ℕ) → i < length xs → (x : X) × (slice_get xs i ≡ Some x)
+pub there_at : {X : Type 0} (xs : List X) (i : ℕ) → i < length xs → (x : X) × (slice_get xs i ≡ Some x)
 there_at [] i within = absurd (omega (arith, within))
 there_at (x ∷ xs) zero within = (x, refl)
 there_at (x ∷ xs) (suc i) within = there_at xs i (omega (arith, within))

@@ -1,5 +1,5 @@
 -- How many blocks the arrays of a plan take.
-use Rattle.std.proofs.Common.{◌≡◌, ◌<◌, ◌≤◌, ◌+◌, ◌*◌, ◌^◌, ◌&&◌, ℕ, zero, suc, Bool, true, false, eqb, leb, ltb, cond, inl, inr, List, [], ◌∷◌, ◌++◌, length, map, filter, flat_map, Option, Some, length-append, refl, sym, ap, ◌∙◌, subst, arith}
+use Rattle.std.proofs.Common.{◌≡◌, ◌<◌, ◌≤◌, ◌+◌, ◌*◌, ◌^◌, ◌&&◌, ℕ, suc, Bool, true, false, eqb, leb, ltb, cond, List, [], ◌∷◌, ◌++◌, length, map, filter, flat_map, Some, length-append, refl, sym, ap, ◌∙◌, subst, arith}
 use Rattle.std.specs.Prelude.{option_map}
 use Rattle.std.specs.List.{list_all, slice_get, sum_by, range_with_len}
 use Rattle.std.proofs.lemmas.Bool.{and_parts, eqb-true, ltb-true}
@@ -12,13 +12,13 @@ use Rattle.strat_base.specs.Entries.{Entry, is_ascending, is_tagged}
 use Rattle.strat_base.specs.EntryBytes.{fits_fields}
 use Rattle.strat_base.specs.Tree.{Parents, IsTree}
 use Rattle.strat_base.specs.declared.limits.TheConstants.{BLOCK}
-use Rattle.strat_base.proofs.ListFacts.{Among, all_at, among_range, range_among}
+use Rattle.strat_base.proofs.ListFacts.{all_at, among_range, range_among}
 use Rattle.def_crash.specs.Image.{Image, window}
 use Rattle.def_bytes.specs.Arrays.{blocks_of, entries_on}
 use Rattle.def_bytes.specs.Block.{block_in, block_front}
 use Rattle.def_bytes.proofs.BlockLemmas.{block_in-some}
 use Rattle.def_split.specs.Groups.{SplitsGroups, array_of_groups, grouped_entries, group_versions, level_of_groups, own_of}
-use Rattle.def_split.specs.Plan.{Plan, horizon_of, members, part_at, part_of}
+use Rattle.def_split.specs.Plan.{Plan, horizon_of, members, part_of}
 use Rattle.def_split.proofs.CountedLemmas.{own_groups, sum_le, sum_own, sum_same}
 use Rattle.def_split.proofs.LawLemmas.{groups_described}
 use Rattle.def_split.proofs.ListLemmas.{among_map, distinct_labelled, distinct_range}
@@ -33,7 +33,7 @@ use Rattle.def_state.specs.Counted.{own_at, keys_at}
 use Rattle.def_state.specs.Level.{TaggedArray, own_leads, least_live}
 use Rattle.strat_promote.specs.Closing.{all_extents}
 use Rattle.strat_promote.specs.Filled.{IsFilling}
-use Rattle.strat_promote.specs.Job.{Job, runs_in, input_count, groups_kept, part_content}
+use Rattle.strat_promote.specs.Job.{Job, runs_in, groups_kept, part_content}
 use Rattle.strat_promote.specs.Steps.{Inputs, IsReadySource, IsTaskIn}
 use Rattle.strat_promote.specs.Written.{PlansJob, HasContent}
 use Rattle.strat_promote.specs.declared.second_pass.Writing.{Writing}

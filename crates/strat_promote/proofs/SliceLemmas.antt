@@ -12,7 +12,7 @@ use Rattle.strat_array.specs.Progress.{ArrayProgress}
 use Rattle.strat_array.specs.Taking.{AreUsed}
 use Rattle.def_bytes.specs.Arrays.{blocks_of}
 use Rattle.strat_array.proofs.TakesLemmas.{used_agree}
-use Rattle.strat_extent.specs.Blocks.{SpaceView, is_free, used_count}
+use Rattle.strat_extent.specs.Blocks.{SpaceView, is_free}
 use Rattle.strat_merge.specs.MergerFields.{views_of}
 use Rattle.strat_merge.specs.Runs.{ReadsLeft}
 use Rattle.strat_promote.specs.InputFields.{input_seen}
@@ -142,6 +142,16 @@ module _ (task : Task) (inputs : Inputs) (limit count : ℕ) (start mid now : Di
             omega (arith, all, same),
             near_next f job limit (stage_consumed stage) (stage_consumed new) held (none_taken f job _ _ (omega (arith, still))) (omega (arith, all, same)),
           )
+
+  -- what a step leaves of a content, all steps leave
+  pub slice_leaves : (P : Image → Type 0)
+      → ((f g : Image) (job : Job) → Exposes mid f → Exposes now g → IsTaskIn f task inputs job → AreUsed t (blocks_listed job.arrays) → IsUnderway f job task.first stage → P g)
+      → (f g : Image) (job : Job) → Exposes start f → Exposes now g → IsTaskIn f task inputs job → AreUsed s (blocks_listed job.arrays) → IsUnderway f job task.first old → P g
+  slice_leaves P does f g job told tells is used underway =
+      let between = still_told start mid f slicing.torn.time told in
+      let agree = inputs_agree s (blocks_listed job.arrays) start mid f between.0 used slicing.torn told between.1 in
+      let went = slicing.goes f between.0 job told between.1 is used underway in
+      does between.0 g job between.1 tells (task_stays f between.0 task inputs job agree is) (still_used (blocks_listed job.arrays) used) went.0
 
   -- the same where the slice ends: an entry is left
   pub slice_pauses : HasLeft new → 0 < stage_consumed new

@@ -8,7 +8,6 @@ use Rattle.strat_base.specs.Entries.{Entry, is_ascending}
 use Rattle.strat_base.specs.Order.{key_cmp}
 use Rattle.strat_base.specs.declared.descriptors.ArrayDesc.{ArrayDesc}
 use Rattle.def_crash.specs.Image.{Image}
-use Rattle.def_bytes.specs.Arrays.{blocks_of, entries_on}
 use Rattle.strat_live.specs.Counting.{IsTally}
 use Rattle.strat_live.specs.Tallies.{Tallies}
 use Rattle.strat_merge.specs.Runs.{RunView, lefts, blocks_left, IsBadFor}
@@ -64,30 +63,18 @@ nothing_tallied job tallies tally = subst (λ (gs : List (List Entry)). IsTally 
 -- new arrays are ready for any key
 pub new_ready : (first : ℕ) (writers : List ArrayProgress) (key : List ℕ) → AreNew first writers → AreReadyFor key writers
 new_ready first writers key new = record {
-  ascending = λ q w there. ap (λ (x : ArrayProgress). is_ascending x.pending) (new.each q w there);
-  before = λ q w there. ap (λ (x : ArrayProgress). list_all (λ (e : Entry). is_lt (key_cmp e.key key)) x.pending) (new.each q w there);
+  ascending = λ q w there. ap (λ (x : ArrayProgress). is_ascending x.pending) (new.each q w there).same;
+  before = λ q w there. ap (λ (x : ArrayProgress). list_all (λ (e : Entry). is_lt (key_cmp e.key key)) x.pending) (new.each q w there).same;
 }
 
 -- they have no block
 pub new_empty : (first : ℕ) (writers : List ArrayProgress) → AreNew first writers → AreAllNew writers
-new_empty first writers new = record { each = λ q w there. ap (λ (x : ArrayProgress). x.extents) (new.each q w there) }
-
--- nothing was pushed into them
-new_pushed : (f : Image) (w : ArrayProgress) (id : ℕ) → w ≡ record { id = id; count = 0; pending = []; extents = [] } → IsPushed f w []
-unfolding entries_on
-new_pushed f w id new = record {
-  stands = record {
-    written = [];
-    read = ap (λ (x : ArrayProgress). entries_on f (blocks_of x.extents)) new;
-    all = sym (ap (λ (x : ArrayProgress). x.pending) new);
-  };
-  count = ap (λ (x : ArrayProgress). x.count) new;
-}
+new_empty first writers new = record { each = λ q w there. ap (λ (x : ArrayProgress). x.extents) (new.each q w there).same }
 
 -- and each has what its part takes of no groups
 pub new_content : (f : Image) (job : Job) (plan : Plan) (first : ℕ) (writers : List ArrayProgress) → AreNew first writers → (q : ℕ) (x : ArrayProgress) → slice_get writers q ≡ Some x
     → (x.id ≡ first + q) × IsPushed f x (part_content job.parents plan (groups_kept job []) q)
 new_content f job plan first writers new q x there = (
-  ap (λ (w : ArrayProgress). w.id) (new.each q x there),
-  subst (λ (gs : List (List Entry)). IsPushed f x (part_content job.parents plan gs q)) (sym (nothing_kept job)) (new_pushed f x (first + q) (new.each q x there)),
+  ap (λ (w : ArrayProgress). w.id) (new.each q x there).same,
+  subst (λ (gs : List (List Entry)). IsPushed f x (part_content job.parents plan gs q)) (sym (nothing_kept job)) ((new.each q x there).pushed f),
 )

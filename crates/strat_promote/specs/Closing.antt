@@ -24,12 +24,13 @@ abbrev pub AreAllUsed : SpaceView → List ArrayProgress → Type 0
 AreAllUsed s writers = (q : ℕ) (w : ArrayProgress) → slice_get writers q ≡ Some w
     → AreUsed s (blocks_of w.extents)
 
--- all that was pushed is in blocks now, of each writer
+-- all that was pushed is in blocks now, of each writer, and its filter is as it was
 pub record AreSealed (disk now : DiskView) (old new : List ArrayProgress) : Type 0 where
   pub each : (q : ℕ) (w : ArrayProgress) → slice_get old q ≡ Some w → (x : ArrayProgress)
       × (slice_get new q ≡ Some x) × (x.id ≡ w.id) × (x.count ≡ w.count)
       × ((f g : Image) (es : List Entry) → Exposes disk f → Exposes now g → IsPushed f w es
       → entries_on g (blocks_of x.extents) ≡ Some es)
+      × (x.filter ≡ w.filter)
 
 -- a descriptor has the number, the count and the blocks of a writer, and the rest of a part
 pub record IsDescriptor (plan : Plan) (q : ℕ) (w : ArrayProgress) (a : ArrayDesc) : Type 0 where

@@ -18,6 +18,7 @@ pub mod Closing
 pub mod Filled
 pub mod Budget
 pub mod Owned
+pub mod Filters
 pub mod Written
 pub mod Planning
 pub mod Passes

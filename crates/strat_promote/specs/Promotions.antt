@@ -13,7 +13,10 @@ use Rattle.strat_level.specs.Memtable.{ItemList}
 use Rattle.strat_level.specs.Target.{IsTarget}
 use Rattle.strat_promote.specs.Budget.{IsNearLimit}
 use Rattle.strat_promote.specs.Closing.{all_extents}
+use Rattle.strat_promote.specs.Filters.{AreFiltered}
 use Rattle.strat_promote.specs.Job.{Job, input_count}
+use Rattle.strat_promote.specs.Opening.{arrays_if_any}
+use Rattle.strat_promote.specs.Owned.{OwnsItsBlocks}
 use Rattle.strat_promote.specs.Stages.{IsSteady, IsUnderway, IsMade, IsReadFrom, IsReadOf, stage_writers, stage_consumed, blocks_due}
 use Rattle.strat_promote.specs.Steps.{Inputs, IsReadySource, IsTaskIn}
 use Rattle.strat_promote.specs.declared.promotion.Progress.{Progress}
@@ -113,6 +116,22 @@ target_of p = p.task.target
 -- the level that it made, once it is done
 abbrev pub level_of : Promotion → Option LevelDesc
 level_of p = p.level
+
+-- the arrays of the level that it made
+abbrev pub arrays_promoted : Promotion → List ArrayDesc
+arrays_promoted p = arrays_if_any p.level
+
+-- the filters that it keeps of the arrays that it made are of exactly the keys that these have in an image
+abbrev pub FiltersStand : Image → Promotion → Type 0
+FiltersStand g p = AreFiltered g p.task.first (stage_writers p.stage) p.level
+
+-- it has made the same, and taken the same blocks
+pub record HasMadeTheSame (old new : Promotion) : Type 0 where
+  pub ended : new.is_done ≡ old.is_done
+  pub task : new.task ≡ old.task
+  pub level : new.level ≡ old.level
+  pub extents : extents_taken new ≡ extents_taken old
+  pub owned : OwnsItsBlocks (writers_of old) old.level → OwnsItsBlocks (writers_of new) new.level
 
 -- one thing holds where there is more to do, and another where the level is made
 abbrev pub MatchProgress : Progress → Type 0 → Type 0 → Type 0

@@ -3,6 +3,7 @@
 
 mod edges;
 mod filling;
+mod filters;
 mod first_pass;
 pub mod input;
 mod input_run;

@@ -1,16 +1,21 @@
 //! Promotions, slice by slice.
 
 ghost use Rattle.std.specs.List.{sum};
-ghost use Rattle.std.specs.Prelude.{◌≡◌, ◌<◌, ◌≤◌, ◌+◌, ◌*◌, ◌^◌, ℕ, List, [], length, true, IfOk, OnOk, IsErrOf, IsTrue, Contains};
+ghost use Rattle.std.specs.Prelude.{◌≡◌, ◌<◌, ◌≤◌, ◌+◌, ◌*◌, ◌^◌, ℕ, List, [], length, true, Some, IfOk, OnOk, IsErrOf, IsTrue, Contains};
 ghost use Rattle.strat_array.specs.Taking.{AreUsed};
 ghost use Rattle.def_crash.specs.Blocks.{TearsBlocks};
 ghost use Rattle.def_crash.specs.Faults.{HasCause};
 ghost use Rattle.def_crash.specs.Image.{Image};
 ghost use Rattle.def_crash.specs.Moments.{Exposes};
+ghost use Rattle.strat_base.specs.Entries.{Entry as TheEntry};
+ghost use Rattle.strat_base.specs.declared.descriptors.ArrayDesc.{ArrayDesc as TheDesc};
 ghost use Rattle.strat_extent.specs.Blocks.{is_free};
+ghost use Rattle.strat_filter.specs.Keys.{IsFilterOf};
+ghost use Rattle.def_bytes.specs.Arrays.{blocks_of, entries_on};
 ghost use Rattle.strat_promote.specs.declared.obstacle.Obstacle.TheVariants.{Damaged, Device, Unfit};
 
 use crate::edges::{count_entries, give_all, is_deepest, leads_of};
+use crate::filters::take_kept;
 use crate::obstacle::Obstacle;
 use crate::slicing::{take_steps, taken_in};
 use crate::stage::Stage;
@@ -18,9 +23,10 @@ use crate::step::{Sources, Step, Task, WorkBuffers};
 use std::alloc::Global;
 use strat_arena::{Arena, ArenaPool};
 use strat_base::limits::LEVELS;
-use strat_base::{LevelDesc, NoMemory};
+use strat_base::{ArrayDesc, LevelDesc, NoMemory};
 use strat_disk::Disk;
 use strat_extent::Space;
+use strat_filter::Filter;
 use strat_level::{Levels, Zero, target};
 use strat_merge::GroupBuf;
 use strat_tree::Tree;
@@ -36,7 +42,8 @@ pub enum Progress {
 ///
 /// It goes twice over the entries: once to count them, and once, when the versions are split, to write them. In memory it
 /// holds a block for each array that it reads and for each that it writes, the entries of level 0, the group of one key, 28
-/// bytes for each version and some 60 for each part of the plan. There are at most as many arrays in a level as versions.
+/// bytes for each version and some 60 for each part of the plan. There are at most as many arrays in a level as versions. It
+/// also holds a byte for each entry that it is to write, for filters of the arrays, as far as there is memory for these.
 #[derive(Drop)]
 pub struct Promotion {
     task: Task,
@@ -51,7 +58,7 @@ impl Promotion {
     ghost use Rattle.strat_extent.specs.Change.{IsMarked, CanGive};
     ghost use Rattle.strat_promote.specs.Closing.{AreAllUsed};
     ghost use Rattle.strat_promote.specs.Job.{Job, IsBadInput, arrays_to, blocks_listed};
-    ghost use Rattle.strat_promote.specs.Promotions.{IsBegun, IsOpen, IsFed, IsItsJob, HasBegun, IsSliced, MatchProgress, SamePromotion, inputs_given, writers_of, ReadsFrom, ReadsOf, ReadsItsBlocks, leads_listed, entries_taken, entries_if_any, extents_taken, has_ended, target_of, level_of};
+    ghost use Rattle.strat_promote.specs.Promotions.{IsBegun, IsOpen, IsFed, IsItsJob, HasBegun, IsSliced, MatchProgress, SamePromotion, inputs_given, writers_of, ReadsFrom, ReadsOf, ReadsItsBlocks, FiltersStand, HasMadeTheSame, arrays_promoted, leads_listed, entries_taken, entries_if_any, extents_taken, has_ended, target_of, level_of};
     ghost use Rattle.strat_promote.specs.Owned.{OwnsItsBlocks};
     ghost use Rattle.strat_promote.specs.Spaces.{HasAmpleRoom, TakesMore};
 
@@ -129,9 +136,13 @@ impl Promotion {
             (inputs_given zero.now.list pool.now levels.now tree.now.parents) job
             → AreUsed space.old (blocks_listed job.arrays) → HasBegun f job self.old
             → IsSliced f g job (entries_taken self.old + budget) self.new p) }
-        ensures found { AreAllUsed space.new (writers_of self.new) }
-        ensures room { TakesMore space.old space.new
-            (extents_taken self.old) (extents_taken self.new) }
+        ensures filters { IfOk result (λ p. (f g : Image) (job : Job) → Exposes (D.view disk.old) f
+            → Exposes (D.view disk.new) g → IsItsJob f self.old
+            (inputs_given zero.now.list pool.now levels.now tree.now.parents) job
+            → AreUsed space.old (blocks_listed job.arrays) → HasBegun f job self.old
+            → MatchProgress p (Unit {0}) (FiltersStand g self.new)) }
+        ensures room { AreAllUsed space.new (writers_of self.new)
+            × TakesMore space.old space.new (extents_taken self.old) (extents_taken self.new) }
         ensures same { TearsBlocks (is_free space.old) (D.view disk.old) (D.view disk.new)
             × SamePromotion self.old self.new }
         ensures cause { HasCause Device (D.faults disk.old) (D.faults disk.new) result }
@@ -179,6 +190,34 @@ impl Promotion {
         ensures ok { result ≡ min (entries_taken self.now) (2 ^ 64 - 1) }
     {
         taken_in(&self.stage)
+    }
+
+    /// The arrays of the level that it made. O(1).
+    pub fn made(&self) -> &[ArrayDesc]
+        ensures ok { result.now ≡ arrays_promoted self.now }
+    {
+        match &self.level {
+            Some(level) => level.arrays.as_slice(),
+            None => &[],
+        }
+    }
+
+    /// The filter of an array of the level that it made, which it then keeps no more. O(1). `NoMemory`: it keeps none, as memory
+    /// was short when the array was begun, an earlier call took it, or it made no array of this number.
+    pub fn take_filter(&mut self, id: u64) -> Result<Filter, NoMemory>
+        ensures ok { IfOk result (λ bits. (g : Image) (a : TheDesc) (es : List TheEntry)
+            → FiltersStand g self.old → Contains (arrays_promoted self.old) a → a.id ≡ id
+            → entries_on g (blocks_of a.extents) ≡ Some es → IsFilterOf bits es) }
+        ensures kept { (g : Image) → FiltersStand g self.old → FiltersStand g self.new }
+        ensures same { HasMadeTheSame self.old self.new }
+    {
+        if id < self.task.first {
+            return Err(NoMemory);
+        }
+        match take_kept(&mut self.stage, id - self.task.first) {
+            Some(filter) => Ok(filter),
+            None => Err(NoMemory),
+        }
     }
 
     /// The number of the level that it filled, the level, or `None` where no entry was left, and how many entries its

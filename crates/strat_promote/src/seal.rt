@@ -54,6 +54,7 @@ fn seal_one<D: Disk>(
     ensures room { TakesMore space.old space.new writer.old.extents writer.new.extents }
     ensures same { TearsBlocks (is_free space.old) (D.view disk.old) (D.view disk.new)
         × (writer.new.id ≡ writer.old.id) × (writer.new.count ≡ writer.old.count) }
+    ensures filter { writer.new.filter ≡ writer.old.filter }
     ensures cause { MatchResult result (λ _. D.faults disk.new ≡ D.faults disk.old)
         (λ e. MeetsObstacle e (D.faults disk.old) (D.faults disk.new)) }
     ensures reads { D.reads disk.new ≡ D.reads disk.old }

@@ -8,6 +8,7 @@ ghost use Rattle.def_crash.specs.Image.{Image};
 ghost use Rattle.def_crash.specs.Moments.{Exposes};
 ghost use Rattle.strat_extent.specs.Blocks.{is_free};
 ghost use Rattle.strat_promote.specs.Closing.{AreAllUsed, all_extents};
+ghost use Rattle.strat_promote.specs.Filters.{AreFiltered};
 ghost use Rattle.strat_promote.specs.Job.{Job, IsBadInput, arrays_to, blocks_listed};
 ghost use Rattle.strat_promote.specs.Owned.{OwnsItsBlocks};
 ghost use Rattle.strat_promote.specs.Spaces.{HasAmpleRoom, TakesMore};
@@ -92,8 +93,13 @@ pub(crate) fn take_steps<D: Disk>(
         → AreUsed space.old (blocks_listed job.arrays)
         → IsUnderway f job task.now.first stage.old
         → SlicesOn f g task.now job (stage_consumed stage.old + budget) stage.new step) }
-    ensures found { AreAllUsed space.new (stage_writers stage.new) }
-    ensures room { TakesMore space.old space.new (all_extents (stage_writers stage.old))
+    ensures filters { IfOk result (λ step. (f g : Image) (job : Job) → Exposes (D.view disk.old) f
+        → Exposes (D.view disk.new) g → IsTaskIn f task.now (inputs_of sources.now) job
+        → AreUsed space.old (blocks_listed job.arrays) → IsUnderway f job task.now.first stage.old
+        → MatchStep step (Unit {0})
+        (λ level. AreFiltered g task.now.first (stage_writers stage.new) level)) }
+    ensures room { AreAllUsed space.new (stage_writers stage.new)
+        × TakesMore space.old space.new (all_extents (stage_writers stage.old))
         (all_extents (stage_writers stage.new)) }
     ensures same { TearsBlocks (is_free space.old) (D.view disk.old) (D.view disk.new) }
     ensures cause { HasCause Device (D.faults disk.old) (D.faults disk.new) result }

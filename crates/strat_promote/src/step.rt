@@ -18,6 +18,7 @@ ghost use Rattle.strat_promote.specs.Budget.{TakesOneKey};
 ghost use Rattle.strat_promote.specs.Closing.{AreAllUsed, all_extents};
 ghost use Rattle.strat_promote.specs.Counted.{AreReadOf, IsCounter, IsCounting};
 ghost use Rattle.strat_promote.specs.Filled.{IsFilling};
+ghost use Rattle.strat_promote.specs.Filters.{AreFiltered};
 ghost use Rattle.strat_promote.specs.Passes.{OpensInputs};
 ghost use Rattle.strat_promote.specs.Written.{IsWriterOf, IsWriting, IsAllWritten};
 ghost use Rattle.strat_promote.specs.Turning.{GoesFurther, stage_after, AreAllNew, MatchStep, WritesOn};
@@ -211,6 +212,9 @@ fn finish_writing<D: Disk>(
         → IsMade f g job task.now.target task.now.first made) }
     ensures kept { (writing.new.merger ≡ writing.old.merger)
         × IfOk result (λ made. OwnsItsBlocks writing.new.filling.writers.items made) }
+    ensures filters { IfOk result (λ made. (f g : Image) (job : Job) → Exposes (D.view disk.old) f
+        → Exposes (D.view disk.new) g → IsAllWritten input_seen f job task.now.first writing.old
+        → AreFiltered g task.now.first writing.new.filling.writers.items made) }
     ensures fits { IsErrOf result Unfit → HasFewFree space.old 16384 }
     ensures found { AreAllUsed space.new writing.new.filling.writers.items }
     ensures room { TakesMore space.old space.new (all_extents writing.old.filling.writers.items)
@@ -246,11 +250,16 @@ fn step_writing<D: Disk>(
         → AreUsed space.old (blocks_listed job.arrays)
         → IsWriting input_seen f job task.now.first writing.old
         → WritesOn f g task.now job (consumed_of writing.old.merger) writing.new step) }
+    ensures filters { IfOk result (λ step. (f g : Image) (job : Job) → Exposes (D.view disk.old) f
+        → Exposes (D.view disk.new) g → IsTaskIn f task.now (inputs_of sources.now) job
+        → AreUsed space.old (blocks_listed job.arrays)
+        → IsWriting input_seen f job task.now.first writing.old → MatchStep step (Unit {0})
+        (λ level. AreFiltered g task.now.first writing.new.filling.writers.items level)) }
     ensures fits { IsErrOf result Unfit → (f : Image) (job : Job) → Exposes (D.view disk.old) f
         → IsWriting input_seen f job task.now.first writing.old
         → HasFewFree space.old (2 ^ 28 + 16384) }
-    ensures found { AreAllUsed space.new writing.new.filling.writers.items }
-    ensures room { TakesMore space.old space.new (all_extents writing.old.filling.writers.items)
+    ensures room { AreAllUsed space.new writing.new.filling.writers.items
+        × TakesMore space.old space.new (all_extents writing.old.filling.writers.items)
         (all_extents writing.new.filling.writers.items) }
     ensures same { TearsBlocks (is_free space.old) (D.view disk.old) (D.view disk.new) }
     ensures cause { HasCause Device (D.faults disk.old) (D.faults disk.new) result }
@@ -311,8 +320,13 @@ pub(crate) fn take_step<D: Disk>(
         → AreUsed space.old (blocks_listed job.arrays) → IsUnderway f job task.now.first stage.old
         → StepsOn f g task.now job (stage_consumed stage.old) stage.new step
         × GoesFurther stage.old stage.new step) }
-    ensures found { AreAllUsed space.new (stage_writers stage.new) }
-    ensures room { TakesMore space.old space.new (all_extents (stage_writers stage.old))
+    ensures filters { IfOk result (λ step. (f g : Image) (job : Job) → Exposes (D.view disk.old) f
+        → Exposes (D.view disk.new) g → IsTaskIn f task.now (inputs_of sources.now) job
+        → AreUsed space.old (blocks_listed job.arrays) → IsUnderway f job task.now.first stage.old
+        → MatchStep step (Unit {0})
+        (λ level. AreFiltered g task.now.first (stage_writers stage.new) level)) }
+    ensures room { AreAllUsed space.new (stage_writers stage.new)
+        × TakesMore space.old space.new (all_extents (stage_writers stage.old))
         (all_extents (stage_writers stage.new)) }
     ensures same { TearsBlocks (is_free space.old) (D.view disk.old) (D.view disk.new) }
     ensures cause { HasCause Device (D.faults disk.old) (D.faults disk.new) result }

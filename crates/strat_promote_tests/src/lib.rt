@@ -6,6 +6,8 @@ mod bare;
 #[cfg(test)]
 mod drawn;
 #[cfg(test)]
+mod filters;
+#[cfg(test)]
 mod history;
 #[cfg(test)]
 mod large;

@@ -1,10 +1,8 @@
 -- The next contents of a store, from what was promoted and written.
-use Rattle.std.proofs.Common.{◌≡◌, ◌≤◌, ◌+◌, ◌^◌, ℕ, Bool, true, false, not, cond, inl, inr, leb, ltb, ◌&&◌, List, [], ◌∷◌, ◌++◌, length, map, Contains, flat_map, Option, None, Some, IsSome, refl, sym, ap, ◌∙◌, subst, arith, true≢false}
+use Rattle.std.proofs.Common.{◌≡◌, ◌≤◌, ◌+◌, ◌^◌, ℕ, Bool, true, false, not, cond, inl, inr, leb, ltb, ◌&&◌, List, [], ◌∷◌, ◌++◌, length, map, flat_map, Option, None, Some, IsSome, refl, sym, ap, ◌∙◌, subst, arith, true≢false}
 use Rattle.std.specs.List.{sum_by}
 use Rattle.std.proofs.lemmas.Bool.{and_parts, and_from, not-true, false_from_ne_true}
-use Rattle.std.proofs.lemmas.List.Elements.{Contains-append_right}
 use Rattle.std.proofs.lemmas.List.Sums.{sum_by-cons}
-use Rattle.strat_array.specs.Taking.{AreUsed}
 use Rattle.strat_base.proofs.ListFacts.{Among, among_flat, among_left}
 use Rattle.strat_base.specs.declared.descriptors.ArrayDesc.{ArrayDesc}
 use Rattle.strat_base.specs.declared.descriptors.Extent.{Extent}
@@ -16,31 +14,30 @@ use Rattle.def_crash.specs.Moments.{DiskView, Exposes}
 use Rattle.strat_extent.proofs.CountLemmas.{times_append}
 use Rattle.strat_extent.specs.Blocks.{SpaceView, is_used, is_free, uses}
 use Rattle.strat_extent.specs.Change.{IsMarked}
-use Rattle.def_bytes.specs.Arrays.{all_some, blocks_of}
+use Rattle.def_bytes.specs.Arrays.{blocks_of}
 use Rattle.def_bytes.specs.Manifest.{Manifest, is_rising}
 use Rattle.strat_journal.specs.Log.{Log}
 use Rattle.strat_promote.proofs.SpacesLemmas.{blocks_joined}
-use Rattle.strat_promote.specs.Job.{blocks_listed}
 use Rattle.strat_promote.specs.Promotions.{entries_if_any}
 use Rattle.def_promote.specs.Promoted.{levels_behind, promoted}
+use Rattle.def_promote.specs.Sealed.{grown_by}
 use Rattle.def_recovery.specs.Head.{descriptors}
-use Rattle.def_recovery.specs.Opened.{level_on}
 use Rattle.def_publish.proofs.FreeLemmas.{free_stands}
-use Rattle.def_publish.proofs.ListLemmas.{contained_among}
 use Rattle.def_publish.proofs.LongLemmas.{bytes_few}
 use Rattle.def_publish.proofs.NextLemmas.{array_at, arrays_are, changes_bound, entries_made, few_parts, next_lawful}
-use Rattle.def_publish.proofs.OccupiedLemmas.{free_beside, named_used, taken_beside}
-use Rattle.def_publish.proofs.PromotedLemmas.{promoted_state, promoted_whole}
-use Rattle.def_publish.specs.Contents.{Contents, contents_state, named_blocks}
+use Rattle.def_publish.proofs.OccupiedLemmas.{free_beside, taken_beside}
+use Rattle.def_publish.proofs.PromotedLemmas.{promoted_state}
+use Rattle.def_publish.specs.Contents.{Contents, later_part, sealed_state}
 use Rattle.def_publish.specs.Next.{IsNextOf, MayBeNext, HasManifest, arrays_made}
 use Rattle.def_publish.specs.Occupied.{IsSpaceOf, UsesMore, extents_of, arrays_in}
 use Rattle.def_publish.specs.Standing.{ContentsStand, LeavesContent}
-use Rattle.def_state.specs.Sound.{IsSound}
-use Rattle.def_state.specs.State.{State, IsPaid}
-use Rattle.strat_cursor.specs.Looking.{arrays_there}
+use Rattle.def_state.specs.State.{IsPaid}
+use Rattle.strat_memory.proofs.FilterLemmas.{filtered_after}
+use Rattle.strat_memory.specs.Filters.{LevelFilters, AreFiltersOn}
 use Rattle.strat_memory.specs.Memory.{Memory}
-use Rattle.strat_publish.specs.Promoting.{HoldInMemory, IsPromotedTo}
+use Rattle.strat_publish.specs.Promoting.{IsPromotedTo}
 use Rattle.strat_publish.specs.Publishing.{MayBeWritten, MayCompute, IsComputedBy, IsWrittenBeside, IsWrittenTo, manifest_after, contents_after, descs_to, descs_behind}
+use Rattle.strat_publish.proofs.KeepingLemmas.{fresh_filtered, fresh_numbered}
 use Rattle.strat_publish.proofs.NextContentsLemmas.{after_next, computed, next_here, numbers_rise}
 use Rattle.strat_publish.proofs.WritingLemmas.{space_written}
 
@@ -81,38 +78,14 @@ blocks_filled (a ∷ arrays) each =
 
 -- what a store has that may compute its next contents
 module _ (v : DiskView) (s : SpaceView) (m : Memory) (levels : List (Option LevelDesc)) (log : Log) (x : Contents) (others : List Extent) (may : MayCompute v s m levels log x others) where
-  abbrev f : Image
-  f = may.stands.content
-
-  holds : HoldInMemory f (contents_state x) m levels
-  holds = record {
-    entries = may.memory.entries;
-    levels_are = ap (all_some (level_on f)) may.placed.listed_are ∙ (may.stands.reads f may.stands.left).lies.arrays;
-    numbered = may.placed.numbered;
-    parents = may.memory.parents;
-  }
-
-  used : AreUsed s (blocks_listed (arrays_there levels))
-  used b of =
-      let listed : arrays_there levels ≡ descriptors x.chained.manifest = ap (flat_map (λ (l : LevelDesc). l.arrays)) may.placed.listed_are in
-      let there = subst (λ (rs : List ArrayDesc). Contains (blocks_listed rs) b) listed of in
-      named_used s x others may.space b (contained_among (named_blocks x) b (Contains-append_right x.chained.blocks (blocks_listed (descriptors x.chained.manifest)) b there))
-
-  -- no bound is reached that none of its images gives
-  pub none_reached : (mem : ℕ) → x.sb.mem ≡ mem
-      → ((g : Image) (st : State) → Exposes v g → IsSound st → st.mem ≡ mem → HoldInMemory g st m levels → AreUsed s (blocks_listed (arrays_there levels)) → ⊥) → ⊥
-  none_reached mem mem_is never = never f (contents_state x) may.stands.exposed may.stands.sound mem_is holds used
-
   -- a promotion made a level of it
   module _ (w : DiskView) (mem : ℕ) (mem_is : x.sb.mem ≡ mem) (old : Manifest) (old_is : x.chained.manifest ≡ old) (target : ℕ) (made : Option LevelDesc) (promoting : TearsBlocks (is_free s) v w) (between : LeavesContent w)
-      (promotes : (f g : Image) (st : State) → Exposes v f → Exposes w g → IsSound st → st.mem ≡ mem → HoldInMemory f st m levels → AreUsed s (blocks_listed (arrays_there levels)) → IsPromotedTo g st old.next_array target made) where
+      (promotes : (y : Contents) (l : Log) (es : List Extent) (g : Image) → MayCompute v s m levels l y es → y.sb.mem ≡ mem → y.chained.manifest.next_array ≡ old.next_array → Exposes w g → IsPromotedTo g y target made) where
     at : ContentsStand w x
     at = free_stands (is_free s) x (free_beside s x others may.space) v w promoting may.stands between
 
-    made_here : IsPromotedTo at.content (contents_state x) x.chained.manifest.next_array target made
-    made_here =
-        subst (λ (k : Manifest). IsPromotedTo at.content (contents_state x) k.next_array target made) (sym old_is)
-        (promotes f at.content (contents_state x) may.stands.exposed at.exposed may.stands.sound mem_is holds used)
+    made_here : IsPromotedTo at.content x target made
+    made_here = promotes x log others at.content may mem_is (ap (λ (k : Manifest). k.next_array) old_is) at.exposed
 
     rising : is_rising (map (λ (d : LevelDesc). d.number) x.chained.manifest.levels) ≡ true
     rising = numbers_rise x.chained.manifest may.lawful
@@ -120,13 +93,13 @@ module _ (v : DiskView) (s : SpaceView) (m : Memory) (levels : List (Option Leve
     -- the next contents, with a manifest of so many bytes in these blocks
     module _ (first size : ℕ) (blocks : List ℕ) where
       abbrev new : Contents
-      new = contents_after x m target made (made_here.says.fresh ++ levels_behind target x.levels) first size blocks
+      new = contents_after x m target made (made_here.last.says.fresh ++ levels_behind target x.levels) first size blocks
 
       next : IsNextOf x new made (descs_to target x.chained.manifest.levels) (descs_behind target x.chained.manifest.levels)
-      next = after_next x m target made (made_here.says.fresh ++ levels_behind target x.levels) first size blocks may.memory may.stands.sound (omega (arith, may.full)) rising
+      next = after_next x m target made (made_here.last.says.fresh ++ levels_behind target x.levels) first size blocks may.memory may.stands.sound rising
 
       follows : MayBeNext at.content at.content x new made (descs_to target x.chained.manifest.levels) (descs_behind target x.chained.manifest.levels)
-      follows = (next_here at.content x new target made (at.reads at.content at.left) may.stands.sound may.full made_here.says made_here.fresh refl next rising).0
+      follows = (next_here at.content x new target made (at.reads at.content at.left) may.stands.sound may.full made_here.last.says made_here.last.fresh refl next rising).0
 
     -- its manifest may be written
     pub may_be_written : MayBeWritten (manifest_after old m target made)
@@ -165,7 +138,9 @@ module _ (v : DiskView) (s : SpaceView) (m : Memory) (levels : List (Option Leve
     -- and where it was, they are computed
     module _ (u : DiskView) (t r : SpaceView) (first size : ℕ) (chain : List Extent) (taken : UsesMore s (extents_of (arrays_made made)) t) (writing : TearsBlocks (is_free t) w u) (marked : IsMarked t chain r)
         (after : LeavesContent u) (manifest : Manifest) (manifest_is : manifest ≡ manifest_after old m target made)
-        (stored : IsSome w.content → (g : Image) → Exposes u g → (new : Contents) → IsWrittenTo first size chain manifest new → HasManifest g new) where
+        (stored : IsSome w.content → (g : Image) → Exposes u g → (new : Contents) → IsWrittenTo first size chain manifest new → HasManifest g new)
+        (low : 1 ≤ target) (filters : LevelFilters)
+        (keeps : (y : Contents) (l : Log) (es : List Extent) (g : Image) → MayCompute v s m levels l y es → y.sb.mem ≡ mem → y.chained.manifest.next_array ≡ old.next_array → Exposes w g → AreFiltersOn g (arrays_made made) filters) where
       abbrev later : Contents
       later = new first size (blocks_of chain)
 
@@ -202,19 +177,27 @@ module _ (v : DiskView) (s : SpaceView) (m : Memory) (levels : List (Option Leve
           some_told None g e = absurd (cc)
           some_told (Some h) g e = refl
 
-      pub computed_by : IsComputedBy u r x m log target made first size chain others
+      pub computed_by : IsComputedBy u r x m log target made first size chain others filters
       computed_by = record {
-        levels = made_here.says.fresh ++ levels_behind target x.levels;
+        levels = made_here.last.says.fresh ++ levels_behind target x.levels;
         computed = computed v w u s t r x later target made others (may.chain ++ (extents_of (arrays_in (descs_to target x.chained.manifest.levels)) ++ others)) beside rising log may.log_is;
         used = used_after;
-        fresh = made_here.fresh;
+        fresh = made_here.last.fresh;
         paid = λ paid honest full.
-            let p = made_here.paid paid honest full in
-            let both : Some p.fresh ≡ Some made_here.says.fresh = sym p.read ∙ made_here.says.read in
-            let same : p.fresh ≡ made_here.says.fresh = cc in
+            let p = made_here.paid paid honest in
+            let both : Some p.fresh ≡ Some made_here.last.says.fresh = sym p.read ∙ made_here.last.says.read in
+            let same : p.fresh ≡ made_here.last.says.fresh = cc in
             let sum = entries_counted made in
-            let state = promoted_state x later may.stands.sound (next first size (blocks_of chain)).promoted ∙ promoted_whole x later (omega (arith, may.full)) in
+            let state = promoted_state x later may.stands.sound (next first size (blocks_of chain)).promoted in
+            let then = p.paid later.chained.manifest.next_array in
+            let now : IsPaid (grown_by (promoted (sealed_state x) (p.fresh ++ levels_behind target x.levels) (x.chained.manifest.written + entries_if_any made) later.chained.manifest.next_array) (later_part x)) =
+            record { shallow = then.shallow; bounded = then.bounded } in
             subst IsPaid
-            ((λ i. promoted (contents_state x) (same i ++ levels_behind target x.levels) (x.chained.manifest.written + sum i) later.chained.manifest.next_array) ∙ sym state)
-            (p.paid later.chained.manifest.next_array);
+            ((λ i. grown_by (promoted (sealed_state x) (same i ++ levels_behind target x.levels) (x.chained.manifest.written + sum i) later.chained.manifest.next_array) (later_part x)) ∙ sym state)
+            now;
+        filtered = λ before of.
+            let on : AreFiltersOn at.content (arrays_made made) filters = keeps x log others at.content may mem_is (ap (λ (k : Manifest). k.next_array) old_is) at.exposed in
+            filtered_after before target filters low made_here.last.says.fresh x.levels of
+            (fresh_numbered at.content made made_here.last.says.fresh made_here.last.says.read target made_here.last.numbered)
+            (fresh_filtered at.content made made_here.last.says.fresh made_here.last.says.read filters on);
       }

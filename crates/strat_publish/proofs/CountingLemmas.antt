@@ -24,6 +24,7 @@ use Rattle.def_state.specs.State.{IsPaid}
 use Rattle.strat_publish.proofs.WholeLemmas.{whole_read}
 use Rattle.strat_publish.proofs.SettledLemmas.{free_here, next_arrays}
 use Rattle.strat_publish.proofs.SettlingLemmas.{listed_arrays}
+use Rattle.strat_memory.specs.Filters.{LevelFilters}
 use Rattle.strat_memory.specs.Held.{Held, IsConsistent, StandsWith, contents_held}
 use Rattle.strat_memory.specs.Paying.{ArePaidSince}
 use Rattle.strat_publish.specs.Counting.{CountsWritten}
@@ -37,8 +38,8 @@ paid_beside v w s x stands beside paid c since =
     paid_as c x (free_reads beside.free x (free_here v w s x stands beside) v w beside.tears stands.stands.reads c since) paid
 
 -- the next manifest counts what was written
-pub counts_next : (w : DiskView) (s : Held) (x : Contents) → IsConsistent s → x ≡ contents_held s x.levels → (sb : Super) (chained : Chained) → IsReadied w s x sb chained → CountsWritten s.chained.manifest chained.manifest
-counts_next w s x whole held sb chained ready =
+pub counts_next : (w : DiskView) (s : Held) (x : Contents) → IsConsistent s → x ≡ contents_held s x.levels → (sb : Super) (chained : Chained) (filters : List LevelFilters) → IsReadied w s x sb chained filters → CountsWritten s.chained.manifest chained.manifest
+counts_next w s x whole held sb chained filters ready =
     let c = ready.computed in
     let next = c.next.follows.next in
     let n : ℕ = s.chained.manifest.next_array in
@@ -63,7 +64,7 @@ counts_next w s x whole held sb chained ready =
     ap (filter is_new) listed ∙ filter-append is_new made rest ∙ (λ i. filter_each is_new made high i ++ filter_none is_new rest low i) ∙ append-nil made in
     record {
       raised = next.written ∙ (λ i. (same i).written + sum_by (λ (a : ArrayDesc). a.entries) (sym chosen i));
-      others = λ a of old. elim (next_arrays w s x held sb chained ready a (contained_among (descriptors chained.manifest) a of)) [
+      others = λ a of old. elim (next_arrays w s x held sb chained filters ready a (contained_among (descriptors chained.manifest) a of)) [
         | inl new ↦ absurd (omega (arith, new, old))
         | inr was ↦ among_contained (descriptors s.chained.manifest) a was
       ];

@@ -297,7 +297,7 @@ module _ (s : Held) (target : ℕ) (sb : Super) (chained : Chained) (levels : Li
   left_times : (b : ℕ) → times_in (extents_of left) b ≤ times_in (extents_of taken) b + times_in (extents_of c.retired) b
   left_times b = retired_times taken c b
 
-  pub kept_next : AreKept sb chained levels (renewed s.sb.mem taken s.memory)
+  pub kept_next : AreKept sb chained levels (renewed taken s.memory)
   kept_next = record {
     named = λ a of.
         let opened : (retired_all taken c).opened ≡ c.opened = (retired_rest c taken).0 in

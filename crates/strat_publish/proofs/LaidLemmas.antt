@@ -26,6 +26,7 @@ use Rattle.def_publish.specs.Standing.{LeavesContent}
 use Rattle.def_publish.proofs.ListLemmas.{among_contained}
 use Rattle.def_publish.proofs.LocalLemmas.{manifest_local}
 use Rattle.def_publish.proofs.PlaceLemmas.{places, newest_chosen, newest_local}
+use Rattle.strat_memory.specs.Filters.{LevelFilters}
 use Rattle.strat_memory.specs.Held.{Held, IsConsistent, IsOnDisk, contents_held}
 use Rattle.strat_publish.specs.Publishing.{IsWrittenTo, LaysSuperblock, WritesManifest}
 use Rattle.strat_publish.specs.Settling.{KeepsPublished, WritesBeside, held_next}
@@ -110,10 +111,10 @@ written_as v w sb is chained here sb_is chained_is written =
     subst (λ (k : Super). WritesManifest v w k.manifest k.length here) (sym sb_is) (subst (λ (ch : Chained). WritesManifest v w sb.manifest sb.length ch) (sym chained_is) written)
 
 -- a superblock that leads to a manifest written beside what a store holds takes its place
-pub published_on : (v w u : DiskView) (s : Held) (target : ℕ) (sb : Super) (chained : Chained) (levels : List (Option LevelDesc)) → IsConsistent s → sb.format ≡ newest_format → WritesBeside v w s → WritesManifest v w sb.manifest sb.length chained
+pub published_on : (v w u : DiskView) (s : Held) (target : ℕ) (sb : Super) (chained : Chained) (levels : List (Option LevelDesc)) (made : LevelFilters) → IsConsistent s → sb.format ≡ newest_format → WritesBeside v w s → WritesManifest v w sb.manifest sb.length chained
     → LeavesContent w → LaysSuperblock w u s.log.mem (1 - s.slot) sb → Passes w u → s.sb.generation < sb.generation → sb.mem ≡ s.sb.mem → belongs sb chained ≡ true
-    → IsOnDisk v s → IsOnDisk u (held_next s target sb chained levels)
-published_on v w u s target sb chained levels whole format beside written leaves laid time greater mem belonging on =
+    → IsOnDisk v s → IsOnDisk u (held_next s target sb chained levels made)
+published_on v w u s target sb chained levels made whole format beside written leaves laid time greater mem belonging on =
     let mid = beside_on v w s beside on in
     let told = some_told u.content (time.exposed (told_some w.content mid.content mid.exposed)) in
     let g : Image = mid.content in
@@ -127,6 +128,6 @@ published_on v w u s target sb chained levels whole format beside written leaves
           manifest_local sb.format g c sb.manifest sb.length chained
           (ap (λ (f : ℕ). manifest_at f g sb.manifest sb.length) format ∙ written (told_some v.content on.content on.exposed) g mid.exposed)
           (λ b among.
-          let behind = chain_behind (held_next s target sb chained levels) belonging b among in
+          let behind = chain_behind (held_next s target sb chained levels made) belonging b among in
           laid.behind g c mid.exposed left b (le-ltb b (first_free s.log.mem) (omega (arith, behind, mem, log_mem))));
     }

@@ -5,6 +5,7 @@ pub mod PromotingLemmas
 pub mod WritingLemmas
 pub mod ComputingLemmas
 pub mod NextContentsLemmas
+pub mod KeepingLemmas
 pub mod ComputedLemmas
 pub mod WholeLemmas
 pub mod RoomLemmas
@@ -12,6 +13,8 @@ pub mod ObstacleLemmas
 pub mod SettlingLemmas
 pub mod RetiringLemmas
 pub mod KeptLemmas
+pub mod SealedLemmas
 pub mod SettledLemmas
 pub mod CountingLemmas
 pub mod LaidLemmas
+pub mod PartsLemmas

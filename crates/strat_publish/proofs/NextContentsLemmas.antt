@@ -1,5 +1,5 @@
 -- The contents that a promotion and the next manifest make.
-use Rattle.std.proofs.Common.{◌≡◌, ◌≤◌, ◌<◌, ℕ, suc, Bool, true, false, cond, leb, ltb, inl, inr, List, [], ◌∷◌, ◌++◌, length, map, filter, drop, Option, Some, refl, sym, ap, ◌∙◌, subst, arith, not, eqb, replicate, None}
+use Rattle.std.proofs.Common.{◌≡◌, ◌≤◌, ◌<◌, ℕ, suc, Bool, true, false, cond, leb, ltb, inl, inr, List, [], ◌∷◌, ◌++◌, length, map, filter, drop, Option, Some, refl, sym, ap, ◌∙◌, arith, not, eqb, replicate, None}
 use Rattle.std.specs.Option.{option_to_list}
 use Rattle.std.proofs.Math.Seq.{drop-append_seam}
 use Rattle.std.proofs.lemmas.Bool.{and_parts, cases_lt, lt-leb, le-leb, lt-ltb, le-ltb, ltb-true, not-true, eqb-true}
@@ -13,6 +13,7 @@ use Rattle.def_bytes.specs.Manifest.{Manifest, is_lawful_manifest, is_rising}
 use Rattle.def_bytes.proofs.ManifestLemmas.{pass_at}
 use Rattle.strat_journal.specs.Log.{Log}
 use Rattle.def_promote.specs.Promoted.{levels_behind, promoted, SaysTheSame}
+use Rattle.def_promote.specs.Sealed.{grown_by}
 use Rattle.def_recovery.proofs.OpeningLemmas.{each_some, map_some, manifest_tests}
 use Rattle.def_recovery.specs.Head.{parent_numbers}
 use Rattle.def_recovery.specs.Opened.{array_on, level_on}
@@ -20,23 +21,25 @@ use Rattle.def_publish.proofs.ComputedLemmas.{promotion_next}
 use Rattle.def_publish.proofs.FreeLemmas.{free_stands}
 use Rattle.def_publish.proofs.LocalLemmas.{levels_local}
 use Rattle.def_publish.proofs.PlaceLemmas.{newest_fits}
-use Rattle.def_publish.proofs.PromotedLemmas.{none_later, promoted_whole, sealed_whole}
+use Rattle.def_publish.proofs.PromotedLemmas.{sealed_ordered}
+use Rattle.def_slice.proofs.LastLemmas.{last_promotes}
 use Rattle.def_publish.proofs.OccupiedLemmas.{array_blocks_used, taken_beside, free_beside}
 use Rattle.def_publish.specs.Appending.{IsLogOf}
-use Rattle.def_publish.specs.Contents.{Contents, contents_head, contents_state}
+use Rattle.def_publish.specs.Contents.{Contents, contents_head, contents_state, later_part, sealed_state}
 use Rattle.strat_promote.specs.Replacing.{LeavesTheSame}
-use Rattle.def_publish.specs.Next.{AreNewArrays, IsNextOf, IsPromotion, MayBeNext, arrays_made, state_after}
+use Rattle.def_publish.specs.Next.{AreNewArrays, IsNextOf, IsPromotion, MayBeNext, arrays_made}
 use Rattle.def_publish.specs.Occupied.{IsSpaceOf, extents_of}
 use Rattle.def_publish.specs.Standing.{ContentsStand, ReadsAs}
 use Rattle.def_state.specs.Level.{Level}
 use Rattle.def_state.specs.Sound.{IsSound, is_tree, is_tree_from}
-use Rattle.def_state.specs.State.{changes_of, updates_of, versions_of, marks_of}
-use Rattle.strat_memory.specs.Memory.{Memory, IsMemoryOf}
+use Rattle.def_state.specs.State.{marks_of, versions_of}
+use Rattle.strat_memory.specs.Memory.{Memory, IsMemoryOf, oldest_parents}
 use Rattle.strat_publish.specs.Publishing.{IsComputed, IsWrittenBeside, contents_after, descs_to, descs_behind}
 use Rattle.def_bytes.specs.Layout.{newest_format}
 use Rattle.strat_base.specs.Marks.{Marks, none_dropped}
 use Rattle.strat_base.specs.Tree.{Parents}
-use Rattle.def_state.proofs.SoundLemmas.{sound_tree, sound_pruned}
+use Rattle.strat_publish.proofs.SealedLemmas.{oldest_counts, parents_then, undropped_front}
+use Rattle.def_state.proofs.SoundLemmas.{ordered, sound_tree, sound_pruned}
 use Rattle.def_promote.proofs.LevelsLemmas.{tree_test}
 
 rising_behind : (n : ℕ) (ns : List ℕ) → is_rising (n ∷ ns) ≡ true → is_rising ns ≡ true
@@ -129,21 +132,22 @@ rooted_all (Some p ∷ parents) tree =
     let rest = (and_parts (ltb 0 (length (Some p ∷ parents))) (is_tree_from 0 (Some p ∷ parents)) tree).1 in
     absurd (omega (arith, ltb-true p 0 (and_parts (ltb p 0) (is_tree_from 1 parents) rest).0))
 
--- where none of them was dropped their marks are clear
-marks_clear : (x : Contents) (m : Memory) → IsMemoryOf (contents_head x) m → IsSound (contents_state x) → replicate (suc (length (parent_numbers m.parents))) false ≡ marks_of (contents_state x)
+-- where none of them was dropped their marks are clear, also those that there were when level 0 was sealed
+marks_clear : (x : Contents) (m : Memory) → IsMemoryOf (contents_head x) m → IsSound (contents_state x) → replicate (suc (length (parent_numbers (oldest_parents m)))) false ≡ marks_of (sealed_state x)
 marks_clear x m of sound =
-    let marks : Marks = marks_of (contents_state x) in
-    let versions : Parents = versions_of (contents_state x) in
-    let many : length marks ≡ suc (length (parent_numbers m.parents)) =
-    (sound_pruned (contents_state x) sound.formed).len ∙ rooted_all versions (tree_test versions (sound_tree (contents_state x) sound.formed))
-    ∙ ap (λ (ps : Parents). suc (length (parent_numbers ps))) (sym of.parents) in
-    sym (clear_marks marks of.undropped ∙ ap (λ (n : ℕ). replicate n false) many)
+    let marks : Marks = marks_of (sealed_state x) in
+    let versions : Parents = versions_of (sealed_state x) in
+    let formed = (sealed_ordered x (ordered (contents_state x) sound)).formed in
+    let many : length marks ≡ suc (length (parent_numbers (oldest_parents m))) =
+    (sound_pruned (sealed_state x) formed).len ∙ rooted_all versions (tree_test versions (sound_tree (sealed_state x) formed))
+    ∙ ap (λ (ps : Parents). suc (length (parent_numbers ps))) (sym (parents_then (contents_head x) m of)) in
+    sym (clear_marks marks (undropped_front (contents_head x) m of) ∙ ap (λ (n : ℕ). replicate n false) many)
 
 -- the next manifest makes the next contents
-pub after_next : (old : Contents) (m : Memory) (target : ℕ) (made : Option LevelDesc) (levels : List Level) (first size : ℕ) (blocks : List ℕ) → IsMemoryOf (contents_head old) m → IsSound (contents_state old) → length old.journal ≤ old.sb.mem
+pub after_next : (old : Contents) (m : Memory) (target : ℕ) (made : Option LevelDesc) (levels : List Level) (first size : ℕ) (blocks : List ℕ) → IsMemoryOf (contents_head old) m → IsSound (contents_state old)
     → is_rising (map (λ (d : LevelDesc). d.number) old.chained.manifest.levels) ≡ true
     → IsNextOf old (contents_after old m target made levels first size blocks) made (descs_to target old.chained.manifest.levels) (descs_behind target old.chained.manifest.levels)
-after_next old m target made levels first size blocks of sound few rising = record {
+after_next old m target made levels first size blocks of sound rising = record {
   slot = refl;
   generation = refl;
   region = refl;
@@ -152,12 +156,12 @@ after_next old m target made levels first size blocks of sound few rising = reco
     changes_max = refl;
     versions_max = refl;
     format = refl;
-    marks = marks_clear old m of sound ∙ ap marks_of (sym (sealed_whole old few));
+    marks = marks_clear old m of sound;
     compacted = refl;
-    parents = ap parent_numbers (of.parents ∙ ap versions_of (sym (sealed_whole old few)));
-    updates = of.updates ∙ ap updates_of (sym (sealed_whole old few));
-    changes = of.changes ∙ ap changes_of (sym (sealed_whole old few));
-    journal = sym (none_later old few);
+    parents = ap parent_numbers (parents_then (contents_head old) m of);
+    updates = (oldest_counts (contents_head old) m of).1;
+    changes = (oldest_counts (contents_head old) m of).2;
+    journal = refl;
   };
   written = refl;
   next_array = refl;
@@ -166,24 +170,14 @@ after_next old m target made levels first size blocks of sound few rising = reco
 }
 
 -- contents with a level that was made may be the next ones, in an image that has it
-module _ (c : Image) (old new : Contents) (target : ℕ) (made : Option LevelDesc) (reads : ReadsAs c old) (sound : IsSound (contents_state old)) (full : length old.journal ≡ old.sb.mem)
-    (left : LeavesTheSame c made (contents_state old) (λ fresh written next. promoted (contents_state old) (fresh ++ levels_behind target old.levels) written next))
+module _ (c : Image) (old new : Contents) (target : ℕ) (made : Option LevelDesc) (reads : ReadsAs c old) (sound : IsSound (contents_state old)) (full : old.sb.mem ≤ length old.journal)
+    (left : LeavesTheSame c made (contents_state old) (λ fresh written next. grown_by (promoted (sealed_state old) (fresh ++ levels_behind target old.levels) written next) (later_part old)))
     (numbered : AreNewArrays old.chained.manifest.next_array (arrays_made made)) (levels : new.levels ≡ left.fresh ++ levels_behind target old.levels)
     (next : IsNextOf old new made (descs_to target old.chained.manifest.levels) (descs_behind target old.chained.manifest.levels))
     (rising : is_rising (map (λ (d : LevelDesc). d.number) old.chained.manifest.levels) ≡ true) where
   promotion_here : IsPromotion c old new made (descs_to target old.chained.manifest.levels)
   promotion_here =
-      let same : promoted (contents_state old) (left.fresh ++ levels_behind target old.levels) new.chained.manifest.written new.chained.manifest.next_array ≡ state_after old new =
-      ap (λ (ls : List Level). promoted (contents_state old) ls new.chained.manifest.written new.chained.manifest.next_array) (sym levels)
-      ∙ sym (promoted_whole old new (omega (arith, full))) in
-      record {
-        fresh = left.fresh;
-        lies = reads.lies;
-        read = left.read;
-        levels = levels ∙ ap (λ (ls : List Level). left.fresh ++ ls) (behind_dropped c old.chained.manifest.levels old.levels target reads.lies.arrays rising);
-        sound = subst IsSound same (left.sound new.chained.manifest.written new.chained.manifest.next_array);
-        says = subst (SaysTheSame (contents_state old)) same (left.says new.chained.manifest.written new.chained.manifest.next_array);
-      }
+      last_promotes c old new made (descs_to target old.chained.manifest.levels) target reads.lies left levels (behind_dropped c old.chained.manifest.levels old.levels target reads.lies.arrays rising)
 
   pub next_here : MayBeNext c c old new made (descs_to target old.chained.manifest.levels) (descs_behind target old.chained.manifest.levels) × SaysTheSame (contents_state old) (contents_state new)
   next_here =
@@ -202,17 +196,18 @@ module _ (v w u : DiskView) (s t r : SpaceView) (old new : Contents) (target : �
   at_end : ContentsStand u old
   at_end = free_stands (is_free t) old (free_beside t old (extents_of (arrays_made made) ++ besides) space_between) w u b.writing between b.after
 
-  made_read : all_some (level_on at_end.content) (option_to_list made) ≡ Some b.promoted.says.fresh
+  made_read : all_some (level_on at_end.content) (option_to_list made) ≡ Some b.promoted.last.says.fresh
   made_read =
       levels_local b.content at_end.content (option_to_list made) (λ c among.
       b.writing.content b.content at_end.content b.exposed at_end.exposed c (array_blocks_used s t made c b.taken among))
-      ∙ b.promoted.says.read
+      ∙ b.promoted.last.says.read
 
   pub computed : IsComputed u new.slot new.sb log old new
   computed =
-      let left : LeavesTheSame at_end.content made (contents_state old) (λ fresh written next. promoted (contents_state old) (fresh ++ levels_behind target old.levels) written next) =
-      record { fresh = b.promoted.says.fresh; read = made_read; says = b.promoted.says.says; sound = b.promoted.says.sound } in
-      let may = next_here at_end.content old new target made (at_end.reads at_end.content at_end.left) at_end.sound b.full left b.promoted.fresh b.levels b.next rising in
+      let left : LeavesTheSame at_end.content made (contents_state old) (λ fresh written next.
+      grown_by (promoted (sealed_state old) (fresh ++ levels_behind target old.levels) written next) (later_part old)) =
+      record { fresh = b.promoted.last.says.fresh; read = made_read; says = b.promoted.last.says.says; sound = b.promoted.last.says.sound } in
+      let may = next_here at_end.content old new target made (at_end.reads at_end.content at_end.left) at_end.sound b.full left b.promoted.last.fresh b.levels b.next rising in
       record {
         stands = at_end;
         log_is = is_log;

@@ -1,52 +1,56 @@
 -- A promotion of what a store has in memory: from what is begun and made to what is told of it.
-use Rattle.std.proofs.Common.{◌≡◌, ◌≤◌, ◌+◌, ◌*◌, ◌^◌, ℕ, zero, suc, List, [], ◌∷◌, ◌++◌, length, map, Contains, Option, Some, None, Result, Err, IsErrOf, ltb, refl, sym, ap, ◌∙◌, subst, arith}
-use Rattle.std.specs.List.{AllByRecursion, list_all, flat_map, slice_get, sum, range_with_len}
+use Rattle.std.proofs.Common.{◌≡◌, ◌≤◌, ◌<◌, ◌+◌, ◌*◌, ◌^◌, ℕ, zero, suc, List, [], ◌∷◌, ◌++◌, length, map, Contains, Option, Some, None, Result, Err, IsErrOf, ltb, refl, sym, ap, ◌∙◌, subst, arith}
+use Rattle.std.specs.List.{list_all, flat_map, slice_get, sum, range_with_len}
+use Rattle.std.specs.Option.{option_and_then}
 use Rattle.std.proofs.lemmas.Grind.{flat_map-append}
 use Rattle.std.proofs.lemmas.List.{append_assoc, length-append, length-map}
 use Rattle.std.proofs.lemmas.List.Elements.{Contains-append_left}
-use Rattle.std.proofs.lemmas.Option.{slice_get_within}
 use Rattle.strat_arena.specs.Items.{entry_of_item}
 use Rattle.strat_arena.specs.PoolView.{arena_at}
 use Rattle.strat_arena.specs.declared.pool.PoolEntry.{PoolEntry}
-use Rattle.strat_array.proofs.SpellingLemmas.{maximal_lawful, maximal_apart}
-use Rattle.strat_array.specs.Pushed.{AreMaximal}
 use Rattle.strat_array.specs.Progress.{ArrayProgress}
 use Rattle.strat_array.specs.Taking.{AreUsed}
-use Rattle.strat_array.specs.Within.{AreWithin}
 use Rattle.strat_base.specs.Entries.{Entry}
-use Rattle.strat_base.specs.Tree.{Parents, IsTree, parent_of}
+use Rattle.strat_base.specs.Tree.{Parents, parent_of}
 use Rattle.strat_base.specs.declared.descriptors.ArrayDesc.{ArrayDesc}
 use Rattle.strat_base.specs.declared.descriptors.Extent.{Extent}
 use Rattle.strat_base.specs.declared.descriptors.LevelDesc.{LevelDesc}
-use Rattle.def_crash.proofs.BlockLemmas.{keeps_refl}
+use Rattle.def_crash.specs.Blocks.{TearsBlocks}
 use Rattle.def_crash.specs.Image.{Image}
-use Rattle.strat_extent.specs.Blocks.{SpaceView, times_in, used_count}
+use Rattle.def_crash.specs.Moments.{DiskView, Exposes}
+use Rattle.strat_extent.specs.Blocks.{SpaceView, is_free, times_in, used_count}
 use Rattle.def_bytes.specs.Arrays.{blocks_of}
+use Rattle.strat_journal.specs.Log.{Log}
 use Rattle.strat_level.specs.Levels.{level_numbered, leads_if_any}
 use Rattle.strat_level.specs.Memtable.{ItemList, ListStands, entries_held}
-use Rattle.strat_promote.proofs.ReplacingLemmas.{made_arrays, made_promotes}
-use Rattle.strat_promote.proofs.StateInputsLemmas.{begun_takes, begun_job, begun_its_job, begun_leaves, begun_paid}
 use Rattle.strat_promote.specs.Job.{Job, IsBadInput, arrays_to, blocks_listed}
 use Rattle.strat_promote.specs.Owned.{OwnsItsBlocks, extents_made}
-use Rattle.strat_promote.specs.Promotions.{IsBegun, IsFed, IsItsJob, ReadsFrom, ReadsOf, ReadsItsBlocks, SamePromotion, inputs_given, target_of, extents_taken, blocks_to_read, writers_of}
+use Rattle.strat_promote.specs.Promotions.{IsBegun, IsFed, IsItsJob, HasBegun, IsSliced, ReadsFrom, ReadsOf, ReadsItsBlocks, SamePromotion, inputs_given, target_of, level_of, extents_taken, entries_taken, leads_listed, blocks_to_read, writers_of}
 use Rattle.strat_promote.specs.Closing.{all_extents}
 use Rattle.strat_promote.specs.Spaces.{TakesMore}
-use Rattle.strat_promote.specs.Stages.{IsMade, IsPlanMade, IsReadFrom, IsReadOf, stage_writers, blocks_due}
-use Rattle.strat_promote.specs.StateInputs.{IsBegunOver, job_of_state}
+use Rattle.strat_promote.specs.Stages.{IsReadFrom, IsReadOf, stage_writers, blocks_due}
 use Rattle.strat_promote.specs.Steps.{Inputs}
+use Rattle.strat_promote.specs.declared.promotion.Progress.TheVariants as progress
 use Rattle.strat_promote.specs.declared.promotion.Promotion.{Promotion}
 use Rattle.strat_promote.specs.declared.stage.Stage.{Stage}
-use Rattle.strat_promote.specs.declared.step.Task.{Task}
-use Rattle.def_promote.specs.Promoted.{levels_to, levels_behind}
-use Rattle.def_publish.proofs.PartLemmas.{arrays_new}
-use Rattle.def_publish.specs.Next.{AreArraysOf, arrays_made}
+use Rattle.def_slice.proofs.BegunLemmas.{begun_whole, is_begun_of}
+use Rattle.def_slice.proofs.DoneLemmas.{slices_last}
+use Rattle.def_slice.proofs.LastLemmas.{done_paid}
+use Rattle.def_slice.proofs.MadeLemmas.{last_made}
+use Rattle.def_slice.proofs.OpenedLemmas.{does_its_job, listed_used}
+use Rattle.def_slice.specs.Ending.{SlicesLast}
+use Rattle.def_slice.specs.Opened.{AreLent, IsBegunOf, IsOpenOver, MayRead, OpenPromotion, job_open, opened_with}
+use Rattle.def_publish.proofs.PlaceLemmas.{newest_fits}
+use Rattle.def_publish.specs.Contents.{Contents, contents_head, sealed_state}
+use Rattle.def_publish.specs.Next.{arrays_made}
 use Rattle.def_publish.specs.Occupied.{UsesMore, extents_of}
-use Rattle.def_state.specs.Sound.{IsSound}
-use Rattle.def_state.specs.State.{State, versions_of}
+use Rattle.def_publish.specs.Standing.{ReadsAs}
+use Rattle.def_state.specs.State.{versions_of}
 use Rattle.strat_cursor.specs.Looking.{arrays_there}
-use Rattle.strat_memory.specs.Memory.{Memory}
-use Rattle.strat_publish.specs.Promoting.{MayPromote, HoldInMemory, IsPromotedTo}
-use Rattle.def_state.proofs.SoundLemmas.{ordered}
+use Rattle.strat_publish.proofs.SealedLemmas.{oldest_counts, oldest_listed, versions_then}
+use Rattle.strat_memory.specs.Memory.{Memory, oldest_entries, oldest_versions}
+use Rattle.strat_publish.specs.Promoting.{MayPromote, IsPromotedTo}
+use Rattle.strat_publish.specs.Publishing.{MayCompute}
 
 -- the arrays of the levels down to a number stand in front of the others
 pub to_front : (levels : List (Option LevelDesc)) (j : ℕ) → (rest : List ArrayDesc) × (arrays_there levels ≡ arrays_to levels j ++ rest)
@@ -80,12 +84,6 @@ blocks_fewer levels j =
     let two = length-append (blocks_listed (arrays_to levels j)) front.0 in
     omega (arith, all, two)
 
--- what holds of the extents of each array
-extents_at : (P : List Extent → Type 0) (arrays : List ArrayDesc) (q : ℕ) (a : ArrayDesc) → AllByRecursion P (map (λ (x : ArrayDesc). x.extents) arrays) → slice_get arrays q ≡ Some a → P a.extents
-extents_at P [] q a all there = absurd (cc)
-extents_at P (x ∷ arrays) zero a all there = let e : x ≡ a = cc in subst (λ (y : ArrayDesc). P y.extents) e all.0
-extents_at P (x ∷ arrays) (suc q) a all there = extents_at P arrays q a all.1 there
-
 joined : {X : Type 0} (f : X → List Extent) (xs : List X) → flat_map (λ (es : List Extent). es) (map f xs) ≡ flat_map f xs
 joined f [] = refl
 joined f (x ∷ xs) = ap (λ (es : List Extent). f x ++ es) (joined f xs)
@@ -94,10 +92,19 @@ made_extents : (made : Option LevelDesc) → flat_map (λ (es : List Extent). es
 made_extents None = refl
 made_extents (Some level) = joined (λ (a : ArrayDesc). a.extents) level.arrays
 
+-- versions in front have the parents that they had
+slice_front : (xs ys : Parents) (v : ℕ) → v < length xs → slice_get (xs ++ ys) v ≡ slice_get xs v
+slice_front [] ys v lt = absurd (omega (arith, lt))
+slice_front (x ∷ xs) ys zero lt = refl
+slice_front (x ∷ xs) ys (suc v) lt = slice_front xs ys v (omega (arith, lt))
+
+parent_front : (xs ys : Parents) (v : ℕ) → v < length xs → parent_of xs v ≡ parent_of (xs ++ ys) v
+parent_front xs ys v lt = ap (λ (o : Option (Option ℕ)). option_and_then (λ parent. parent) o) (sym (slice_front xs ys v lt))
+
 module _ (m : Memory) (levels : List (Option LevelDesc)) (mem id versions : ℕ) (list : ItemList) (pool : List PoolEntry) (parents : Parents) (p : Promotion)
-    (entries_are : entries_held pool list ≡ m.entries) (parents_are : parents ≡ m.parents) (rooted : IsTree parents) (count : versions ≡ length parents) (begun : IsBegun list levels mem versions id p) where
-  horizon_is : p.task.horizon ≡ length m.parents
-  horizon_is = begun.horizon ∙ count ∙ ap (λ (ps : Parents). length ps) parents_are
+    (entries_are : entries_held pool list ≡ oldest_entries m) (parents_are : parents ≡ m.parents) (count : versions ≡ oldest_versions m) (known : versions ≤ length m.parents) (begun : IsBegun list levels mem versions id p) where
+  horizon_is : p.task.horizon ≡ oldest_versions m
+  horizon_is = begun.horizon ∙ count
 
   pub fed : ListStands pool list → MayPromote m levels id → IsFed p (inputs_given list pool levels parents)
   fed stands may = record {
@@ -108,84 +115,89 @@ module _ (m : Memory) (levels : List (Option LevelDesc)) (mem id versions : ℕ)
       low = λ a v of tagged. let lt = may.arrays.low a v (array_there levels p.task.target a of) tagged in omega (arith, lt, horizon_is);
     };
     target = begun.fits;
-    some = omega (arith, begun.horizon, count, rooted.some);
-    known = omega (arith, begun.horizon, count);
+    some = omega (arith, horizon_is, may.some);
+    known = omega (arith, begun.horizon, known, ap (λ (ps : Parents). length ps) parents_are);
     first = omega (arith, begun.first, may.first);
   }
 
-  -- it is a promotion of the state that is held
-  over_state : (f : Image) (s : State) → s.mem ≡ mem → HoldInMemory f s m levels → MayPromote m levels id → IsBegunOver f s (inputs_given list pool levels parents) p
-  over_state f s mem_is holds may =
-      let same : parents ≡ versions_of s = parents_are ∙ holds.parents in
-      let size : length list.items ≡ length m.entries = sym (length-map list.items (entry_of_item (arena_at pool list.arena).pairs)) ∙ ap (λ (es : List Entry). length es) entries_are in
-      let many : versions ≡ length (versions_of s) = count ∙ ap (λ (ps : Parents). length ps) same in
-      record {
-        holds = record {
-          zero = entries_are ∙ holds.entries;
-          levels = holds.levels_are;
-          numbered = holds.numbered;
-          parents = λ v lt. ap (λ (ps : Parents). parent_of ps v) (sym same);
-        };
-        next_array = id;
-        begun = subst (λ (n : ℕ). IsBegun list levels n (length (versions_of s)) id p) (sym mem_is) (subst (λ (n : ℕ). IsBegun list levels mem n id p) many begun);
-        few = subst (λ (n : ℕ). sum (n ∷ map (λ k. leads_if_any (level_numbered levels k)) (range_with_len 1 22)) ≤ 2 ^ 24) (sym size) may.few;
-      }
+  sized : length list.items ≡ length (oldest_entries m)
+  sized = sym (length-map list.items (entry_of_item (arena_at pool list.arena).pairs)) ∙ ap (λ (es : List Entry). length es) entries_are
 
-  module _ (f g : Image) (s : State) (mem_is : s.mem ≡ mem) (holds : HoldInMemory f s m levels) (may : MayPromote m levels id) (sound : IsSound s) where
-    abbrev over : IsBegunOver f s (inputs_given list pool levels parents) p
-    over = over_state f s mem_is holds may
+  -- it is open over the contents of a store that may compute its next ones, with a budget of all that they have
+  module _ (v : DiskView) (space : SpaceView) (log : Log) (x : Contents) (others : List Extent) (may : MayCompute v space m levels log x others) (mem_is : x.sb.mem ≡ mem) (id_is : x.chained.manifest.next_array ≡ id)
+      (promotes : MayPromote m levels id) where
+    abbrev pub f : Image
+    f = may.stands.content
 
-    abbrev the_job : Job
-    the_job = job_of_state s levels (target_of p)
+    abbrev pub inputs : Inputs
+    inputs = inputs_given list pool levels parents
 
-    pub its_job : IsItsJob f p (inputs_given list pool levels parents) the_job
-    its_job = begun_its_job f s (inputs_given list pool levels parents) p (ordered s sound) over
+    reads : ReadsAs f x
+    reads = may.stands.reads f may.stands.left
 
-    module _ (made : Option LevelDesc) (writers : List ArrayProgress) (owns : OwnsItsBlocks writers made) where
-      arrays_of_plan : (is : IsMade f g the_job (target_of p) id made) → (o : Option LevelDesc) → made ≡ o → AreArraysOf is.plan id (arrays_made o)
-      arrays_of_plan is None e =
-          let none : is.plan.parts ≡ [] = subst (λ (o : Option LevelDesc). IsPlanMade g the_job (target_of p) id is.groups is.plan o) e is.level in
-          record { len = sym (ap (λ (ps : List _). length ps) none); each = λ q a there. absurd (cc) }
-      arrays_of_plan is (Some level) e =
-          let one = subst (λ (o : Option LevelDesc). IsPlanMade g the_job (target_of p) id is.groups is.plan o) e is.level in
-          let spelled = subst (λ (o : Option LevelDesc). AllByRecursion (λ (xs : List Extent). AreMaximal xs × AreWithin xs) (extents_made o)) e owns.each in
-          record {
-            len = one.len;
-            each = λ q a there.
-                let within = slice_get_within level.arrays q a there in
-                let got =
-                made_arrays f g s (target_of p) id (levels_to (target_of p) s.levels) (levels_behind (target_of p) s.levels) the_job made is
-                (begun_job f s (inputs_given list pool levels parents) p (ordered s sound) over) (ordered s sound) level one q (omega (arith, within, one.len)) in
-                let both : Some got.0 ≡ Some a = sym got.1 ∙ there in
-                let same : got.0 ≡ a = cc in
-                let here : AreMaximal a.extents × AreWithin a.extents = extents_at (λ (xs : List Extent). AreMaximal xs × AreWithin xs) level.arrays q a spelled there in
-                record {
-                  id = sym (ap (λ (x : ArrayDesc). x.id) same) ∙ got.2;
-                  versions = sym (ap (λ (x : ArrayDesc). x.versions) same) ∙ got.3;
-                  entries = sym (ap (λ (x : ArrayDesc). x.entries) same) ∙ got.4;
-                  lawful = maximal_lawful a.extents here.0 here.1;
-                  apart = maximal_apart a.extents here.0;
-                };
-          }
+    many : oldest_versions m ≡ length (versions_of (sealed_state x))
+    many = (oldest_counts (contents_head x) m may.memory).0
 
-      to_here : 4 ≤ mem → IsMade f g the_job (target_of p) id made → IsPromotedTo g s id (target_of p) made
-      to_here some is =
-          let inputs : Inputs = inputs_given list pool levels parents in
-          let promotes =
-          made_promotes f g s (target_of p) id (levels_to (target_of p) s.levels) (levels_behind (target_of p) s.levels) the_job made is
-          (begun_job f s inputs p (ordered s sound) over) (begun_takes f s inputs p (ordered s sound) over) in
-          record {
-            says = begun_leaves f s inputs p (ordered s sound) over f g p id made (record { task = refl }) (λ b of. keeps_refl b f) is sound;
-            paid = λ paid honest full. begun_paid f s inputs p (ordered s sound) over f g p id made (record { task = refl }) (λ b of. keeps_refl b f) is paid (omega (arith, some, mem_is)) honest (λ first. full);
-            fresh = arrays_new _ _ _ is.plan id (arrays_made made) promotes.split.split (arrays_of_plan is made refl);
-            numbered = λ level e. (subst (λ (o : Option LevelDesc). IsPlanMade g the_job (target_of p) id is.groups is.plan o) e is.level).number;
-          }
+    begun_here : IsBegun list levels x.sb.mem (length (versions_of (sealed_state x))) x.chained.manifest.next_array p
+    begun_here =
+        subst (λ (n : ℕ). IsBegun list levels n (length (versions_of (sealed_state x))) x.chained.manifest.next_array p) (sym mem_is)
+        (subst (λ (n : ℕ). IsBegun list levels mem n x.chained.manifest.next_array p) (count ∙ many) (subst (λ (n : ℕ). IsBegun list levels mem versions n p) (sym id_is) begun))
 
-      pub promoted_to : 4 ≤ mem → (q : Promotion) → SamePromotion p q → IsMade f g the_job (target_of q) q.task.first made → IsPromotedTo g s id (target_of q) made
-      promoted_to some q same is =
-          let at_p : IsMade f g the_job p.task.target p.task.first made = subst (λ (t : Task). IsMade f g the_job t.target t.first made) same.task is in
-          subst (λ (t : Task). IsPromotedTo g s id t.target made) (sym same.task)
-          (to_here some (subst (λ (n : ℕ). IsMade f g the_job p.task.target n made) begun.first at_p))
+    begun_of : IsBegunOf x (oldest_entries m) levels p
+    begun_of =
+        is_begun_of x (oldest_entries m) levels list p may.full (oldest_listed (contents_head x) m may.memory) may.placed.listed_are may.placed.numbered sized begun_here
+        (subst (λ (n : ℕ). sum (n ∷ map (λ k. leads_if_any (level_numbered levels k)) (range_with_len 1 22)) ≤ 2 ^ 24) (sym sized) promotes.few)
+
+    may_read : MayRead (oldest_entries m) levels (length (versions_of (sealed_state x))) x.chained.manifest.next_array
+    may_read = record {
+      low = (λ i. list_all (λ (e : Entry). ltb e.version (sym many i)) (oldest_entries m)) ∙ promotes.low;
+      arrays = λ j. record {
+        within = λ a of. promotes.arrays.within a (array_there levels j a of);
+        low = λ a u of tagged. let lt = promotes.arrays.low a u (array_there levels j a of) tagged in omega (arith, lt, many);
+      };
+      some = omega (arith, many, promotes.some);
+      first = omega (arith, id_is, promotes.first);
+    }
+
+    lent : AreLent (oldest_entries m) levels (sealed_state x) inputs
+    lent = record {
+      zero = entries_are;
+      levels_are = refl;
+      parents = λ u lt.
+          let front = versions_then (contents_head x) m may.memory in
+          parent_front (versions_of (sealed_state x)) front.0 u lt ∙ ap (λ (ps : Parents). parent_of ps u) (sym (parents_are ∙ front.1));
+    }
+
+    abbrev pub promotion_open : OpenPromotion
+    promotion_open = opened_with (leads_listed list levels) p space (2 ^ 63)
+
+    pub opened : IsOpenOver f x (length x.journal) (oldest_entries m) levels others promotion_open
+    opened = begun_whole f x (oldest_entries m) levels others inputs p space (2 ^ 63) reads may.stands.sound begun_of may_read lent may.space (omega arith)
+
+    abbrev pub the_job : Job
+    the_job = job_open x levels opened.going.was
+
+    pub its_job : IsItsJob f p inputs the_job
+    its_job = does_its_job f x (length x.journal) (oldest_entries m) levels others promotion_open inputs reads may.stands.sound opened lent
+
+    pub used : AreUsed space (blocks_listed the_job.arrays)
+    used = listed_used f f x (length x.journal) (oldest_entries m) levels others promotion_open opened
+
+    pub underway : HasBegun f the_job p
+    underway = opened.underway
+
+    -- so what its one slice made takes the place of what was sealed
+    pub promoted_to : (w : DiskView) (g : Image) (q : Promotion) → Exposes w g → TearsBlocks (is_free space) v w × SamePromotion p q
+        → ((e h : Image) (job : Job) → Exposes v e → Exposes w h → IsItsJob e p inputs job → AreUsed space (blocks_listed job.arrays) → HasBegun e job p → IsSliced e h job (entries_taken p + 2 ^ 63) q progress.Done)
+        → OwnsItsBlocks (writers_of q) (level_of q) → IsPromotedTo g x (target_of q) (level_of q)
+    promoted_to w g q now same does owns =
+        let last : SlicesLast f g x (oldest_entries m) levels the_job promotion_open q inputs =
+        slices_last v w f x (length x.journal) (oldest_entries m) levels others promotion_open q space inputs may.stands.exposed reads may.stands.sound opened lent g now same does in
+        record {
+          last = last_made f g x (length x.journal) (oldest_entries m) levels others promotion_open q inputs opened last owns;
+          paid = λ paid honest.
+              done_paid f g x (length x.journal) (oldest_entries m) levels others promotion_open q inputs opened last paid (let least = (newest_fits f x.slot x.sb reads.newest).mem_least in omega (arith, least)) honest;
+        }
 
   -- the blocks that were taken are those of the level
   pub takes_its_blocks : (before after : SpaceView) (q : Promotion) (made : Option LevelDesc) → TakesMore before after (extents_taken p) (extents_taken q) → OwnsItsBlocks (writers_of q) made

@@ -1,12 +1,17 @@
 -- A publication of a store: what stands before it, between its calls and after it.
-use Rattle.std.proofs.Common.{◌≡◌, ◌≤◌, ◌+◌, ◌-◌, ◌*◌, ℕ, Bool, true, false, eqb, ◌&&◌, ◌||◌, inl, inr, ◌⊎◌, List, [], ◌∷◌, ◌++◌, length, Contains, flat_map, fold, map, Option, None, Some, refl, sym, ap, ◌∙◌, subst, arith, true≢false}
+use Rattle.std.proofs.Common.{◌≡◌, ◌≤◌, ◌-◌, ◌*◌, ℕ, Bool, true, false, eqb, ◌&&◌, ◌||◌, inl, inr, ◌⊎◌, List, [], ◌∷◌, ◌++◌, length, Contains, ◌+◌, drop, take, flat_map, fold, map, Option, None, Some, refl, sym, ap, ◌∙◌, subst, arith, true≢false}
 use Rattle.std.specs.List.{list_all}
 use Rattle.std.specs.Option.{option_to_list}
+use Rattle.std.specs.Prelude.{filter_map, is_some}
+use Rattle.std.proofs.lemmas.List.{length-append, length-drop, take-append-drop}
+use Rattle.std.proofs.lemmas.List.Folds.{list_all-append}
+use Rattle.std.proofs.lemmas.List.Sums.{fold-append}
 use Rattle.std.proofs.lemmas.Bool.{and_parts, eqb-true, le-ltb}
 use Rattle.std.proofs.lemmas.Option.{slice_get_within, get_or_from_slice_get}
 use Rattle.strat_array.specs.Kept.{Blocks}
-use Rattle.strat_base.proofs.ListFacts.{Among, all_at, among_flat, among_in_flat, among_split, among_right, range_among}
-use Rattle.strat_base.specs.Change.{Change, Put, Delete, Clone, DropVersion}
+use Rattle.strat_base.proofs.ListFacts.{filter_map-append, Among, all_at, among_flat, among_in_flat, among_split, among_right, range_among}
+use Rattle.strat_base.specs.Change.{Change, Put, Delete, Clone, DropVersion, is_lawful}
+use Rattle.strat_base.specs.Marks.{none_dropped}
 use Rattle.strat_base.specs.Entries.{Entry, is_ascending, lead_entries}
 use Rattle.strat_base.specs.Tree.{Parents}
 use Rattle.strat_base.specs.declared.descriptors.ArrayDesc.{ArrayDesc}
@@ -29,8 +34,8 @@ use Rattle.strat_promote.proofs.LeadLemmas.{read_whole}
 use Rattle.strat_promote.specs.Job.{IsBadInput, blocks_listed}
 use Rattle.strat_promote.specs.Leads.{misfit_in}
 use Rattle.def_recovery.proofs.OpeningLemmas.{map_some}
-use Rattle.def_recovery.specs.Head.{Head, head_versions, head_updates, parent_numbers, descriptors}
-use Rattle.def_recovery.specs.Opened.{array_on, level_on}
+use Rattle.def_recovery.specs.Head.{Head, head_changes, head_versions, head_updates, parent_numbers, descriptors}
+use Rattle.def_recovery.specs.Opened.{array_on, level_on, parents_in}
 use Rattle.def_recovery.specs.Opening.{belongs}
 use Rattle.def_meaning.specs.StateTable.{table_of}
 use Rattle.def_publish.proofs.FreeLemmas.{free_stands, free_trail}
@@ -38,39 +43,32 @@ use Rattle.def_publish.proofs.ListLemmas.{contained_among, among_contained}
 use Rattle.def_publish.proofs.TableLemmas.{same_table}
 use Rattle.def_publish.specs.Contents.{Contents, contents_state}
 use Rattle.def_publish.specs.Next.{arrays_made}
-use Rattle.def_publish.specs.Occupied.{arrays_in}
 use Rattle.def_publish.specs.Standing.{AreFree, LeavesContent, ShowsTable, ContentsStand}
 use Rattle.def_state.specs.Level.{TaggedArray, Level, own_leads, least_live}
-use Rattle.def_state.specs.Sound.{IsSound, is_described, has_ascending_entries}
-use Rattle.def_state.specs.State.{State, versions_of, tree_after}
+use Rattle.def_state.specs.Sound.{IsSound, are_accepted, is_described, has_ascending_entries}
+use Rattle.def_state.specs.State.{State, marks_after, versions_of, tree_after, update_of}
+use Rattle.def_state.proofs.UndroppedLemmas.{none_after_all}
 use Rattle.strat_publish.proofs.LookLawLemmas.{made_of}
-use Rattle.strat_memory.proofs.MemoryLawLemmas.{memory_emptied}
+use Rattle.strat_publish.proofs.PartsLemmas.{accepted_back, accepted_with}
 use Rattle.strat_publish.proofs.KeptLemmas.{array_named, held_behind, kept_next, named_behind}
 use Rattle.strat_publish.proofs.RetiringLemmas.{retired_room}
+use Rattle.strat_publish.proofs.SealedLemmas.{oldest_counts, parents_then, undropped_front, emptied_first, emptied_next, let_go, ready_cursors, ready_manifest, ready_of, ready_parents}
 use Rattle.strat_publish.proofs.SettlingLemmas.{listed_arrays, named_there}
 use Rattle.strat_publish.specs.Outcomes.{IsDamagedIn, IsPublishedAs}
+use Rattle.strat_memory.specs.Filters.{LevelFilters, filters_after}
 use Rattle.strat_memory.specs.Held.{Held, AreKept, ArePlaced, IsConsistent, StandsWith, arrays_held, contents_held, head_held}
 use Rattle.strat_cursor.specs.Cursors.{retired_all}
 use Rattle.strat_cursor.specs.Held.{HeldCursors}
 use Rattle.strat_cursor.specs.Looking.{AreCachedFrom, arrays_there}
-use Rattle.strat_memory.specs.Memory.{Memory, IsMemoryOf, emptied, prepared, renewed}
-use Rattle.strat_publish.specs.Publishing.{is_in_front, manifest_after}
+use Rattle.strat_memory.specs.Memory.{Memory, IsMemoryOf, IsReadyFrom, emptied, head_full, renewed, unsealed}
+use Rattle.strat_publish.specs.Publishing.{is_in_front}
 use Rattle.strat_publish.specs.Settling.{held_next, contents_next, MayFollow, StandApart, WritesBeside, IsReadied, ArePublishedAfter, ArePublishedTo, arrays_taken}
 
--- memory that is prepared for a publication, or is not
-pub consistent_ready : (s : Held) (o : Option ℕ) (n : ℕ) (m : Memory) → m ≡ prepared s.memory o n → IsConsistent s → IsConsistent (record s { memory = m })
-consistent_ready s o n m is whole =
-    let of : IsMemoryOf (head_held s) (prepared s.memory o n) = record {
-      changes_max = whole.memory.changes_max;
-      versions_max = whole.memory.versions_max;
-      parents = whole.memory.parents;
-      undropped = whole.memory.undropped;
-      updates = whole.memory.updates;
-      changes = whole.memory.changes;
-      entries = whole.memory.entries;
-      room = whole.memory.room;
-    } in
-    let kept : AreKept s.sb s.chained s.levels (prepared s.memory o n) = record {
+-- a store keeps what it holds as its memory is another of its head, with the cursors that it had
+memory_kept : (s : Held) (m : Memory) → IsMemoryOf (head_held s) m → m.cursors ≡ record s.memory.cursors { room = m.cursors.room } → IsConsistent s → IsConsistent (record s { memory = m })
+memory_kept s m of cursors whole =
+    let k : Memory = record m { cursors = record s.memory.cursors { room = m.cursors.room } } in
+    let here : AreKept s.sb s.chained s.levels k = record {
       named = whole.kept.named;
       needed = whole.kept.needed;
       ids = whole.kept.ids;
@@ -79,6 +77,7 @@ consistent_ready s o n m is whole =
       once = whole.kept.once;
       few = whole.kept.few;
     } in
+    let same : k ≡ m = λ i. record m { cursors = sym cursors i } in
     record {
       slot = whole.slot;
       lawful = whole.lawful;
@@ -86,59 +85,62 @@ consistent_ready s o n m is whole =
       belonging = whole.belonging;
       log = whole.log;
       accepted = whole.accepted;
-      memory = subst (λ (k : Memory). IsMemoryOf (head_held s) k) (sym is) of;
+      memory = of;
       placed = whole.placed;
-      kept = subst (λ (k : Memory). AreKept s.sb s.chained s.levels k) (sym is) kept;
+      kept = subst (λ (j : Memory). AreKept s.sb s.chained s.levels j) same here;
     }
 
+pub consistent_ready : (s : Held) (m : Memory) → IsReadyFrom s.sb.mem s.memory m → s.sb.mem ≤ length s.log.list → IsConsistent s → IsConsistent (record s { memory = m })
+consistent_ready s m is full whole = memory_kept s m (ready_of (head_held s) s.memory m is full whole.memory) (ready_cursors s.sb.mem s.memory m is) whole
+
 pub stands_ready : (v : DiskView) (s : Held) (x : Contents) (m : Memory) → StandsWith v s x → StandsWith v (record s { memory = m }) x
-stands_ready v s x m w = record { stands = w.stands; held = w.held; cached = w.cached }
+stands_ready v s x m w = record { stands = w.stands; held = w.held; cached = w.cached; filtered = w.filtered }
 
-pub damaged_ready : (content : Option Image) (m k : Memory) (o : Option ℕ) (n : ℕ) (levels : List (Option LevelDesc)) (b : ℕ) → k ≡ prepared m o n → IsDamagedIn content k levels b → IsDamagedIn content m levels b
-damaged_ready content m k o n levels b is bad =
-    let here : IsDamagedIn content (prepared m o n) levels b = subst (λ (n : Memory). IsDamagedIn content n levels b) is bad in
-    record { listed = here.listed; bad = here.bad }
+ready_arrays : (mem : ℕ) (m k : Memory) (levels : List (Option LevelDesc)) → IsReadyFrom mem m k → arrays_held k levels ≡ arrays_held m levels
+ready_arrays mem m k levels is = ap (λ (c : HeldCursors). arrays_there levels ++ c.retired) (ready_cursors mem m k is)
 
--- memory that is prepared has the versions and the cursors of before, and room where there was room beside these
-pub still_ready : (m k now : Memory) (o : Option ℕ) (n : ℕ) → now ≡ k → k ≡ prepared m o n → (now.parents ≡ m.parents) × (now.cursors ≡ record m.cursors { room = now.cursors.room })
-still_ready m k now o n same is =
-    let all : now ≡ prepared m o n = same ∙ is in
-    (ap (λ (j : Memory). j.parents) all, ap (λ (j : Memory). j.cursors) all ∙ (λ i. record m.cursors { room = sym (ap (λ (j : Memory). j.cursors.room) all) i }))
+pub damaged_ready : (mem : ℕ) (content : Option Image) (m k : Memory) (levels : List (Option LevelDesc)) (b : ℕ) → IsReadyFrom mem m k → IsDamagedIn content k levels b → IsDamagedIn content m levels b
+damaged_ready mem content m k levels b is bad = record {
+  listed = subst (λ (rs : List ArrayDesc). Contains (blocks_listed rs) b) (ready_arrays mem m k levels is) bad.listed;
+  bad = bad.bad;
+}
 
-pub room_ready : (m k : Memory) (o : Option ℕ) (n : ℕ) (given held : List LevelDesc) → k ≡ prepared m o n → given ≡ held → length m.cursors.retired + length (arrays_in given) ≤ k.cursors.room
-    → length k.cursors.retired + length (arrays_in held) ≤ k.cursors.room
-room_ready m k o n given held is same room =
-    let kept : length k.cursors.retired ≡ length m.cursors.retired = ap (λ (j : Memory). length j.cursors.retired) is in
-    let size = ap (λ (ls : List LevelDesc). length (arrays_in ls)) same in
-    omega (arith, room, kept, size)
+-- memory that is ready has the versions and the cursors of before
+pub still_ready : (mem : ℕ) (m k now : Memory) → now ≡ k → IsReadyFrom mem m k → (now.parents ≡ m.parents) × (now.cursors ≡ record m.cursors { room = now.cursors.room })
+still_ready mem m k now same is = (
+  ap (λ (j : Memory). j.parents) same ∙ ready_parents mem m k is,
+  ap (λ (j : Memory). j.cursors) same ∙ ready_cursors mem m k is ∙ (λ i. record m.cursors { room = sym (ap (λ (j : Memory). j.cursors.room) same) i }),
+)
 
 -- so are the arrays that it holds, and what a disk exposes is one image
-pub agree_ready : (m k : Memory) (o : Option ℕ) (n : ℕ) (levels : List (Option LevelDesc)) (f g : Image) → k ≡ prepared m o n → AgreeOn (blocks_listed (arrays_held k levels)) f g → AgreeOn (blocks_listed (arrays_held m levels)) f g
-agree_ready m k o n levels f g is agree =
-    let here : AgreeOn (blocks_listed (arrays_held (prepared m o n) levels)) f g = subst (λ (j : Memory). AgreeOn (blocks_listed (arrays_held j levels)) f g) is agree in
-    here
+pub agree_ready : (mem : ℕ) (m k : Memory) (levels : List (Option LevelDesc)) (f g : Image) → IsReadyFrom mem m k → AgreeOn (blocks_listed (arrays_held k levels)) f g → AgreeOn (blocks_listed (arrays_held m levels)) f g
+agree_ready mem m k levels f g is agree = subst (λ (rs : List ArrayDesc). AgreeOn (blocks_listed rs) f g) (ready_arrays mem m k levels is) agree
 
 pub agree_once : (v : DiskView) (f g : Image) (blocks : List ℕ) → Exposes v f → Exposes v g → AgreeOn blocks f g
 agree_once v f g blocks was now b of = subst (λ (h : Image). KeepsBlock b f h) (exposed_once v f g was now) (keeps_refl b f)
 
--- what a promotion leaves, with memory prepared
-published_after : (target : ℕ) (s sb here : Super) (m next there : Manifest) (memory ready now : Memory) (o : Option ℕ) (n : ℕ) → ready ≡ prepared memory o n → here ≡ sb → there ≡ next
-    → now ≡ renewed s.mem (arrays_taken target m) ready → ArePublishedTo target s m ready sb next → ArePublishedAfter s m memory here there now.cursors
-published_after target s sb here m next there memory ready now o n same sb_is next_is now_is is =
+-- what a promotion leaves, with memory ready
+published_after : (target mem : ℕ) (s sb here : Super) (m next there : Manifest) (memory ready now : Memory) (filters left : List LevelFilters) (made : LevelFilters) → 1 ≤ target → IsReadyFrom mem memory ready → here ≡ sb → there ≡ next
+    → now ≡ renewed (arrays_taken target m) ready → left ≡ filters_after filters target made → ArePublishedTo target s m ready sb next → ArePublishedAfter s m memory filters here there now.cursors left
+published_after target mem s sb here m next there memory ready now filters left made low same sb_is next_is now_is left_is is =
     let gone : List ArrayDesc = arrays_taken target m in
+    let n : ℕ = ready.cursors.room in
     let cursors : now.cursors ≡ record (retired_all gone memory.cursors) { room = n } =
-    ap (λ (k : Memory). k.cursors) now_is ∙ ap (λ (k : Memory). retired_all gone k.cursors) same ∙ retired_room gone memory.cursors n in
+    ap (λ (k : Memory). k.cursors) now_is ∙ ap (λ (c : HeldCursors). retired_all gone c) (ready_cursors mem memory ready same) ∙ retired_room gone memory.cursors n in
     record {
       target = target;
+      made = made;
+      low = low;
       are = record {
         made = is.made;
         first = is.first;
         size = is.size;
         numbered = is.numbered;
-        manifest_is = next_is ∙ is.manifest_is ∙ ap (λ (k : Memory). manifest_after m k target is.made) same;
+        manifest_is = next_is ∙ is.manifest_is ∙ ready_manifest mem target m is.made memory ready same;
         sb_is = sb_is ∙ is.sb_is;
       };
       cursors_are = cursors ∙ (λ i. record (retired_all gone memory.cursors) { room = sym (ap (λ (c : HeldCursors). c.room) cursors) i });
+      filters_are = left_is;
     }
 
 -- while free blocks are written
@@ -182,6 +184,7 @@ stands_beside v w s x stands beside leaves =
             λ b here.
                 beside.tears.content stands.stands.content now.content stands.stands.exposed now.exposed b (beside.beside.unnamed b (array_named s a b of here)),
           )) stands.cached;
+      filtered = stands.filtered;
     }
 
 -- no block of an array that a store holds is free
@@ -231,7 +234,7 @@ made_among (Some l) level a (inl here) there = subst (λ (d : LevelDesc). Among 
 made_among (Some l) level a (inr none) there = absurd none
 
 -- the arrays of the next contents are new, or the old ones have them
-module _ (w : DiskView) (s : Held) (x : Contents) (held : x ≡ contents_held s x.levels) (sb : Super) (chained : Chained) (ready : IsReadied w s x sb chained) where
+module _ (w : DiskView) (s : Held) (x : Contents) (held : x ≡ contents_held s x.levels) (sb : Super) (chained : Chained) (filters : List LevelFilters) (ready : IsReadied w s x sb chained filters) where
   pub next_arrays : (a : ArrayDesc) → Among a (descriptors chained.manifest) → (s.chained.manifest.next_array ≤ a.id) ⊎ Among a (descriptors s.chained.manifest)
   next_arrays a among =
       let c = ready.computed in
@@ -258,9 +261,9 @@ module _ (w : DiskView) (s : Held) (x : Contents) (held : x ≡ contents_held s 
       omega (arith, more, same)
 
 -- once the next contents stand, the store stands with them
-pub published_as : (v w u : DiskView) (s : Held) (x : Contents) (target : ℕ) (sb : Super) (chained : Chained) (levels : List (Option LevelDesc)) → IsConsistent s → StandsWith v s x → WritesBeside v w s
-    → (ready : IsReadied w s x sb chained) → TearsBlocks (is_in_front s.sb.mem) w u → ContentsStand u (contents_next s sb chained ready.levels) → IsPublishedAs u x (held_next s target sb chained levels)
-published_as v w u s x target sb chained levels whole stands beside ready front now =
+pub published_as : (v w u : DiskView) (s : Held) (x : Contents) (target : ℕ) (sb : Super) (chained : Chained) (levels : List (Option LevelDesc)) (made : LevelFilters) → IsConsistent s → StandsWith v s x → WritesBeside v w s
+    → (ready : IsReadied w s x sb chained (filters_after s.filters target made)) → TearsBlocks (is_in_front s.sb.mem) w u → ContentsStand u (contents_next s sb chained ready.levels) → IsPublishedAs u x (held_next s target sb chained levels made)
+published_as v w u s x target sb chained levels made whole stands beside ready front now =
     let torn = both_torn v w u s s.sb.mem beside front in
     let f : Image = stands.stands.content in
     record {
@@ -269,8 +272,8 @@ published_as v w u s x target sb chained levels whole stands beside ready front 
         stands = now;
         held = refl;
         cached = cached_on f now.content s.chained.manifest.next_array chained.manifest.next_array (descriptors s.chained.manifest) (descriptors chained.manifest) s.cached
-            (next_later w s x stands.held sb chained ready)
-            (λ a of. elim (next_arrays w s x stands.held sb chained ready a (contained_among (descriptors chained.manifest) a of)) [
+            (next_later w s x stands.held sb chained (filters_after s.filters target made) ready)
+            (λ a of. elim (next_arrays w s x stands.held sb chained (filters_after s.filters target made) ready a (contained_among (descriptors chained.manifest) a of)) [
               | inl new ↦ inl new
               | inr was ↦
                   let there : Contains (descriptors s.chained.manifest) a = among_contained (descriptors s.chained.manifest) a was in
@@ -284,6 +287,7 @@ published_as v w u s x target sb chained levels whole stands beside ready front 
                   )
             ])
             stands.cached;
+        filtered = ready.filtered;
       };
       table = same_table (contents_state x) (contents_state (contents_next s sb chained ready.levels)) ready.computed.says;
     }
@@ -313,16 +317,45 @@ versions_back h =
     ap (λ (ps : Parents). None ∷ map (λ p. Some p) (parent_numbers ps)) grown.1 ∙ ap (λ (ns : List ℕ). None ∷ map (λ p. Some p) ns) (numbers_of grown.0) ∙ sym grown.1
 
 -- what a store holds after a publication is consistent
-pub consistent_next : (s : Held) (target : ℕ) (sb : Super) (chained : Chained) (levels : List (Option LevelDesc)) → IsConsistent s → MayFollow s sb chained
+pub consistent_next : (s : Held) (target : ℕ) (sb : Super) (chained : Chained) (levels : List (Option LevelDesc)) (made : LevelFilters) → IsConsistent s → is_some s.memory.sealed ≡ true → s.sb.mem ≤ length s.log.list → MayFollow s sb chained
     → ArePublishedTo target s.sb s.chained.manifest s.memory sb chained.manifest → is_lawful_manifest newest_format chained.manifest ≡ true → belongs sb chained ≡ true
-    → ArePlaced chained.manifest.levels levels → StandApart target s chained → IsConsistent (held_next s target sb chained levels)
-consistent_next s target sb chained levels whole follows are spelled belonging placed apart =
+    → ArePlaced chained.manifest.levels levels → StandApart target s chained → IsConsistent (held_next s target sb chained levels made)
+consistent_next s target sb chained levels made whole some full follows are spelled belonging placed apart =
     let h : Head = head_held s in
-    let new : Head = record { sb = sb; manifest = chained.manifest; journal = [] } in
+    let later : List Change = drop s.log.mem s.log.list in
+    let new : Head = record { sb = sb; manifest = chained.manifest; journal = later } in
+    let behind : later ≡ drop s.sb.mem s.log.list = ap (λ (n : ℕ). drop n s.log.list) whole.log.mem in
+    let left : length later ≡ length s.log.list - s.sb.mem = ap (λ (js : List Change). length js) behind ∙ length-drop s.sb.mem s.log.list in
+    let front : List Change = take s.sb.mem s.log.list in
+    let m : Manifest = s.chained.manifest in
+    let joined : list_all is_lawful (front ++ drop s.sb.mem s.log.list) ≡ true = ap (list_all is_lawful) (take-append-drop s.sb.mem s.log.list) ∙ whole.log.lawful in
+    let fits = and_parts (list_all is_lawful front) (list_all is_lawful (drop s.sb.mem s.log.list)) (sym (list_all-append is_lawful front (drop s.sb.mem s.log.list)) ∙ joined) in
+    let counts = oldest_counts h s.memory whole.memory in
+    let then : parents_in chained.manifest ≡ head_versions (head_full h) =
+    ap (λ (ns : List ℕ). None ∷ map (λ p. Some p) ns) (follows.parents ∙ ap parent_numbers (parents_then h s.memory whole.memory)) ∙ versions_back (head_full h) in
     let versions : head_versions new ≡ head_versions h =
-    ap (λ (ns : List ℕ). None ∷ map (λ p. Some p) ns) (follows.parents ∙ ap parent_numbers whole.memory.parents) ∙ versions_back h in
-    let updates : head_updates new ≡ head_updates h = let one = follows.updates in let two = whole.memory.updates in omega (arith, one, two) in
-    let changes : chained.manifest.changes + 0 ≡ h.manifest.changes + length h.journal = let one = follows.changes in let two = whole.memory.changes in omega (arith, one, two) in
+    (λ i. fold tree_after (then i) (behind i)) ∙ sym (fold-append tree_after (parents_in h.manifest) (take s.sb.mem s.log.list) (drop s.sb.mem s.log.list))
+    ∙ ap (fold tree_after (parents_in h.manifest)) (take-append-drop s.sb.mem s.log.list) in
+    let updates : head_updates new ≡ head_updates h =
+    (let parts = ap (λ (js : List Change). length (filter_map update_of js)) (take-append-drop s.sb.mem s.log.list) in
+    let two = ap (λ (es : List Entry). length es) (filter_map-append update_of (take s.sb.mem s.log.list) (drop s.sb.mem s.log.list)) in
+    let sum = length-append (filter_map update_of (take s.sb.mem s.log.list)) (filter_map update_of (drop s.sb.mem s.log.list)) in
+    let here = ap (λ (js : List Change). length (filter_map update_of js)) behind in
+    omega (arith, follows.updates, counts.1, parts, two, sum, here)) in
+    let changes : head_changes new ≡ head_changes h =
+    (let parts = ap (λ (js : List Change). length js) (take-append-drop s.sb.mem s.log.list) in
+    let sum = length-append (take s.sb.mem s.log.list) (drop s.sb.mem s.log.list) in
+    let here = ap (λ (js : List Change). length js) behind in
+    omega (arith, follows.changes, counts.2, parts, sum, here)) in
+    let came : are_accepted s.sb.changes_max s.sb.versions_max (parents_in m) m.marks m.changes (front ++ drop s.sb.mem s.log.list) ≡ true =
+    ap (λ (js : List Change). are_accepted s.sb.changes_max s.sb.versions_max (parents_in m) m.marks m.changes js) (take-append-drop s.sb.mem s.log.list) ∙ whole.accepted in
+    let since = accepted_back s.sb.changes_max s.sb.versions_max front (drop s.sb.mem s.log.list) (parents_in m) m.marks m.changes came in
+    let marked : none_dropped (fold marks_after m.marks front) ≡ true = undropped_front h s.memory whole.memory in
+    let here = accepted_with s.sb.changes_max s.sb.versions_max (drop s.sb.mem s.log.list) (head_versions (head_full h)) (fold marks_after m.marks front) chained.manifest.marks (m.changes + length front)
+    marked follows.undropped since in
+    let many : chained.manifest.changes ≡ m.changes + length front = follows.changes ∙ counts.2 in
+    let accepted : are_accepted sb.changes_max sb.versions_max (parents_in chained.manifest) chained.manifest.marks chained.manifest.changes later ≡ true =
+    (λ i. are_accepted (follows.changes_max i) (follows.versions_max i) (then i) chained.manifest.marks (many i) (behind i)) ∙ here in
     record {
       slot = omega arith;
       lawful = follows.lawful;
@@ -332,23 +365,23 @@ consistent_next s target sb chained levels whole follows are spelled belonging p
         mem = whole.log.mem ∙ sym follows.mem;
         active = ap other_region whole.log.active ∙ sym follows.region;
         batch = whole.log.batch;
-        few = omega arith;
-        lawful = refl;
+        few = let most = whole.log.few in omega (arith, left, most, follows.mem);
+        lawful = ap (list_all is_lawful) behind ∙ fits.1;
       };
-      accepted = refl;
+      accepted = accepted;
       memory =
-          let here = memory_emptied h new s.memory whole.memory refl follows.changes_max follows.versions_max versions updates changes follows.undropped in
-          let all : IsMemoryOf new (renewed sb.mem (arrays_taken target s.chained.manifest) s.memory) = record {
+          let undropped = none_after_all sb.changes_max sb.versions_max (parents_in chained.manifest) chained.manifest.marks chained.manifest.changes later follows.undropped accepted in
+          let here = let_go h new s.memory whole.memory some behind (let most = whole.log.few in omega (arith, left, most, follows.mem)) follows.mem follows.changes_max follows.versions_max versions updates changes undropped in
+          record {
             changes_max = here.changes_max;
             versions_max = here.versions_max;
             parents = here.parents;
             undropped = here.undropped;
             updates = here.updates;
             changes = here.changes;
-            entries = here.entries;
-            room = here.room;
-          } in
-          subst (λ (n : ℕ). IsMemoryOf new (renewed n (arrays_taken target s.chained.manifest) s.memory)) follows.mem all;
+            lists = here.lists;
+            counted = here.counted;
+          };
       placed = placed;
       kept = kept_next s target sb chained levels whole are follows.mem spelled belonging placed apart;
     }
@@ -396,20 +429,19 @@ none_damaged v s x b whole stands bad =
     let st : State = contents_state x in
     none_bad f levels st b arrays read stands.stands.sound at (bad f stands.stands.exposed)
 
--- what was emptied
-emptied_next : (mem : ℕ) (gone : List ArrayDesc) (m k now : Memory) (o : Option ℕ) (n : ℕ) → now ≡ renewed mem gone k → k ≡ prepared m o n → now ≡ record (emptied mem m) { cursors = now.cursors }
-emptied_next mem gone m k now o n is ready =
-    is ∙ ap (λ (j : Memory). record (emptied mem j) { cursors = retired_all gone k.cursors }) ready ∙ (λ i. record (emptied mem m) { cursors = sym (ap (λ (j : Memory). j.cursors) is) i })
-
 -- and what is found of a store after a publication
-pub found_next : (s t : Held) (m : Memory) (o : Option ℕ) (n target : ℕ) (sb : Super) (chained : Chained) (levels : List (Option LevelDesc)) → m ≡ prepared s.memory o n
-    → t ≡ held_next (record s { memory = m }) target sb chained levels → ArePublishedTo target s.sb s.chained.manifest m sb chained.manifest
-    → (t.slot ≡ 1 - s.slot) × ArePublishedAfter s.sb s.chained.manifest s.memory t.sb t.chained.manifest t.memory.cursors × (t.log.list ≡ [])
-    × (t.memory ≡ record (emptied s.sb.mem s.memory) { cursors = t.memory.cursors })
-found_next s t m o n target sb chained levels same is are =
-    let memory : t.memory ≡ renewed s.sb.mem (arrays_taken target s.chained.manifest) m = ap (λ (h : Held). h.memory) is in (
+pub found_next : (s t : Held) (m : Memory) (target : ℕ) (sb : Super) (chained : Chained) (levels : List (Option LevelDesc)) (made : LevelFilters) → IsReadyFrom s.sb.mem s.memory m
+    → is_some m.sealed ≡ true → s.sb.mem ≤ length s.log.list → IsConsistent s → 1 ≤ target
+    → t ≡ held_next (record s { memory = m }) target sb chained levels made → ArePublishedTo target s.sb s.chained.manifest m sb chained.manifest
+    → (t.slot ≡ 1 - s.slot) × ArePublishedAfter s.sb s.chained.manifest s.memory s.filters t.sb t.chained.manifest t.memory.cursors t.filters × (t.log.list ≡ drop s.sb.mem s.log.list)
+    × (t.memory ≡ record (unsealed s.memory) { entries = t.memory.entries; spare = t.memory.spare; ready = t.memory.ready; cursors = t.memory.cursors })
+    × (s.memory.sealed ≡ None → t.memory ≡ record (emptied s.sb.mem s.memory) { cursors = t.memory.cursors })
+found_next s t m target sb chained levels made same some full whole low is are =
+    let gone : List ArrayDesc = arrays_taken target s.chained.manifest in
+    let memory : t.memory ≡ renewed gone m = ap (λ (h : Held). h.memory) is in (
       ap (λ (h : Held). h.slot) is,
-      published_after target s.sb sb t.sb s.chained.manifest chained.manifest t.chained.manifest s.memory m t.memory o n same (ap (λ (h : Held). h.sb) is) (ap (λ (h : Held). h.chained.manifest) is) memory are,
-      ap (λ (h : Held). h.log.list) is,
-      emptied_next s.sb.mem (arrays_taken target s.chained.manifest) s.memory m t.memory o n memory same,
+      published_after target s.sb.mem s.sb sb t.sb s.chained.manifest chained.manifest t.chained.manifest s.memory m t.memory s.filters t.filters made low same (ap (λ (h : Held). h.sb) is) (ap (λ (h : Held). h.chained.manifest) is) memory (ap (λ (h : Held). h.filters) is) are,
+      ap (λ (h : Held). h.log.list) is ∙ ap (λ (n : ℕ). drop n s.log.list) whole.log.mem,
+      emptied_next s.sb.mem gone s.memory m t.memory memory same,
+      λ none. emptied_first s.sb.mem gone s.memory m t.memory memory same some none,
     )

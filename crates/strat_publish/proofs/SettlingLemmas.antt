@@ -1,5 +1,5 @@
 -- A publication of a store: what is written beside it, and what then takes its place.
-use Rattle.std.proofs.Common.{◌≡◌, ◌≤◌, ◌<◌, ◌-◌, ◌^◌, ◌&&◌, ℕ, Bool, true, false, not, cond, leb, ltb, inl, inr, List, [], ◌∷◌, ◌++◌, append-nil, length, Contains, flat_map, Option, Ok, refl, sym, ap, ◌∙◌, subst, arith, true≢false}
+use Rattle.std.proofs.Common.{◌≡◌, ◌≤◌, ◌<◌, ◌-◌, ◌^◌, ◌&&◌, ℕ, Bool, true, false, not, cond, leb, ltb, inl, inr, List, [], ◌∷◌, ◌++◌, append-nil, drop, length, Contains, flat_map, Option, Ok, refl, sym, ap, ◌∙◌, subst, arith, true≢false}
 use Rattle.std.specs.List.{list_all, range_with_len}
 use Rattle.std.proofs.lemmas.Bool.{and_parts, leb-true, le-leb, lt-ltb, not-true, false_from_ne_true}
 use Rattle.std.proofs.lemmas.List.Elements.{Contains-append_right}
@@ -38,6 +38,7 @@ use Rattle.def_publish.specs.Occupied.{IsSpaceOf, UsesMore, arrays_in, extents_o
 use Rattle.def_state.specs.Level.{Level}
 use Rattle.def_state.specs.State.{IsPaid}
 use Rattle.strat_publish.specs.Outcomes.{IsDamagedIn}
+use Rattle.strat_memory.specs.Filters.{LevelFilters, filters_after}
 use Rattle.strat_memory.specs.Held.{Held, ArePlaced, IsConsistent, StandsWith, contents_held}
 use Rattle.strat_cursor.specs.Looking.{arrays_there}
 use Rattle.strat_publish.specs.Publishing.{IsComputed, IsComputedBy, MayCompute, contents_after, manifest_after}
@@ -121,20 +122,20 @@ blames_held v s space others b own placed told = record {
 }
 
 -- the next contents are computed where a store stands, and are those of the next superblock and manifest
-pub readied : (v w : DiskView) (s : Held) (x : Contents) (space after : SpaceView) (old_chain others : List Extent) (target : ℕ) (made : Option LevelDesc) (first size : ℕ) (chain : List Extent) (m : Manifest)
-    → IsConsistent s → StandsWith v s x → length s.log.list ≡ s.sb.mem → blocks_of old_chain ≡ s.chained.blocks → ((levels : List Level) → IsSpaceOf space (contents_held s levels) others)
+pub readied : (v w : DiskView) (s : Held) (x : Contents) (space after : SpaceView) (old_chain others : List Extent) (target : ℕ) (made : Option LevelDesc) (first size : ℕ) (chain : List Extent) (m : Manifest) (filters : LevelFilters)
+    → IsConsistent s → StandsWith v s x → s.sb.mem ≤ length s.log.list → blocks_of old_chain ≡ s.chained.blocks → ((levels : List Level) → IsSpaceOf space (contents_held s levels) others)
     → ((y : Contents) (log : Log) (besides : List Extent) → MayCompute v space s.memory s.levels log y besides → y.chained.manifest ≡ s.chained.manifest → y.sb.mem ≡ s.sb.mem
-    → IsComputedBy w after y s.memory log target made first size chain besides)
+    → IsComputedBy w after y s.memory log target made first size chain besides filters)
     → m ≡ manifest_after s.chained.manifest s.memory target made
-    → IsReadied w s x (super_after s.sb first size) (record { manifest = m; blocks = blocks_of chain }) × AreNewArrays s.chained.manifest.next_array (arrays_made made)
-readied v w s x space after old_chain others target made first size chain m whole stands full chain_is own by m_is =
+    → IsReadied w s x (super_after s.sb first size) (record { manifest = m; blocks = blocks_of chain }) (filters_after s.filters target filters) × AreNewArrays s.chained.manifest.next_array (arrays_made made)
+readied v w s x space after old_chain others target made first size chain m filters whole stands full chain_is own by m_is =
     let here : IsSpaceOf space x others = subst (λ (y : Contents). IsSpaceOf space y others) (sym stands.held) (own x.levels) in
     let c = by x s.log others (whole_computes v s x old_chain others space whole stands full chain_is here) (ap (λ (y : Contents). y.chained.manifest) stands.held) (ap (λ (y : Contents). y.sb.mem) stands.held) in
     let new : Contents = contents_after x s.memory target made c.levels first size (blocks_of chain) in
     let sb = super_after s.sb first size in
     let same : new ≡ contents_next s sb (record { manifest = m; blocks = blocks_of chain }) c.levels =
     ap (λ (y : Contents). contents_after y s.memory target made c.levels first size (blocks_of chain)) stands.held
-    ∙ ap (λ (k : Manifest). contents_next s sb (record { manifest = k; blocks = blocks_of chain }) c.levels) (sym m_is) in
+    ∙ (λ i. record (contents_next s sb (record { manifest = sym m_is i; blocks = blocks_of chain }) c.levels) { journal = drop (sym whole.log.mem i) s.log.list }) in
     let slot : 1 - x.slot ≡ 1 - s.slot = ap (λ (y : Contents). 1 - y.slot) stands.held in (
       record {
         levels = c.levels;
@@ -144,12 +145,13 @@ readied v w s x space after old_chain others target made first size chain m whol
             let passed = read_passes f (contents_state x) (reads_state f x (stands.stands.reads f stands.stands.left)) in
             subst (λ (n : Contents). IsPaid (contents_state n)) same
             (c.paid paid passed.few_updates (omega (arith, long, ap (λ (y : Contents). y.sb.mem) stands.held, ap (λ (y : Contents). length y.journal) stands.held)));
+        filtered = c.filtered s.filters stands.filtered;
       },
       subst (λ (y : Contents). AreNewArrays y.chained.manifest.next_array (arrays_made made)) stands.held c.fresh,
     )
 
 -- where a store stands it may compute, so what no store that may compute meets it doesn't meet
-pub computes_all : (v : DiskView) (s : Held) (x : Contents) (space : SpaceView) (old_chain others : List Extent) → IsConsistent s → StandsWith v s x → length s.log.list ≡ s.sb.mem → blocks_of old_chain ≡ s.chained.blocks
+pub computes_all : (v : DiskView) (s : Held) (x : Contents) (space : SpaceView) (old_chain others : List Extent) → IsConsistent s → StandsWith v s x → s.sb.mem ≤ length s.log.list → blocks_of old_chain ≡ s.chained.blocks
     → ((levels : List Level) → IsSpaceOf space (contents_held s levels) others)
     → ((y : Contents) (log : Log) (besides : List Extent) → MayCompute v space s.memory s.levels log y besides → y.chained.manifest ≡ s.chained.manifest → y.sb.mem ≡ s.sb.mem → ⊥) → ⊥
 computes_all v s x space old_chain others whole stands full chain_is own never =
@@ -183,9 +185,9 @@ keeps_own s space whole own = record {
 }
 
 -- the next superblock and manifest pass all tests
-pub may_admit : (w : DiskView) (s : Held) (x : Contents) (made : Option LevelDesc) (sb : Super) (chained : Chained) → IsConsistent s → IsReadied w s x sb chained
+pub may_admit : (w : DiskView) (s : Held) (x : Contents) (made : Option LevelDesc) (sb : Super) (chained : Chained) (filters : List LevelFilters) → IsConsistent s → IsReadied w s x sb chained filters
     → AreNewArrays s.chained.manifest.next_array (arrays_made made) → MayBeAdmitted s.sb s.chained.manifest made sb chained
-may_admit w s x made sb chained whole ready fresh =
+may_admit w s x made sb chained filters whole ready fresh =
     let c = ready.computed in
     let new : Contents = contents_next s sb chained ready.levels in
     let first : ℕ = s.chained.manifest.next_array in
@@ -203,10 +205,14 @@ may_admit w s x made sb chained whole ready fresh =
       belonging = next_belongs c.was c.stands.content x new c.made c.taken c.kept c.next (own_blocks c.space new c.others c.used);
     }
 
--- the same of a superblock and a manifest that are these
-pub readied_as : (w : DiskView) (s : Held) (x : Contents) (sb is : Super) (chained here : Chained) → is ≡ sb → here ≡ chained → IsReadied w s x sb chained → IsReadied w s x is here
-readied_as w s x sb is chained here sb_is chained_is ready =
-    subst (λ (k : Super). IsReadied w s x k here) (sym sb_is) (subst (λ (ch : Chained). IsReadied w s x sb ch) (sym chained_is) ready)
+-- the same of a superblock, a manifest and filters that are these
+pub readied_as : (w : DiskView) (s : Held) (x : Contents) (sb is : Super) (chained here : Chained) (n target : ℕ) (made filters : LevelFilters) → is ≡ sb → here ≡ chained → target ≡ n → filters ≡ made
+    → IsReadied w s x sb chained (filters_after s.filters n made) → IsReadied w s x is here (filters_after s.filters target filters)
+readied_as w s x sb is chained here n target made filters sb_is chained_is target_is filters_is ready =
+    let fs : filters_after s.filters target filters ≡ filters_after s.filters n made = λ i. filters_after s.filters (target_is i) (filters_is i) in
+    subst (IsReadied w s x is here) (sym fs)
+    (subst (λ (k : Super). IsReadied w s x k here (filters_after s.filters n made)) (sym sb_is)
+    (subst (λ (ch : Chained). IsReadied w s x sb ch (filters_after s.filters n made)) (sym chained_is) ready))
 
 -- arrays that were made pass a test of their numbers
 pub numbered_from : (n : ℕ) (made : Option LevelDesc) → list_all (λ (a : ArrayDesc). leb n a.id) (arrays_made made) ≡ true → (a : ArrayDesc) → Contains (arrays_made made) a → n ≤ a.id

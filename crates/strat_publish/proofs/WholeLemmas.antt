@@ -1,8 +1,8 @@
 -- A whole store may promote: what it holds is known, may be read, and is no more than any store has.
-use Rattle.std.proofs.Common.{◌≡◌, ◌<◌, ◌≤◌, ◌+◌, ◌*◌, ◌^◌, ℕ, zero, suc, Bool, true, not, eqb, ltb, leb, ◌&&◌, inl, inr, List, [], ◌∷◌, append-nil, length, length-append, map, Contains, flat_map, fold, filter_map, get_or, Option, None, Some, refl, sym, ap, ◌∙◌, subst, arith, set, false, ◌++◌}
+use Rattle.std.proofs.Common.{◌≡◌, ◌<◌, ◌≤◌, ◌+◌, ◌*◌, ◌^◌, ℕ, zero, suc, Bool, true, not, eqb, ltb, leb, ◌&&◌, inl, inr, List, [], ◌∷◌, append-nil, length, length-append, take, drop, map, Contains, flat_map, fold, filter_map, get_or, Option, None, Some, refl, sym, ap, ◌∙◌, subst, arith, set, false, ◌++◌}
 use Rattle.std.specs.List.{list_all, range_with_len, sum, sum_by}
 use Rattle.std.proofs.lemmas.Bool.Decides.{nat_tests}
-use Rattle.std.proofs.lemmas.List.{length-map}
+use Rattle.std.proofs.lemmas.List.{length-map, take-append-drop}
 use Rattle.std.proofs.lemmas.Bool.{and_parts, ltb-true, leb-true, lt-ltb}
 use Rattle.std.proofs.lemmas.List.Sums.{sum_by-cons, sum_by-append, sum-map}
 use Rattle.strat_array.specs.Within.{AreWithin}
@@ -36,12 +36,14 @@ use Rattle.def_state.proofs.UpdateLemmas.{all_among}
 use Rattle.def_state.specs.Setting.{set_all}
 use Rattle.def_state.specs.Sound.{is_accepted, are_accepted, is_there, takes_updates}
 use Rattle.def_state.specs.State.{tree_after, update_of, marks_after}
-use Rattle.strat_memory.specs.Held.{Held, IsConsistent, StandsWith, contents_held}
+use Rattle.strat_memory.specs.Held.{Held, IsConsistent, StandsWith, contents_held, head_held}
+use Rattle.strat_memory.specs.Memory.{oldest_entries, oldest_versions}
+use Rattle.strat_publish.proofs.SealedLemmas.{few_left, oldest_counts, oldest_listed}
 use Rattle.strat_publish.specs.Publishing.{MayCompute}
 use Rattle.strat_cursor.specs.Looking.{arrays_there, MayBeFound, HaveOwnIds}
 use Rattle.strat_publish.specs.Promoting.{MayPromote}
 use Rattle.def_promote.proofs.PaidLemmas.{updates_few}
-use Rattle.strat_memory.proofs.MemoryLemmas.{left_few}
+use Rattle.strat_publish.proofs.PartsLemmas.{accepted_front}
 use Rattle.strat_base.specs.Marks.{Marks}
 use Rattle.def_state.proofs.MarkLemmas.{there_known, open_there, accepted_drop}
 use Rattle.def_bytes.specs.Layout.{newest_format}
@@ -126,7 +128,7 @@ leads_summed levels x len =
 
 pub entries_few : (journal : List Change) → length (set_all (filter_map update_of journal)) ≤ length journal
 entries_few journal =
-    let all = left_few (filter_map update_of journal) in
+    let all = few_left (filter_map update_of journal) in
     let few = updates_few journal in
     omega (arith, all, few)
 
@@ -180,8 +182,10 @@ whole_promotes s whole =
     let m : Manifest = s.chained.manifest in
     let tests = belonging_tests s.sb s.chained in
     let listed : arrays_there s.levels ≡ descriptors m = ap (flat_map (λ (l : LevelDesc). l.arrays)) whole.placed.listed_are in
-    let versions : versions_in m ≤ length s.memory.parents =
-    (let grown = length-grown (parents_in m) s.log.list in let same = ap (λ (ps : Parents). length ps) whole.memory.parents in let count = length-map m.parents (λ (p : ℕ). Some p) in omega (arith, grown, same, count)) in
+    let front : List Change = take s.sb.mem s.log.list in
+    let many = (oldest_counts (head_held s) s.memory whole.memory).0 in
+    let versions : versions_in m ≤ oldest_versions s.memory =
+    (let grown = length-grown (parents_in m) front in let count = length-map m.parents (λ (p : ℕ). Some p) in omega (arith, grown, many, count)) in
     let at : (a : ArrayDesc) → Contains (arrays_there s.levels) a → Among a (descriptors m) = λ a of. contained_among (descriptors m) a (subst (λ (rs : List ArrayDesc). Contains rs a) listed of) in
     let array = array_lawful (versions_in m) m.next_array m.levels (pass_at (manifest_tests newest_format m) 8 whole.spelled) (pass_at tests 2 whole.belonging) in
     let limited = and_parts (leb s.sb.generation (m.changes + 1) && leb m.next_array (16384 * m.changes + 1) && leb m.written (33554432 * m.changes)) (leb m.compacted (33554432 * m.changes)) (pass_at tests 7 whole.belonging) in
@@ -191,24 +195,28 @@ whole_promotes s whole =
     let limit = whole.lawful.changes_most in
     let updates = leb-true m.updates m.changes (pass_at (manifest_tests newest_format m) 1 whole.spelled) in
     let led = leb-true (sum_by (λ (a : ArrayDesc). a.leads) (descriptors m)) m.updates (pass_at tests 5 whole.belonging) in
-    let accepted = accepted_few s.sb.changes_max s.sb.versions_max (parents_in m) m.marks m.changes s.log.list whole.accepted changes in
-    let entries = ap (λ (es : List Entry). length es) whole.memory.entries in
-    let fewer = entries_few s.log.list in
-    let sums = leads_summed s.levels (length s.memory.entries) whole.placed.count in
+    let parted : are_accepted s.sb.changes_max s.sb.versions_max (parents_in m) m.marks m.changes (front ++ drop s.sb.mem s.log.list) ≡ true =
+    ap (λ (js : List Change). are_accepted s.sb.changes_max s.sb.versions_max (parents_in m) m.marks m.changes js) (take-append-drop s.sb.mem s.log.list) ∙ whole.accepted in
+    let taken = accepted_front s.sb.changes_max s.sb.versions_max front (drop s.sb.mem s.log.list) (parents_in m) m.marks m.changes parted in
+    let accepted = accepted_few s.sb.changes_max s.sb.versions_max (parents_in m) m.marks m.changes front taken changes in
+    let oldest = oldest_listed (head_held s) s.memory whole.memory in
+    let entries = ap (λ (es : List Entry). length es) oldest in
+    let fewer = entries_few front in
+    let sums = leads_summed s.levels (length (oldest_entries s.memory)) whole.placed.count in
     let same = ap (λ (rs : List ArrayDesc). sum_by (λ (a : ArrayDesc). a.leads) rs) listed in
     record {
-      low = (λ i. list_all (λ (e : Entry). ltb e.version (length (whole.memory.parents i))) (whole.memory.entries i))
-          ∙ entries_known s.sb.changes_max s.sb.versions_max (parents_in m) m.marks m.changes s.log.list whole.accepted;
+      low = (λ i. list_all (λ (e : Entry). ltb e.version (many i)) (oldest i)) ∙ entries_known s.sb.changes_max s.sb.versions_max (parents_in m) m.marks m.changes front taken;
       arrays = record {
         within = λ a of. within_numbers m.next_array a (array a (at a of)).0 (all_at is_filled a (descriptors m) (pass_at tests 6 whole.belonging) (at a of));
         low = λ a v of tagged. let lt = (array a (at a of)).1 v tagged in omega (arith, lt, versions);
       };
+      some = omega (arith, versions);
       few = omega (arith, sums, same, led, updates, entries, fewer, accepted, limit);
       first = omega (arith, next, changes, limit);
     }
 
 -- a whole store that stands may compute its next contents
-pub whole_computes : (v : DiskView) (s : Held) (x : Contents) (chain others : List Extent) (space : SpaceView) → IsConsistent s → StandsWith v s x → length s.log.list ≡ s.sb.mem → blocks_of chain ≡ s.chained.blocks
+pub whole_computes : (v : DiskView) (s : Held) (x : Contents) (chain others : List Extent) (space : SpaceView) → IsConsistent s → StandsWith v s x → s.sb.mem ≤ length s.log.list → blocks_of chain ≡ s.chained.blocks
     → IsSpaceOf space x others → MayCompute v space s.memory s.levels s.log x others
 whole_computes v s x chain others space whole w full chain_is own =
     let y : Contents = contents_held s x.levels in

@@ -1,5 +1,5 @@
 -- A publication of a store, step by step.
-use Rattle.std.specs.Prelude.{◌≡◌, ◌≢◌, ◌≤◌, ◌<◌, ℕ, ◌+◌, ◌-◌, ◌^◌, ◌++◌, Bool, List, [], length, filter, sum_by, nat_le, nat_lt, Option, Some, Ok, IsSome, IsTrue, replicate, suc, false}
+use Rattle.std.specs.Prelude.{◌≡◌, ◌≢◌, ◌≤◌, ◌<◌, ℕ, ◌+◌, ◌-◌, ◌^◌, ◌++◌, Bool, List, length, filter, sum_by, nat_le, nat_lt, Option, Some, Ok, IsSome, IsTrue, replicate, suc, false}
 use Rattle.std.specs.Option.{option_to_list}
 use Rattle.strat_base.specs.declared.descriptors.Extent.{Extent}
 use Rattle.strat_base.specs.declared.descriptors.LevelDesc.{LevelDesc}
@@ -14,12 +14,13 @@ use Rattle.def_bytes.specs.Layout.{first_free, other_region, newest_format}
 use Rattle.def_bytes.specs.SuperBlock.{Super, newest_in}
 use Rattle.strat_journal.specs.Log.{Log}
 use Rattle.def_recovery.specs.Head.{parent_numbers}
-use Rattle.strat_memory.specs.Memory.{Memory, IsMemoryOf}
+use Rattle.strat_memory.specs.Memory.{Memory, IsMemoryOf, oldest_changes, oldest_parents, oldest_updates}
+use Rattle.strat_memory.specs.Filters.{LevelFilters, AreFiltersOf, filters_after}
 use Rattle.strat_memory.specs.Held.{ArePlaced}
 use Rattle.def_state.specs.State.{IsPaid}
 use Rattle.def_promote.specs.Promoted.{SaysTheSame, levels_behind}
 use Rattle.def_publish.specs.Appending.{IsLogOf}
-use Rattle.def_publish.specs.Contents.{Contents, contents_head, contents_state}
+use Rattle.def_publish.specs.Contents.{Contents, contents_head, contents_state, later_part}
 use Rattle.def_publish.specs.Next.{AreNewArrays, IsNextOf, MayBeNext, HasManifest, arrays_made}
 use Rattle.def_publish.specs.Occupied.{IsSpaceOf, UsesMore, extents_of, arrays_in}
 use Rattle.def_publish.specs.Standing.{LeavesContent, ContentsStand}
@@ -72,17 +73,17 @@ pub record IsWrittenTo (first size : ℕ) (chain : List Extent) (m : Manifest) (
   pub first_is : new.sb.manifest ≡ first
   pub length_is : new.sb.length ≡ size
 
--- the manifest after a promotion: all changes are behind it, no version is dropped, and the level that was made stands before
--- those that are deeper than its number
+-- the manifest after a promotion: the changes up to the seal are behind it, no version is dropped, and the level that was made
+-- stands before those that are deeper than its number
 abbrev pub manifest_after : Manifest → Memory → ℕ → Option LevelDesc → Manifest
 manifest_after old m target made = record {
-  changes = m.changes;
-  updates = m.updates;
+  changes = oldest_changes m;
+  updates = oldest_updates m;
   written = old.written + sum_by (λ a. a.entries) (arrays_made made);
   compacted = old.compacted;
   next_array = old.next_array + length (arrays_made made);
-  parents = parent_numbers m.parents;
-  marks = replicate (suc (length (parent_numbers m.parents))) false;
+  parents = parent_numbers (oldest_parents m);
+  marks = replicate (suc (length (parent_numbers (oldest_parents m)))) false;
   levels = option_to_list made ++ filter (λ level. nat_lt target level.number) old.levels;
 }
 
@@ -116,16 +117,17 @@ contents_after old m target made levels first size blocks = record {
     manifest = manifest_after old.chained.manifest m target made;
     blocks = blocks;
   };
-  journal = [];
+  journal = later_part old;
   levels = levels;
 }
 
 -- a level was promoted and then a manifest was written, in blocks that were free, and the old contents stood before, whose
--- journal just filled its region: the space before, the one between and the one after. Some blocks that contents do not name were used before, and some are after
+-- journal fills its region: the space before, the one between and the one after. Some blocks that contents do not name were
+-- used before, and some are after
 pub record IsWrittenBeside (v w u : DiskView) (s t r : SpaceView) (old new : Contents)
     (target : ℕ) (made : Option LevelDesc) (besides others : List Extent) : Type 0 where
   pub stands : ContentsStand v old
-  pub full : length old.journal ≡ old.sb.mem
+  pub full : old.sb.mem ≤ length old.journal
   pub space : IsSpaceOf s old besides
   pub promoting : TearsBlocks (is_free s) v w
   pub taken : UsesMore s (extents_of (arrays_made made)) t
@@ -138,16 +140,15 @@ pub record IsWrittenBeside (v w u : DiskView) (s t r : SpaceView) (old new : Con
       (descs_behind target old.chained.manifest.levels)
   pub content : Image
   pub exposed : Exposes w content
-  pub promoted : IsPromotedTo content (contents_state old)
-      old.chained.manifest.next_array target made
-  pub levels : new.levels ≡ promoted.says.fresh ++ levels_behind target old.levels
+  pub promoted : IsPromotedTo content old target made
+  pub levels : new.levels ≡ promoted.last.says.fresh ++ levels_behind target old.levels
 
--- a store may compute its next contents: its contents stand, their journal just fills its region, memory is theirs, the space has their blocks and some others
--- used, and their chain is of these extents
+-- a store may compute its next contents: its contents stand, their journal fills its region, memory is theirs, the space has
+-- their blocks and some others used, and their chain is of these extents
 pub record MayCompute (v : DiskView) (s : SpaceView) (m : Memory) (levels : List (Option LevelDesc))
     (log : Log) (x : Contents) (others : List Extent) : Type 0 where
   pub stands : ContentsStand v x
-  pub full : length x.journal ≡ x.sb.mem
+  pub full : x.sb.mem ≤ length x.journal
   pub space : IsSpaceOf s x others
   pub memory : IsMemoryOf (contents_head x) m
   pub placed : ArePlaced x.chained.manifest.levels levels
@@ -157,10 +158,11 @@ pub record MayCompute (v : DiskView) (s : SpaceView) (m : Memory) (levels : List
   pub chain_is : blocks_of chain ≡ x.chained.blocks
 
 -- the next contents are computed, with some levels, and the blocks of the old ones and some others are used beside theirs;
--- the arrays that were made are numbered from the old next number on, and their state is paid for where the old one was
+-- the arrays that were made are numbered from the old next number on, their state is paid for where the old one was, and
+-- with filters of theirs the filters of the old contents become those of the next ones
 pub record IsComputedBy (v : DiskView) (s : SpaceView) (old : Contents) (m : Memory) (log : Log)
     (target : ℕ) (made : Option LevelDesc) (first size : ℕ) (chain others : List Extent)
-    : Type 0 where
+    (filters : LevelFilters) : Type 0 where
   pub levels : List Level
   pub computed : IsComputed v (1 - old.slot)
       (contents_after old m target made levels first size (blocks_of chain)).sb log old
@@ -173,3 +175,5 @@ pub record IsComputedBy (v : DiskView) (s : SpaceView) (old : Contents) (m : Mem
       → old.chained.manifest.updates ≤ old.chained.manifest.changes
       → old.sb.mem ≤ length old.journal → IsPaid (contents_state
       (contents_after old m target made levels first size (blocks_of chain)))
+  pub filtered : (before : List LevelFilters) → AreFiltersOf old.levels before
+      → AreFiltersOf levels (filters_after before target filters)

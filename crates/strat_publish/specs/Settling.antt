@@ -1,5 +1,5 @@
 -- A publication of a store: what takes the place of what the store holds.
-use Rattle.std.specs.Prelude.{◌≡◌, ◌≢◌, ◌⊎◌, ◌≤◌, ◌<◌, ◌==◌, ℕ, ◌+◌, ◌-◌, ◌^◌, ◌&&◌, nat_le, nat_lt, Bool, true, false, List, [], length, Contains, Option, IsTrue}
+use Rattle.std.specs.Prelude.{◌≡◌, ◌≢◌, ◌⊎◌, ◌≤◌, ◌<◌, ◌==◌, ℕ, ◌+◌, ◌-◌, ◌^◌, ◌&&◌, nat_le, nat_lt, Bool, true, false, List, [], drop, length, Contains, Option, IsTrue}
 use Rattle.std.specs.List.{count_by, list_all}
 use Rattle.strat_base.specs.declared.descriptors.ArrayDesc.{ArrayDesc}
 use Rattle.strat_base.specs.declared.descriptors.LevelDesc.{LevelDesc}
@@ -14,7 +14,7 @@ use Rattle.def_bytes.specs.Chained.{Chained}
 use Rattle.def_bytes.specs.Layout.{other_region, newest_format}
 use Rattle.def_bytes.specs.Manifest.{Manifest}
 use Rattle.def_bytes.specs.SuperBlock.{Super, IsLawful}
-use Rattle.strat_journal.specs.Log.{region_begun}
+use Rattle.strat_journal.specs.Log.{region_turned}
 use Rattle.strat_model.specs.declared.replies.Refusal.TheVariants as why
 use Rattle.strat_model.specs.declared.replies.Reply.{Reply}
 use Rattle.strat_model.specs.declared.replies.Reply.TheVariants as reply
@@ -30,8 +30,9 @@ use Rattle.def_publish.specs.Occupied.{arrays_in, extents_of}
 use Rattle.def_publish.specs.Standing.{AreFree}
 use Rattle.def_state.specs.Level.{Level}
 use Rattle.def_state.specs.State.{IsPaid}
+use Rattle.strat_memory.specs.Filters.{LevelFilters, AreFiltersOf, filters_after}
 use Rattle.strat_memory.specs.Held.{Held, IsOnDisk, StandsWith, arrays_held, blocks_named, contents_held}
-use Rattle.strat_memory.specs.Memory.{Memory, renewed}
+use Rattle.strat_memory.specs.Memory.{Memory, oldest_changes, oldest_parents, oldest_updates, renewed}
 use Rattle.strat_memory.specs.Paying.{ArePaidSince}
 use Rattle.strat_publish.specs.Counting.{KeepsCount}
 use Rattle.strat_publish.specs.Publishing.{IsComputed, descs_to, manifest_after}
@@ -51,16 +52,18 @@ super_after sb first size = record sb {
 abbrev pub arrays_taken : ℕ → Manifest → List ArrayDesc
 arrays_taken target m = arrays_in (descs_to target m.levels)
 
--- what a store holds after a publication of this superblock, manifest and levels: level 0 and the journal are emptied, and the
--- arrays of the levels down to a target are kept where a cursor names them
-abbrev pub held_next : Held → ℕ → Super → Chained → List (Option LevelDesc) → Held
-held_next s target sb chained levels = record {
+-- what a store holds after a publication of this superblock, manifest and levels: what was sealed is let go of, the journal
+-- has what came since, the arrays of the levels down to a target are kept where a cursor names them, and of the filters of these
+-- levels those of the arrays that were made take the place
+abbrev pub held_next : Held → ℕ → Super → Chained → List (Option LevelDesc) → LevelFilters → Held
+held_next s target sb chained levels made = record {
   slot = 1 - s.slot;
   sb = sb;
   chained = chained;
-  log = region_begun s.log;
-  memory = renewed s.sb.mem (arrays_taken target s.chained.manifest) s.memory;
+  log = region_turned s.log;
+  memory = renewed (arrays_taken target s.chained.manifest) s.memory;
   levels = levels;
+  filters = filters_after s.filters target made;
   cached = s.cached;
   spent = false;
 }
@@ -71,21 +74,21 @@ contents_next s sb chained levels = record {
   slot = 1 - s.slot;
   sb = sb;
   chained = chained;
-  journal = [];
+  journal = drop s.log.mem s.log.list;
   levels = levels;
 }
 
--- a superblock and a manifest may follow those that a store holds: the limits are the same, and all that memory counts
--- is behind the manifest
+-- a superblock and a manifest may follow those that a store holds: the limits are the same, and all that memory counted at the
+-- seal is behind the manifest
 pub record MayFollow (s : Held) (sb : Super) (chained : Chained) : Type 0 where
   pub lawful : IsLawful sb
   pub region : sb.region ≡ other_region s.sb.region
   pub mem : sb.mem ≡ s.sb.mem
   pub changes_max : sb.changes_max ≡ s.sb.changes_max
   pub versions_max : sb.versions_max ≡ s.sb.versions_max
-  pub changes : chained.manifest.changes ≡ s.memory.changes
-  pub updates : chained.manifest.updates ≡ s.memory.updates
-  pub parents : chained.manifest.parents ≡ parent_numbers s.memory.parents
+  pub changes : chained.manifest.changes ≡ oldest_changes s.memory
+  pub updates : chained.manifest.updates ≡ oldest_updates s.memory
+  pub parents : chained.manifest.parents ≡ parent_numbers (oldest_parents s.memory)
   pub undropped : IsTrue (none_dropped chained.manifest.marks)
 
 -- a disk changed in blocks alone that are free beside what a store holds, whatever its levels say, and that no array has
@@ -97,14 +100,16 @@ pub record WritesBeside (old new : DiskView) (s : Held) : Type 0 where
       → Contains (blocks_of a.extents) b → free b ≡ false
   pub tears : TearsBlocks free old new
 
--- the next contents of a store, of this superblock and manifest, are written beside those that it stands on
+-- the next contents of a store, of this superblock and manifest, are written beside those that it stands on, and it has
+-- these filters of their arrays
 pub record IsReadied (v : DiskView) (s : Held) (x : Contents) (sb : Super) (chained : Chained)
-    : Type 0 where
+    (filters : List LevelFilters) : Type 0 where
   pub levels : List Level
   pub computed : IsComputed v (1 - s.slot) sb s.log x (contents_next s sb chained levels)
   -- they are paid for where those are and the journal is full
   pub paid : IsPaid (contents_state x) → s.sb.mem ≤ length s.log.list
       → IsPaid (contents_state (contents_next s sb chained levels))
+  pub filtered : AreFiltersOf levels filters
 
 -- a superblock and a manifest that were computed pass all tests that come before they are laid: the arrays that were made are
 -- numbered from the old next number on, another generation has a number, and so have the blocks of the chain, and the
@@ -135,27 +140,33 @@ pub record ArePublishedTo (target : ℕ) (sb : Super) (m : Manifest) (memory : M
   pub sb_is : next_sb ≡ super_after sb first size
 
 -- a superblock and a manifest are published so, down to some target, and the cursors are those of memory, for which those of the
--- arrays taken are kept that one of them names
-pub record ArePublishedAfter (sb : Super) (m : Manifest) (memory : Memory) (next_sb : Super)
-    (next : Manifest) (cursors : HeldCursors) : Type 0 where
+-- arrays taken are kept that one of them names. The target has some filters, the levels before it none, and those behind it
+-- the ones that they had
+pub record ArePublishedAfter (sb : Super) (m : Manifest) (memory : Memory)
+    (filters : List LevelFilters) (next_sb : Super) (next : Manifest) (cursors : HeldCursors)
+    (left : List LevelFilters) : Type 0 where
   pub target : ℕ
+  pub made : LevelFilters
+  pub low : 1 ≤ target
   pub are : ArePublishedTo target sb m memory next_sb next
   pub cursors_are : cursors
       ≡ record (retired_all (arrays_taken target m) memory.cursors) { room = cursors.room }
+  pub filters_are : left ≡ filters_after filters target made
 
--- a store holds the superblock and the manifest that it held, with their levels
+-- a store holds the superblock and the manifest that it held, with their levels and the filters of these
 pub record KeepsPublished (old new : Held) : Type 0 where
   pub slot : new.slot ≡ old.slot
   pub sb : new.sb ≡ old.sb
   pub chained : new.chained ≡ old.chained
   pub levels : new.levels ≡ old.levels
+  pub filters : new.filters ≡ old.filters
 
 -- a store whose journal was full holds those that a publication left
 pub record HasPublished (old new : Held) : Type 0 where
   pub full : old.log.mem ≤ length old.log.list
   pub slot : new.slot ≡ 1 - old.slot
-  pub after : ArePublishedAfter old.sb old.chained.manifest old.memory new.sb
-      new.chained.manifest new.memory.cursors
+  pub after : ArePublishedAfter old.sb old.chained.manifest old.memory old.filters new.sb
+      new.chained.manifest new.memory.cursors new.filters
 
 -- a store has the cursors that it had, with the arrays that are kept for them
 abbrev pub KeepsCursors : Held → Held → Type 0

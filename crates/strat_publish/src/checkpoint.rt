@@ -1,7 +1,7 @@
-//! A checkpoint of a store, whole: its journal is emptied into its levels.
+//! A checkpoint of a store, whole: what fills the active region of its journal goes into its levels.
 
 ghost use Rattle.std.specs.List.{list_all};
-ghost use Rattle.std.specs.Prelude.{◌≡◌, ◌<◌, ◌≤◌, ℕ, ◌+◌, ◌-◌, ◌*◌, ◌^◌, List, [], ◌∷◌, length, min, nat_le, nat_lt, Some, IfOk, OnOk, OnErr, IsErrOf, IsTrue};
+ghost use Rattle.std.specs.Prelude.{◌≡◌, ◌<◌, ◌≤◌, ℕ, ◌+◌, ◌-◌, ◌*◌, ◌^◌, List, [], ◌∷◌, length, drop, min, nat_le, nat_lt, is_some, None, IfOk, OnOk, OnErr, IsErrOf, IsTrue};
 ghost use Rattle.strat_array.specs.Kept.{Blocks};
 ghost use Rattle.def_crash.specs.Blocks.{TearsBlocks, AgreeOn};
 ghost use Rattle.def_crash.specs.Faults.{CountsFaults, HasCause};
@@ -26,10 +26,11 @@ ghost use Rattle.def_publish.specs.Standing.{ShowsTable, ContentsStand};
 ghost use Rattle.def_state.specs.Level.{Level};
 ghost use Rattle.def_state.specs.State.{IsPaid};
 ghost use Rattle.strat_publish.specs.Outcomes.{IsDamagedIn, IsPublishedAs, IsOkOrShort, RanShort};
+ghost use Rattle.strat_memory.specs.Filters.{filters_after};
 ghost use Rattle.strat_memory.specs.Held.{IsConsistent, IsOnDisk, StandsWith, arrays_held, contents_held};
 ghost use Rattle.strat_cursor.specs.Cursors.{retired_all};
 ghost use Rattle.strat_cursor.specs.Looking.{arrays_there};
-ghost use Rattle.strat_memory.specs.Memory.{emptied, prepared};
+ghost use Rattle.strat_memory.specs.Memory.{emptied, IsReadyFrom, unsealed};
 ghost use Rattle.strat_memory.specs.Paying.{ArePaidSince};
 ghost use Rattle.strat_publish.specs.Counting.{CountsWritten};
 ghost use Rattle.strat_publish.specs.Publishing.{IsComputed, LaysSuperblock, WritesManifest, descs_to, is_in_front, manifest_after};
@@ -50,6 +51,7 @@ use strat_gate::SuperBlock;
 use strat_manifest::LevelList;
 use strat_memory::admitting::{Published, admit};
 use strat_memory::belonging::{mark_arrays, space_if_blocks_distinct};
+use strat_memory::filters::LevelFilters;
 use strat_memory::memory::Memory;
 use strat_memory::open_store::OpenStore;
 use strat_promote::obstacle::{Obstacle, Unfit};
@@ -116,12 +118,13 @@ fn compute_beside<D: Disk>(
     disk: &mut D,
 ) -> Result<Computed, Obstacle>
     requires kept { (cached : Blocks) → IsConsistent (held_of held.now cached) }
-    requires len { length held.now.journal.list ≡ held.now.sb.mem }
+    requires len { held.now.sb.mem ≤ length held.now.journal.list }
     ensures ok { IfOk result (λ r. (x : Contents) (cached : Blocks)
         → StandsWith (D.view disk.old) (held_of held.now cached) x
         → IsReadied (D.view disk.new) (held_of held.now cached) x
         (super_after (super_of held.now.sb) r.first r.length)
         (record { manifest = manifest_of r.manifest; blocks = blocks_of r.chain })
+        (filters_after held.now.filters r.made.target r.made.filters)
         × AreNewArrays held.now.published.manifest.next_array (arrays_made r.made.level)) }
     ensures room { IfOk result (λ r. (cached : Blocks)
         → StandApart r.made.target (held_of held.now cached)
@@ -133,7 +136,8 @@ fn compute_beside<D: Disk>(
         (record { manifest = manifest_of r.manifest; blocks = blocks_of r.chain })) }
     ensures fits { IfOk result (λ r. (places.first_free held.now.sb.mem ≤ r.first)
         × (r.first < 4294967295) × (29 ≤ r.length)
-        × IsTrue (is_lawful_manifest newest_format (manifest_of r.manifest))) }
+        × IsTrue (is_lawful_manifest newest_format (manifest_of r.manifest))
+        × (1 ≤ r.made.target) × (r.made.target ≤ 22)) }
     ensures err { IsErrOf result obstacle.Unfit → (x : Contents) (cached : Blocks)
         → StandsWith (D.view disk.old) (held_of held.now cached) x → ⊥ }
     ensures images { (cached : Blocks)
@@ -158,13 +162,14 @@ fn compute_beside<D: Disk>(
     )
 }
 
-/// What takes the place of a store's superblock and of what its last checkpoint left, and the number of the level that
-/// was filled.
+/// What takes the place of a store's superblock and of what its last checkpoint left, the number of the level that was
+/// filled, and the filters of its arrays.
 #[derive(Drop)]
 struct NextContents {
     sb: SuperBlock,
     published: Published,
     target: usize,
+    filters: LevelFilters,
 }
 
 /// Whether each of these arrays has a number from one on.
@@ -201,6 +206,7 @@ fn admit_next(alloc: Global, held: &OpenStore, computed: Computed) -> Result<Nex
         × IsLawful (super_of next.sb) × (next.target ≡ computed.made.target)) }
     ensures found { IfOk result (λ next. chained_of next.published
         ≡ record { manifest = manifest_of computed.manifest; blocks = blocks_of computed.chain }) }
+    ensures filters { IfOk result (λ next. next.filters ≡ computed.made.filters) }
     ensures kept { IfOk result (λ next. IsAdmitted (super_of next.sb) next.published) }
     ensures same { IfOk result (λ next. IsTrue (list_all
         (λ a. nat_le held.now.published.manifest.next_array a.id)
@@ -221,6 +227,7 @@ fn admit_next(alloc: Global, held: &OpenStore, computed: Computed) -> Result<Nex
             sb,
             published,
             target: computed.made.target,
+            filters: computed.made.filters,
         }),
         None => Err(Obstacle::Unfit),
     }
@@ -235,11 +242,12 @@ fn prepare_next<D: Disk>(
     disk: &mut D,
 ) -> Result<NextContents, Obstacle>
     requires kept { (cached : Blocks) → IsConsistent (held_of held.now cached) }
-    requires len { length held.now.journal.list ≡ held.now.sb.mem }
+    requires len { held.now.sb.mem ≤ length held.now.journal.list }
     ensures ok { IfOk result (λ next. (x : Contents) (cached : Blocks)
         → StandsWith (D.view disk.old) (held_of held.now cached) x
         → IsReadied (D.view disk.new) (held_of held.now cached) x (super_of next.sb)
-        (chained_of next.published)) }
+        (chained_of next.published)
+        (filters_after held.now.filters next.target next.filters)) }
     ensures fits { IfOk result (λ next. (cached : Blocks)
         → MayFollow (held_of held.now cached) (super_of next.sb) (chained_of next.published)) }
     ensures found { IfOk result (λ next. ArePublishedTo next.target (super_of held.now.sb)
@@ -249,7 +257,8 @@ fn prepare_next<D: Disk>(
         next.sb.manifest next.sb.length (chained_of next.published)) }
     ensures kept { IfOk result (λ next. IsAdmitted (super_of next.sb) next.published
         × ((cached : Blocks)
-        → StandApart next.target (held_of held.now cached) (chained_of next.published))) }
+        → StandApart next.target (held_of held.now cached) (chained_of next.published))
+        × (1 ≤ next.target) × (next.target ≤ 22)) }
     ensures err { IsErrOf result obstacle.Unfit → (x : Contents) (cached : Blocks)
         → StandsWith (D.view disk.old) (held_of held.now cached) x → ⊥ }
     ensures images { (cached : Blocks)
@@ -278,9 +287,10 @@ fn count_arrays(levels: &[LevelDesc]) -> usize
     n
 }
 
-/// Takes the memory that `install` needs: the next level 0, and room for all arrays of these levels among those that are
-/// kept, which stays for the next time. The only error is want of memory, after which the rest of memory is as it was.
-fn reserve_for_next(
+/// Takes the memory that a checkpoint needs beside its promotion, and seals level 0, if that is not sealed: room for all
+/// arrays of these levels among those that are kept, which stays for the next time, and a new level 0. The only error is
+/// want of memory, before anything is sealed.
+fn seal_for_next(
     alloc: Global,
     memory: &mut Memory,
     mem: u32,
@@ -288,13 +298,18 @@ fn reserve_for_next(
 ) -> Result<(), NoMemory>
     requires fits { (4 ≤ mem) × (mem ≤ 4096) }
     requires len { length (arrays_in levels.now) < 2 ^ 64 }
-    ensures ok { OnOk result ((memory.new.ready ≡ Some mem)
-        × (length memory.old.cursors.retired + length (arrays_in levels.now)
+    ensures ok { OnOk result (IsTrue (is_some memory.new.sealed)
+        × (length memory.new.cursors.retired + length (arrays_in levels.now)
         ≤ memory.new.cursors.room)) }
-    ensures same { memory.new ≡ prepared memory.old memory.new.ready memory.new.cursors.room }
+    ensures same { IsReadyFrom mem memory.old memory.new }
 {
+    memory.reserve_retired(count_arrays(levels))?;
+    if memory.is_sealed() {
+        return Ok(());
+    }
     memory.prepare(alloc, mem)?;
-    memory.reserve_retired(count_arrays(levels))
+    memory.seal();
+    Ok(())
 }
 
 /// Keeps those of these arrays that a cursor names. O(arrays * arrays of all cursors), and no memory.
@@ -328,17 +343,21 @@ fn retire_levels(memory: &mut Memory, mut levels: LevelList, target: usize)
 
 /// Lays the superblock of what a store made ready, which then takes the place of what it holds. At most five syncs, and
 /// no memory.
-fn install<D: Disk>(held: &mut OpenStore, next: NextContents, disk: &mut D) -> Result<(), Failed>
+fn install<D: Disk>(
+    alloc: Global,
+    held: &mut OpenStore,
+    next: NextContents,
+    disk: &mut D,
+) -> Result<(), Failed>
     requires fits { (held.old.slot ≤ 1) × (held.old.journal.active ≤ 1)
-        × IsLawful (super_of next.sb) }
-    requires room { (held.old.memory.ready ≡ Some held.old.sb.mem)
-        × (length held.old.memory.cursors.retired
+        × IsLawful (super_of next.sb) × (1 ≤ next.target) × (next.target ≤ 22) }
+    requires room { length held.old.memory.cursors.retired
         + length (arrays_in (manifest_of held.old.published.manifest).levels)
-        ≤ held.old.memory.cursors.room) }
+        ≤ held.old.memory.cursors.room }
     requires same { next.sb.mem ≡ held.old.sb.mem }
     ensures ok { OnOk result ((cached : Blocks) → held_of held.new cached
         ≡ held_next (held_of held.old cached) next.target (super_of next.sb)
-        (chained_of next.published) next.published.levels) }
+        (chained_of next.published) next.published.levels next.filters) }
     ensures kept { OnOk result ((x y : Contents) → IsComputed (D.view disk.old) (1 - held.old.slot)
         (super_of next.sb) held.old.journal x y → ContentsStand (D.view disk.new) y) }
     ensures trail { (x y : Contents) → IsComputed (D.view disk.old) (1 - held.old.slot)
@@ -360,23 +379,25 @@ fn install<D: Disk>(held: &mut OpenStore, next: NextContents, disk: &mut D) -> R
     held.slot = 1 - held.slot;
     held.sb = next.sb;
     let left = mem::replace(&mut held.published, next.published);
-    held.memory.restart();
+    held.memory.forget_sealed();
     retire_levels(&mut held.memory, left.manifest.levels, next.target);
+    held.filters.replace(alloc, next.target, next.filters);
     Ok(())
 }
 
-/// Makes a checkpoint: level 0 and the shallow levels become one new level, a new manifest names it, and a new superblock
-/// makes that the store's. The journal is empty then. It reads each block of the merged arrays twice at most, writes each
-/// block of the new arrays and of the manifest once, and syncs five times at most.
+/// Makes a checkpoint: level 0 is sealed, if it isn't, what is sealed and the shallow levels become one new level, a new
+/// manifest names it, and a new superblock makes that the store's. The journal has then what was behind the full region, and
+/// nothing is sealed. It reads each block of the merged arrays twice at most, writes each block of the new arrays and of the manifest once, and
+/// syncs five times at most.
 ///
-/// All memory is taken before the superblock is laid: without it the store is as it was. `Unfit`: too few blocks are free,
-/// an array would have more than 2^25 entries, or another bound of our own was reached. No store that stands on its disk
-/// reaches one, and the store is as it was then, too. `Damaged` names a block of the store's arrays that is no block of
-/// entries, or is out of order: no store that stands on its disk has one. After `Device` only recovery can tell which
-/// contents the disk holds; both mean the same table.
+/// All memory is taken before the superblock is laid: without it the store is as it was, but that level 0 may be sealed.
+/// The next checkpoint goes on with that. `Unfit`: too few blocks are free, an array would have more than 2^25 entries, or
+/// another bound of our own was reached. No store that stands on its disk reaches one, and the store is as it was then,
+/// too. `Damaged` names a block of the store's arrays that is no block of entries, or is out of order: no store that stands
+/// on its disk has one. After `Device` only recovery can tell which contents the disk holds; both mean the same table.
 pub fn publish<D: Disk>(alloc: Global, held: &mut OpenStore, disk: &mut D) -> Result<(), Obstacle>
     requires kept { ((cached : Blocks) → IsConsistent (held_of held.old cached))
-        × (length held.old.journal.list ≡ held.old.sb.mem) }
+        × (held.old.sb.mem ≤ length held.old.journal.list) }
     ensures ok { OnOk result ((x : Contents) (cached : Blocks)
         → StandsWith (D.view disk.old) (held_of held.old cached) x
         → IsPublishedAs (D.view disk.new) x (held_of held.new cached)
@@ -384,10 +405,17 @@ pub fn publish<D: Disk>(alloc: Global, held: &mut OpenStore, disk: &mut D) -> Re
         (manifest_of held.new.published.manifest)) }
     ensures found { OnOk result ((held.new.slot ≡ 1 - held.old.slot)
         × ArePublishedAfter (super_of held.old.sb) (manifest_of held.old.published.manifest)
-        held.old.memory (super_of held.new.sb) (manifest_of held.new.published.manifest)
-        held.new.memory.cursors
-        × (held.new.journal.list ≡ [])
-        × (held.new.memory ≡ record (emptied held.old.sb.mem held.old.memory)
+        held.old.memory held.old.filters (super_of held.new.sb)
+        (manifest_of held.new.published.manifest) held.new.memory.cursors held.new.filters
+        × (held.new.journal.list ≡ drop held.old.sb.mem held.old.journal.list)
+        × (held.new.memory ≡ record (unsealed held.old.memory) {
+          entries = held.new.memory.entries;
+          spare = held.new.memory.spare;
+          ready = held.new.memory.ready;
+          cursors = held.new.memory.cursors;
+        })
+        × (held.old.memory.sealed ≡ None
+        → held.new.memory ≡ record (emptied held.old.sb.mem held.old.memory)
         { cursors = held.new.memory.cursors })) }
     ensures disk { (IsErrOf result Device → ⊥) → (cached : Blocks)
         → IsOnDisk (D.view disk.old) (held_of held.old cached)
@@ -406,8 +434,7 @@ pub fn publish<D: Disk>(alloc: Global, held: &mut OpenStore, disk: &mut D) -> Re
     ensures same { (held.new.sb.mem ≡ held.old.sb.mem)
         × (held.new.memory.parents ≡ held.old.memory.parents)
         × (RanShort result → (held.new.journal ≡ held.old.journal)
-        × (held.new.memory ≡ prepared held.old.memory held.new.memory.ready
-        held.new.memory.cursors.room))
+        × IsReadyFrom held.old.sb.mem held.old.memory held.new.memory)
         × OnErr result ((cached : Blocks)
         → KeepsPublished (held_of held.old cached) (held_of held.new cached)
         × KeepsCursors (held_of held.old cached) (held_of held.new cached)) }
@@ -422,13 +449,13 @@ pub fn publish<D: Disk>(alloc: Global, held: &mut OpenStore, disk: &mut D) -> Re
         × ((x : Contents) (cached : Blocks)
         → StandsWith (D.view disk.old) (held_of held.old cached) x → ⊥) }
 {
-    reserve_for_next(
+    seal_for_next(
         alloc,
         &mut held.memory,
         held.sb.mem,
         held.published.manifest.levels.as_slice(),
     )?;
     let next = prepare_next(alloc, held, disk)?;
-    install(held, next, disk)?;
+    install(alloc, held, next, disk)?;
     Ok(())
 }

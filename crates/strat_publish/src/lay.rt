@@ -14,7 +14,7 @@ ghost use Rattle.def_bytes.specs.Arrays.{blocks_of};
 ghost use Rattle.def_bytes.specs.Manifest.{is_lawful_manifest, manifest_bytes};
 ghost use Rattle.def_bytes.specs.SuperBlock.{IsLawful};
 ghost use Rattle.strat_gate.specs.SuperView.{super_of};
-ghost use Rattle.strat_journal.specs.Log.{region_begun};
+ghost use Rattle.strat_journal.specs.Log.{region_turned};
 ghost use Rattle.strat_manifest.specs.ManifestView.{manifest_of};
 ghost use Rattle.strat_promote.specs.Spaces.{HasFewFree};
 ghost use Rattle.strat_promote.specs.declared.obstacle.Obstacle.TheVariants as obstacle;
@@ -121,7 +121,7 @@ pub(crate) fn lay_next<D: Disk>(
     ensures kept { OnOk result ((old new : Contents)
         → IsComputed (D.view disk.old) slot (super_of sb.now) journal.old old new
         → ContentsStand (D.view disk.new) new × IsLogOf new journal.new) }
-    ensures ok { OnOk result (journal.new ≡ region_begun journal.old) }
+    ensures ok { OnOk result (journal.new ≡ region_turned journal.old) }
     ensures disk { OnOk result (journal.old.active ≤ 1 → LaysSuperblock (D.view disk.old)
         (D.view disk.new) journal.old.mem slot (super_of sb.now)) }
     ensures err { OnErr result (journal.new ≡ journal.old) }

@@ -1,6 +1,6 @@
 //! The next manifest of a store, computed in memory from the one before and from what a promotion made.
 
-ghost use Rattle.std.specs.Prelude.{◌≡◌, ◌≤◌, ◌<◌, ℕ, ◌+◌, ◌-◌, ◌*◌, ◌^◌, List, ◌++◌, Contains, filter, length, min, nat_lt, IsSome, IsTrue, IfOk, OnOk, OnErr, IsErrOf};
+ghost use Rattle.std.specs.Prelude.{◌≡◌, ◌≤◌, ◌<◌, ℕ, ◌+◌, ◌-◌, ◌*◌, ◌^◌, List, ◌++◌, Contains, filter, length, take, min, nat_lt, IsSome, IsTrue, IfOk, OnOk, OnErr, IsErrOf};
 ghost use Rattle.std.specs.Option.{option_to_list};
 ghost use Rattle.strat_array.specs.Taking.{AreUsed};
 ghost use Rattle.strat_base.specs.declared.descriptors.Extent.{Extent};
@@ -85,12 +85,14 @@ fn add_parent(parents: &mut Parents, parent: Option<u32>) -> Result<(), NoMemory
     Ok(())
 }
 
-/// The parents of the versions that have one, in the order of these.
-fn parents_of(alloc: Global, tree: &Tree) -> Result<Parents, NoMemory>
-    ensures ok { IfOk result (λ parents. parents ≡ parent_numbers tree.now.parents) }
+/// The parents of those of the first versions that have one, in the order of these.
+fn parents_of(alloc: Global, tree: &Tree, versions: u32) -> Result<Parents, NoMemory>
+    requires len { versions ≤ length tree.now.parents }
+    ensures ok { IfOk result (λ parents.
+        parents ≡ parent_numbers (take versions tree.now.parents)) }
 {
     let mut parents = Parents::new(alloc);
-    for v in 0..tree.count() {
+    for v in 0..versions {
         add_parent(&mut parents, tree.parent(v))?;
     }
     Ok(parents)
@@ -127,7 +129,7 @@ fn next_counts(old: &Manifest, made: &Made) -> Result<(u64, u64), Unfit>
     Ok((written, next_array))
 }
 
-/// The manifest of the next checkpoint, in new memory: it counts all changes of the journal and the entries of the new
+/// The manifest of the next checkpoint, in new memory: it counts the changes up to the seal and the entries of the new
 /// arrays, and lists the new level before the deeper ones. O(size). `Unfit`: counts that no store reaches.
 pub(crate) fn next_manifest(
     alloc: Global,
@@ -144,10 +146,10 @@ pub(crate) fn next_manifest(
     ensures cause { IsOkOrShort result }
 {
     let (written, next_array) = next_counts(old, made)?;
-    let (_, _, tree) = memory.parts();
-    let parents = parents_of(alloc, tree)?;
+    let (_, _, tree) = memory.sealed_parts();
+    let (versions, changes, updates) = memory.sealed_counts();
+    let parents = parents_of(alloc, tree, versions)?;
     let levels = next_levels(alloc, made, old.levels.as_slice())?;
-    let (changes, updates) = memory.counts();
     Ok(Manifest {
         changes,
         updates,
@@ -218,7 +220,8 @@ pub(crate) struct Computed {
     pub(crate) chain: Extents,
 }
 
-/// Promotes level 0 and the shallow levels, and writes the manifest after that: all of the next contents but their superblock.
+/// Promotes what is sealed and the shallow levels, and writes the manifest after that: all of the next contents but their
+/// superblock.
 /// Nothing is written but free blocks, so the old contents stand as they did, whatever comes of it. After an error the space
 /// is not to be used again. Errors are those of `promote` and of `write_next`; `Unfit` never comes where the store stands.
 pub(crate) fn compute_next<D: Disk>(
@@ -236,7 +239,7 @@ pub(crate) fn compute_next<D: Disk>(
         → MayCompute (D.view disk.old) space.old memory.now levels.now log x others
         → x.chained.manifest ≡ manifest_of old.now → x.sb.mem ≡ mem
         → IsComputedBy (D.view disk.new) space.new x memory.now log
-        r.made.target r.made.level r.first r.length r.chain others) }
+        r.made.target r.made.level r.first r.length r.chain others r.made.filters) }
     ensures found { IfOk result (λ r. manifest_of r.manifest
         ≡ manifest_after (manifest_of old.now) memory.now r.made.target r.made.level) }
     ensures disk { IfOk result (λ r. WritesManifest (D.view disk.old) (D.view disk.new)

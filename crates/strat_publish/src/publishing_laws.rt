@@ -28,22 +28,22 @@ pub fn a_whole_store_may_promote()
         → MayPromote s.memory s.levels s.chained.manifest.next_array }
 {}
 
-/// Where such a store stands on its disk and its journal just fills its region, its next contents may be computed, in a space in
+/// Where such a store stands on its disk and its journal fills its region, its next contents may be computed, in a space in
 /// which just its blocks are used and some others, as those of arrays that are kept for cursors. Of the extents of its
 /// manifest's chain only the blocks are known.
 pub fn a_store_that_stands_may_compute<D: Viewed>()
     ensures ok { (d : D) (s : Held) (x : Contents) (chain others : List Extent) (space : SpaceView)
-        → IsConsistent s → StandsWith (D.view d) s x → length s.log.list ≡ s.sb.mem
+        → IsConsistent s → StandsWith (D.view d) s x → s.sb.mem ≤ length s.log.list
         → blocks_of chain ≡ s.chained.blocks → IsSpaceOf space x others
         → MayCompute (D.view d) space s.memory s.levels s.log x others }
 {}
 
-/// The contents whose manifest `next_manifest` makes follow those whose manifest and memory it was made of, where nothing is
-/// behind a full region: they take the place of the levels down to the target, and keep the others.
+/// The contents whose manifest `next_manifest` makes follow those whose manifest and memory it was made of: they take the
+/// place of the levels down to the target, keep the others, and have the changes behind a full region as their journal.
 pub fn the_next_manifest_makes_the_next_contents()
     ensures ok { (old : Contents) (m : Memory) (target : ℕ) (made : Option LevelDesc)
         (levels : List Level) (first size : ℕ) (blocks : List ℕ) → IsMemoryOf (contents_head old) m
-        → IsSound (contents_state old) → length old.journal ≤ old.sb.mem
+        → IsSound (contents_state old)
         → IsTrue (is_lawful_manifest newest_format old.chained.manifest)
         → IsNextOf old (contents_after old m target made levels first size blocks) made
         (descs_to target old.chained.manifest.levels)

@@ -57,6 +57,7 @@ module _ (say : Read (Option Head) → List ℕ) (disk : DiskView) where
   wrote_nothing (ended.Damaged block) held none gives = absurd gives
   wrote_nothing ended.Budget held none gives = absurd gives
   wrote_nothing ended.Unsound held none gives = absurd gives
+  wrote_nothing ended.UnknownVersion held none gives = absurd gives
 
   -- what was written is complete, unless the sink or the disk failed
   pub completes : (how : Ended) (before now : Option (List ℕ)) → WritesReport say disk how before now → how ≢ ended.Device → how ≢ ended.Sink
@@ -80,3 +81,4 @@ module _ (say : Read (Option Head) → List ℕ) (disk : DiskView) where
       by_end ended.Source w calm sent = absurd w
       by_end ended.Budget w calm sent = absurd w
       by_end ended.Unsound w calm sent = absurd w
+      by_end ended.UnknownVersion w calm sent = absurd w

@@ -13,9 +13,9 @@ use Rattle.strat_model.specs.declared.ended.Ended.TheVariants as ended
 use Rattle.def_publish.specs.Several.{EachShows, ShowOneOfSince, ShowsOneOf}
 use Rattle.def_publish.specs.Standing.{LeavesContent, ShowsTable}
 use Rattle.strat_open.specs.Following.{FollowsFrom, IsUnchanged, LeavesOpening}
-use Rattle.strat_serve.specs.Session.{GaveUp}
+use Rattle.strat_loop.specs.Session.{GaveUp}
 use Rattle.strat_serve.specs.Tables.{GoesThroughTables}
-use Rattle.strat_serve.specs.World.{World}
+use Rattle.strat_loop.specs.World.{World}
 
 only : (c : Image) (t : Table) (i : ℕ) → At (t ∷ []) i (ShowsTable c) → ShowsTable c t
 only c t zero here = here
@@ -72,3 +72,4 @@ module _ (before now : World) (f : Image) (exposed : Exposes before.disk f) (lea
   gave_whole ended.Sink gave = absurd gave.ends
   gave_whole ended.Budget gave = absurd gave.ends
   gave_whole ended.Unsound gave = absurd gave.ends
+  gave_whole ended.UnknownVersion gave = absurd gave.ends

@@ -2,7 +2,8 @@
 use Rattle.std.proofs.Common.{◌≡◌, ◌≢◌, ◌≤◌, ◌<◌, ◌+◌, ◌*◌, ℕ, zero, suc, eqb, eqb-true, cond, Bool, true, false, List, [], ◌∷◌, ◌++◌, length, take, map, Option, Some, None, refl, sym, ap, subst, ◌∙◌, inl, inr, append-nil, length-append, true≢false, arith}
 use Rattle.std.specs.Prelude.{option_map, slice_get, IfSome, IsSome}
 use Rattle.std.specs.List.{flat_map, list_all, AllByRecursion}
-use Rattle.std.proofs.lemmas.Bool.{and_from, cases_lt, eq-eqb}
+use Rattle.std.proofs.lemmas.Bool.{and_from, cases_lt, eq-eqb, lt-ltb, le-ltb}
+use Rattle.strat_base.specs.Numbers.{number}
 use Rattle.std.proofs.lemmas.List.{take_all, length-map}
 use Rattle.strat_base.specs.Tree.{Parents}
 use Rattle.strat_base.specs.declared.failures.Fault.{Fault}
@@ -19,18 +20,34 @@ use Rattle.strat_model.specs.declared.replies.Refusal.TheVariants as why
 use Rattle.strat_model.specs.Answer.{Answer, refusal}
 use Rattle.strat_model.specs.Batch.{Continuation, tables_continued}
 use Rattle.strat_model.specs.Ended.{status_of}
-use Rattle.strat_model.specs.Run.{Position, Response, Exchange, Interruption, Transcript, IsTranscript, UsesOneRegion, bodies_of, responses_of, of_interruption, sent_bytes}
-use Rattle.strat_model.specs.Stream.{frame, Splits, Whole, Rest, Long, ending_of, is_too_long}
+use Rattle.strat_model.specs.Run.{Position, Response, Exchange, Interruption, Transcript, IsTranscript, bodies_of, responses_of, of_interruption, sent_bytes}
+use Rattle.strat_model.specs.Stream.{frame, Splits, Whole, Rest, Long, ending_of, is_partial, is_too_long}
 use Rattle.strat_model.specs.Table.{Table}
 use Rattle.def_publish.specs.Standing.{ShowsTable}
 use Rattle.def_state.specs.Level.{Level, IsStratified, is_dense}
 use Rattle.def_state.specs.State.{State, stored, updates_of, versions_of}
 use Rattle.strat_open.specs.Following.{FollowsFrom}
 use Rattle.strat_memory.specs.Paying.{IsPaidIn}
-use Rattle.strat_serve.specs.Session.{AreAnsweredBy, AreNextIn, Begins, RespondsTo, Session, SendsAllButBatch, AnswersAll, WaitsForNone, Served, FollowsRun, all_responses, listed_response, last_output, output, too_long_bytes, EndsWithFault, EndsFor}
+use Rattle.strat_loop.specs.Session.{AreNextIn, Begins, Session, AnswersAll, WaitsForNone, EndsWithFault, EndsFor}
+use Rattle.strat_serve.specs.Serving.{AreAnsweredBy, RespondsTo, SendsAllButBatch, Served, FollowsRun, all_responses, listed_response, last_output, output, too_long_bytes}
 use Rattle.strat_serve.specs.Tables.{AnswersAllTaken, AnswersUntilFault, AnswersUntilCut, RefusesNext, AnswersUntil, AnswersAsTable, EndsAtTables, GoesThroughTables, IsThrifty, KeepsSpace, begins_at}
-use Rattle.strat_serve.proofs.StreamLemmas.{partial_short}
-use Rattle.strat_serve.specs.World.{Streams, beside}
+use Rattle.strat_loop.specs.Spoken.{EmptiesFullRegion}
+use Rattle.strat_loop.specs.World.{Streams, beside}
+use Rattle.def_slice.specs.Filling.{IsFillFrom}
+
+-- less than a whole frame is few bytes
+partial_short : (bytes : List ℕ) → is_partial bytes ≡ true → length bytes < 2052
+partial_short bytes part =
+    elim (cases_lt (length bytes) 4) [
+      | inl few ↦ omega arith
+      | inr some ↦ elim (cases_lt 2048 (number 4 bytes)) [
+        | inl big ↦ absurd (let p : is_partial bytes ≡ false = rw (le-ltb (length bytes) 4 some, lt-ltb 2048 (number 4 bytes) big) refl in let f : true ≡ false = sym part ∙ p in cc)
+        | inr small ↦ elim (cases_lt (length bytes) (4 + number 4 bytes)) [
+          | inl less ↦ omega arith
+          | inr whole ↦ absurd (let p : is_partial bytes ≡ false = rw (le-ltb (length bytes) 4 some, le-ltb 2048 (number 4 bytes) small, le-ltb (length bytes) (4 + number 4 bytes) whole) refl in let f : true ≡ false = sym part ∙ p in cc)
+        ]
+      ]
+    ]
 
 -- a rest after which a stream ends whole is none
 whole_none : (rest : List ℕ) → ending_of rest ≡ Whole → rest ≡ []
@@ -135,14 +152,18 @@ module _ (f : Image) (t : Table) (shows : ShowsTable f t) (mem : ℕ) (start : P
   mem_is : mem ≡ shows.state.mem
   mem_is = begins.mem_is ∙ ap (λ (u : State). u.mem) state_is
 
-  pub region_there : (run : Transcript) → UsesOneRegion mem run → UsesOneRegion shows.state.mem run
-  region_there run uses = subst (λ (m : ℕ). UsesOneRegion m run) mem_is uses
+  start_is : start ≡ begins_at f t shows
+  start_is =
+      let fill : start.fill ≡ length shows.state.journal = begins.fill ∙ ap (λ (u : State). length u.journal) state_is in
+      (λ i. record { table = table i; fill = fill i })
+
+  pub region_there : (run : Transcript) → EmptiesFullRegion mem start run → EmptiesFullRegion shows.state.mem (begins_at f t shows) run
+  region_there run empties =
+      subst (λ (m : ℕ). EmptiesFullRegion m (begins_at f t shows) run) mem_is (subst (λ (p : Position). EmptiesFullRegion mem p run) start_is empties)
 
   pub begins_there : (run : Transcript) → IsTranscript mem start run → IsTranscript shows.state.mem (begins_at f t shows) run
   begins_there run is =
-      let fill : start.fill ≡ length shows.state.journal = begins.fill ∙ ap (λ (u : State). length u.journal) state_is in
-      let same : start ≡ begins_at f t shows = (λ i. record { table = table i; fill = fill i }) in
-      subst (λ (m : ℕ). IsTranscript m (begins_at f t shows) run) mem_is (subst (λ (p : Position). IsTranscript mem p run) same is)
+      subst (λ (m : ℕ). IsTranscript m (begins_at f t shows) run) mem_is (subst (λ (p : Position). IsTranscript mem p run) start_is is)
 
 module _ (v w : DiskView) (f : Image) (t : Table) (s : Session) (run : FollowsRun v w f t s) where
   abbrev tr : Transcript
@@ -333,6 +354,7 @@ module _ (budget : ℕ) (before now : Streams) (v w : DiskView) (f : Image) (t :
   answers_as_table ended.NotAStore served run = absurd served.ends
   answers_as_table ended.Usage served run = absurd served.ends
   answers_as_table ended.Unsound served run = absurd served.ends
+  answers_as_table ended.UnknownVersion served run = absurd served.ends
 
 -- what is there is something
 pub there : {A : Type 0} (o : Option A) → IsSome o → (x : A) × (o ≡ Some x)
@@ -363,6 +385,7 @@ no_device_at_end how budget s left ends device sink told = go how ends device si
     go ended.NotAStore ends device sink = ends
     go ended.Usage ends device sink = ends
     go ended.Unsound ends device sink = ends
+    go ended.UnknownVersion ends device sink = ends
 
 -- the frames of fewer bodies are fewer bytes
 frames_within : (bodies : List (List ℕ)) (n m : ℕ) → n ≤ m → length (flat_map frame (take n bodies)) ≤ length (flat_map frame (take m bodies))
@@ -403,11 +426,17 @@ fits_few bodies [] all = omega arith
 fits_few [] (t ∷ ts) all = absurd all
 fits_few (b ∷ bs) (t ∷ ts) all = omega (arith, fits_few bs ts all.1)
 
--- at each place of positions of which none has more changes in the journal than a region takes
-pub few_at : (mem : ℕ) (ps : List Position) (i : ℕ) (p : Position) → AllByRecursion (λ (q : Position). q.fill ≤ mem) ps → slice_get ps i ≡ Some p → p.fill ≤ mem
-few_at mem [] i p each there = absurd (let e : ◌≡◌ {A = Option Position} None (Some p) = there in cc)
-few_at mem (q ∷ ps) zero p each there = let same : q ≡ p = (let e : ◌≡◌ {A = Option Position} (Some q) (Some p) = there in cc) in subst (λ (r : Position). r.fill ≤ mem) same each.0
-few_at mem (q ∷ ps) (suc i) p each there = few_at mem ps i p each.1 there
+-- at each place of positions of which none has more changes in the journal than a region takes, or as many as first
+pub few_at : (mem first : ℕ) (ps : List Position) (i : ℕ) (p : Position) → AllByRecursion (λ (q : Position). IsFillFrom mem first q.fill) ps → slice_get ps i ≡ Some p → IsFillFrom mem first p.fill
+few_at mem first [] i p each there = absurd (let e : ◌≡◌ {A = Option Position} None (Some p) = there in cc)
+few_at mem first (q ∷ ps) zero p each there =
+    let same : q ≡ p = (let e : ◌≡◌ {A = Option Position} (Some q) (Some p) = there in cc) in subst (λ (r : Position). IsFillFrom mem first r.fill) same each.0
+few_at mem first (q ∷ ps) (suc i) p each there = few_at mem first ps i p each.1 there
+
+-- then there are no more than a region takes, where there were no more first
+pub few_of : (mem first fill : ℕ) → first ≤ mem → IsFillFrom mem first fill → fill ≤ mem
+few_of mem first fill few (inl is) = is
+few_of mem first fill few (inr same) = omega (arith, few, same)
 
 -- no response of these tells of a fault
 pub calm_at : (answers : List Response) (i : ℕ) (r : Response) → AllByRecursion (λ (t : Response). fault_told t.answer.reply ≡ None) answers → slice_get answers i ≡ Some r → fault_told r.answer.reply ≡ None

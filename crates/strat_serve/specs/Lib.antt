@@ -1,7 +1,4 @@
 pub mod Generated
-pub mod Session
-pub mod World
+pub mod Serving
+pub mod Replying
 pub mod Tables
-pub mod Pending
-pub mod Progress
-pub mod Grouping

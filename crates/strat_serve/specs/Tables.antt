@@ -12,7 +12,7 @@ use Rattle.strat_model.specs.declared.replies.Refusal.TheVariants as why
 use Rattle.strat_model.specs.Answer.{refusal}
 use Rattle.strat_model.specs.Ended.{status_of}
 use Rattle.strat_model.specs.Batch.{Continuation, tables_continued}
-use Rattle.strat_model.specs.Run.{Position, Exchange, Interruption, Transcript, IsTranscript, UsesOneRegion, bodies_of, responses_of, sent_bytes}
+use Rattle.strat_model.specs.Run.{Position, Exchange, Interruption, Transcript, IsTranscript, bodies_of, responses_of, sent_bytes}
 use Rattle.strat_model.specs.Stream.{Splits, Rest, Long, ending_of}
 use Rattle.strat_model.specs.Table.{Table}
 use Rattle.def_recovery.specs.Opening.{reads_as}
@@ -21,8 +21,10 @@ use Rattle.def_state.specs.Level.{is_dense}
 use Rattle.def_state.specs.Sound.{IsSound}
 use Rattle.def_state.specs.State.{State, stored, updates_of, versions_of}
 use Rattle.strat_memory.specs.Paying.{IsPaidIn}
-use Rattle.strat_serve.specs.Session.{Took, AreNextIn, IsAtEnd, WaitsForNone, too_long_bytes}
-use Rattle.strat_serve.specs.World.{Streams}
+use Rattle.strat_loop.specs.Session.{Took, AreNextIn, IsAtEnd, WaitsForNone}
+use Rattle.strat_serve.specs.Serving.{too_long_bytes}
+use Rattle.strat_loop.specs.Spoken.{EmptiesFullRegion}
+use Rattle.strat_loop.specs.World.{Streams}
 
 -- a run answered every frame that was taken whole, none of them by a fault, and a rest with no whole frame was taken
 -- behind them; its replies were sent, and these bytes behind them
@@ -122,7 +124,7 @@ pub record AnswersAsTable (budget mem : ℕ) (start : Position) (status : ℕ) (
   pub ended : status ≡ status_of how
   pub run : Transcript
   pub is : IsTranscript mem start run
-  pub region : UsesOneRegion mem run
+  pub region : EmptiesFullRegion mem start run
   pub broken : BreaksForFault run before now
   pub taken : List ℕ
   pub took : Took before.left now.left taken

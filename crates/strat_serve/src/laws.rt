@@ -34,20 +34,12 @@ ghost use Rattle.strat_publish.specs.Outcomes.{IsDamagedIn};
 ghost use Rattle.strat_store.specs.Applying.{is_fault};
 ghost use Rattle.strat_memory.specs.Held.{Held, IsConsistent, IsOnDisk, arrays_held};
 ghost use Rattle.strat_store.specs.Ranging.{HasPairsFor};
-ghost use Rattle.strat_serve.specs.Session.{Begins, AreCalm, GaveUp, IsSession, IsTaggedFor, RespondsTo, Served, Session, WasPublished, all_responses};
+ghost use Rattle.strat_loop.specs.Session.{GaveUp, Session, WasPublished};
+ghost use Rattle.strat_serve.specs.Serving.{AreCalm, IsSession, IsTaggedFor, RespondsTo, Served, all_responses};
 ghost use Rattle.strat_serve.specs.Tables.{AnswersAsTable, EndsAtTables, GoesThroughTables, KeepsSpace, begins_at};
-ghost use Rattle.strat_serve.specs.World.{Streams, beside};
+ghost use Rattle.strat_loop.specs.World.{Streams, beside};
 
 use def_crash::laws::Viewed;
-
-/// An image shows one table, and a run that is served from it begins there. What a run leaves at each
-/// moment shows one of its tables, at or after the last that it acknowledged by then: so where a run
-/// is cut off, the next one goes on from that table.
-pub fn a_run_begins_where_the_last_one_was_cut_off()
-    ensures one { (c : Image) (t other : Table) → ShowsTable c t → ShowsTable c other → t ≡ other }
-    ensures ok { (c : Image) (t : Table) (mem : ℕ) (start : Position) → ShowsTable c t
-        → Begins c mem start → start.table ≡ t }
-{}
 
 /// A run that was served over a disk that shows a table answers what it took as a run of that table does. At its
 /// end a crash leaves the table after all that was answered, or after one command more that met a fault and the whole
@@ -74,12 +66,16 @@ pub fn a_served_run_is_a_run_of_its_table<D: Viewed>()
         → KeepsSpace f (D.view d) (D.view e) }
 {}
 
-/// Where a run answers anything, no more changes are in its journal at any of its positions than one region takes: a full
-/// region is emptied by the next change.
+/// Where a run begins with no more changes in its journal than one region takes, it never has more: a full region is emptied
+/// by the next change. Where it begins with more, it has just these until a change is carried out, and then no more than one
+/// region takes.
 pub fn a_run_uses_one_region_of_its_journal()
-    ensures { (budget mem status i : ℕ) (start p : Position) (x y : Streams)
-        (a : AnswersAsTable budget mem start status x y) → bodies_of a.run ≢ []
+    ensures one { (budget mem status i : ℕ) (start p : Position) (x y : Streams)
+        (a : AnswersAsTable budget mem start status x y) → start.fill ≤ mem
         → slice_get (positions_of a.run) i ≡ Some p → p.fill ≤ mem }
+    ensures most { (budget mem status i : ℕ) (start p : Position) (x y : Streams)
+        (a : AnswersAsTable budget mem start status x y)
+        → slice_get (positions_of a.run) i ≡ Some p → (p.fill ≤ mem) ⊎ (p.fill ≡ start.fill) }
 {}
 
 /// Whatever the disk shows, fewer than 6,148 bytes were taken behind the frames that were answered otherwise than
@@ -122,7 +118,7 @@ pub fn a_response_fits_its_body()
 /// Whatever a disk shows that exposes its content: a run was served only where recovery finds a store; the disk's count of
 /// faults rose where it ended the run, and nowhere else but where the sink did; unless the device failed the superblock
 /// and the manifest of a store are left, and where the disk showed a table a journal of no more changes than one region
-/// takes; and commands that change nothing leave the disk but for one gate.
+/// takes, or of as many as it had; and commands that change nothing leave the disk but for one gate.
 pub fn a_served_run_finds_and_leaves_a_store<D: Viewed>()
     ensures found { (x y : Streams) (d e : D) (budget : ℕ) (how : Ended) (f : Image)
         → Served budget how (beside x (D.view d)) (beside y (D.view e)) → Exposes (D.view d) f
@@ -138,10 +134,12 @@ pub fn a_served_run_finds_and_leaves_a_store<D: Viewed>()
         → how ≢ ended.Device → how ≢ ended.Sink
         → (store : Held) × IsConsistent store × IsOnDisk (D.view e) store }
     ensures journal { (x y : Streams) (d e : D) (budget : ℕ) (how : Ended) (f : Image) (t : Table)
+        (shows : ShowsTable f t)
         → Served budget how (beside x (D.view d)) (beside y (D.view e)) → Exposes (D.view d) f
-        → ShowsTable f t → how ≢ ended.Device → how ≢ ended.Sink → (c : Image)
+        → how ≢ ended.Device → how ≢ ended.Sink → (c : Image)
         → Images (D.view e) c → (head : Head) × (recover c ≡ Ok (Some head))
-        × (length head.journal ≤ head.sb.mem) }
+        × ((length head.journal ≤ head.sb.mem)
+        ⊎ (length head.journal ≡ length shows.state.journal)) }
     ensures still { (x y : Streams) (d e : D) (budget : ℕ) (how : Ended) (f : Image)
         (s : Served budget how (beside x (D.view d)) (beside y (D.view e)))
         → AreCalm s.session.bodies (all_responses s.session) → Exposes (D.view d) f

@@ -11,6 +11,8 @@ mod damaged;
 #[cfg(test)]
 mod disks;
 #[cfg(test)]
+mod filters;
+#[cfg(test)]
 mod formatting;
 #[cfg(test)]
 mod openings;

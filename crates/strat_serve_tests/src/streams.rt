@@ -164,6 +164,7 @@ fn each_end_has_its_status(rt: HostRuntime) {
         (Ended::Damaged { block: 6 }, 9),
         (Ended::Budget, 10),
         (Ended::Unsound, 11),
+        (Ended::UnknownVersion, 12),
     ] {
         assert!(rt; ended.status() == status);
     }

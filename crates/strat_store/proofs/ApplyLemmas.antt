@@ -33,7 +33,7 @@ use Rattle.strat_model.specs.Answer.{Answer, plain, accepts, as_told, refusal}
 use Rattle.strat_model.specs.Pairs.{range, value_of}
 use Rattle.strat_model.specs.Request.{Request, Put, Delete, Get, Clone, Scan, Info, OpenCursor, NextPairs, CloseCursor, Stat, DropVersion}
 use Rattle.strat_model.specs.Run.{is_change, reaches_disk, takes_memory}
-use Rattle.strat_model.proofs.FillLemmas.{empties_none, not_carried, stays}
+use Rattle.strat_model.proofs.FillLemmas.{not_carried, stays}
 use Rattle.strat_model.specs.Spelling.{is_bound, is_limit, has_lawful_sizes}
 use Rattle.strat_model.specs.Step.{Outcome, advanced, step, replies_with, refuses, has_row, pairs_at, found, page}
 use Rattle.strat_model.specs.Table.{Cursor, Table, bare}
@@ -45,6 +45,7 @@ use Rattle.def_publish.proofs.PartsLemmas.{reads_head, reads_state}
 use Rattle.def_publish.specs.Contents.{Contents, contents_head, contents_state}
 use Rattle.def_publish.specs.Standing.{LeavesContent, ShowsTable}
 use Rattle.strat_memory.proofs.MemoryLawLemmas.{version_told, store_told_with, version_unknown}
+use Rattle.def_slice.proofs.FillingLemmas.{empties_nothing}
 use Rattle.strat_store.proofs.AppliedLemmas.{next_later}
 use Rattle.strat_store.proofs.CursoringLemmas.{looks_wider, stands_now, stands_still, still_going}
 use Rattle.strat_store.specs.Applying.{IsLookedUp, IsUntouched, FailsAsTold, FollowsStep, TellsTroubleOf, change_wanted, refusal_of_look, is_fault, ran_short, table_left}
@@ -380,7 +381,7 @@ told_at now s new x rows r answer other none log memory spent told stands =
       place = stays s.log.mem (position_at s x rows) (position_at new x rows) r off
           ((λ i. record (table_of (contents_state x)) { cursors = rows; next_cursor = (memory i).cursors.next }) ∙ sym (look_kept t r other none))
           (ap (λ (l : Log). length l.list) log);
-      fill = empties_none s.log.mem (position_at s x rows) (position_at new x rows) r off;
+      fill = empties_nothing s.log.mem (position_at s x rows) (position_at new x rows) r off;
     })
 
 -- without a look at the disk
@@ -490,7 +491,7 @@ next_fits cursor limit lawful =
 -- a store stands with its cursors whether it is spent or not
 pub spent_at : (v : DiskView) (s : Held) (x : Contents) (rows : List Cursor) (b : Bool) → StandsAt v (record s { spent = b }) x rows → StandsAt v s x rows
 spent_at v s x rows b at = record {
-  stands = record { stands = at.stands.stands; held = at.stands.held; cached = at.stands.cached };
+  stands = record { stands = at.stands.stands; held = at.stands.held; cached = at.stands.cached; filtered = at.stands.filtered };
   rows_are = at.rows_are;
   going = at.going;
 }

@@ -26,7 +26,7 @@ use Rattle.strat_gate.specs.SuperView.{super_of}
 use Rattle.strat_journal.specs.Log.{Log}
 use Rattle.strat_model.specs.Answer.{plain, accepts}
 use Rattle.strat_model.specs.Run.{is_carried_out, is_change, reaches_disk}
-use Rattle.strat_model.proofs.FillLemmas.{carried, filled_below}
+use Rattle.strat_model.proofs.FillLemmas.{carried}
 use Rattle.strat_model.specs.Step.{step}
 use Rattle.strat_model.specs.Table.{Table, bare}
 use Rattle.strat_model.specs.declared.replies.Refusal.TheVariants as why
@@ -55,6 +55,7 @@ use Rattle.strat_memory.specs.RecoveredFields.{held_of}
 use Rattle.strat_store.specs.Applying.{held_after}
 use Rattle.strat_memory.specs.declared.open_store.OpenStore.{OpenStore}
 use Rattle.strat_publish.proofs.KeptLemmas.{named_behind}
+use Rattle.def_slice.proofs.FillingLemmas.{left_below}
 use Rattle.strat_memory.proofs.MemoryLawLemmas.{accepted_same, change_answered, change_taken, memory_follows, room_for}
 use Rattle.strat_base.specs.Marks.{Marks}
 
@@ -168,13 +169,13 @@ module _ (r : OpenStore) (cached : Blocks) (kept : IsConsistent (held_of r cache
             mem = ap (λ (l : Log). l.mem) grown ∙ kept.log.mem;
             active = ap (λ (l : Log). l.active) grown ∙ kept.log.active;
             batch = ap (λ (l : Log). l.batch) grown ∙ kept.log.batch;
-            few = omega (arith, room, ap length list, length-append r.journal.list (c ∷ []));
+            few = omega (arith, room, ap length list, length-append r.journal.list (c ∷ []), kept.lawful.mem_least);
             lawful = subst (λ (cs : List Change). list_all is_lawful cs ≡ true) list
                 (list_all-append is_lawful r.journal.list (c ∷ []) ∙ and_from (list_all is_lawful r.journal.list) (list_all is_lawful (c ∷ [])) kept.log.lawful (and_from (is_lawful c) true lawful refl));
           };
           accepted = subst (λ (cs : List Change). are_accepted r.sb.changes_max r.sb.versions_max (parents_in (chained_of r.published).manifest) (chained_of r.published).manifest.marks (chained_of r.published).manifest.changes cs ≡ true) list accepted_last;
           memory =
-              let of : IsMemoryOf (record (head_held (held_of r cached)) { journal = r.journal.list ++ c ∷ [] }) (memory_after r.memory c) = memory_follows (head_held (held_of r cached)) r.memory kept.memory c free in
+              let of : IsMemoryOf (record (head_held (held_of r cached)) { journal = r.journal.list ++ c ∷ [] }) (memory_after r.memory c) = memory_follows (head_held (held_of r cached)) r.memory kept.memory c free (λ unsealed. room) in
               subst (λ (m : Memory). IsMemoryOf (record (head_held (held_of r cached)) { journal = j.list }) m) (sym follows)
               (subst (λ (cs : List Change). IsMemoryOf (record (head_held (held_of r cached)) { journal = cs }) (memory_after r.memory c)) list of);
           placed = kept.placed;
@@ -258,11 +259,12 @@ module _ (r : OpenStore) (cached : Blocks) (kept : IsConsistent (held_of r cache
             held = more_held j grown;
             cached = cached_behind stands.stands.content now.content (held_of r cached) kept
                 (subst (λ (n : ℕ). KeepsTaken (is_in_front n) stands.stands.content now.content) kept.log.mem (keeps stands.stands.content now.content stands.stands.exposed now.exposed)) stands.cached;
+            filtered = stands.filtered;
           };
           place = record {
             table = sym (steps_to (contents_state x) c takes);
             fill = λ done. inl (low, one_more j grown);
             same = λ off. absurd (true≢false (sym done_so ∙ off));
           };
-          fill = λ done. one_more j grown ∙ sym (filled_below r.journal.mem (length r.journal.list) under);
+          fill = λ done. one_more j grown ∙ sym (left_below r.journal.mem (length r.journal.list) under);
         })

@@ -1,5 +1,5 @@
 -- Staged changes that become durable: what the disk then has, and that the store stands on it.
-use Rattle.std.proofs.Common.{◌≡◌, ◌<◌, ℕ, Bool, true, false, cond, List, length, refl, ap, subst, arith, length-append}
+use Rattle.std.proofs.Common.{◌≡◌, ◌<◌, ◌≤◌, ◌+◌, ℕ, Bool, true, false, cond, List, length, refl, ap, subst, arith}
 use Rattle.std.proofs.lemmas.Bool.{lt-ltb}
 use Rattle.def_crash.specs.Blocks.{AgreeOn, KeepsTaken}
 use Rattle.def_crash.specs.Image.{Image}
@@ -29,9 +29,9 @@ use Rattle.strat_store.proofs.LoggingLemmas.{appended_behind, batch_paid}
 use Rattle.strat_store.proofs.StagingLemmas.{staged_log, takes_batch}
 
 -- a store whose staged changes were appended, or were to be
-module _ (old new : DiskView) (s : Held) (whole : IsConsistent (held_joined s)) (some : 0 < length s.log.batch) (appends : AppendsBatch old new s.log) where
+module _ (old new : DiskView) (s : Held) (whole : IsConsistent (held_joined s)) (some : 0 < length s.log.batch) (fits : length s.log.list + length s.log.batch ≤ s.log.mem) (appends : AppendsBatch old new s.log) where
   room : length s.log.list < s.log.mem
-  room = omega (arith, some, whole.log.few, whole.log.mem, length-append s.log.list s.log.batch)
+  room = omega (arith, some, fits)
 
   here : batch_region s.log ≡ s.log.active
   here = ap (λ (b : Bool). cond b s.log.active (other_region s.log.active)) (lt-ltb (length s.log.list) s.log.mem room)
@@ -42,7 +42,7 @@ module _ (old new : DiskView) (s : Held) (whole : IsConsistent (held_joined s)) 
   -- superblock and manifest are on the disk as they were
   commit_on : (t : Held) → KeepsPublished s t → IsOnDisk old s → IsOnDisk new t
   commit_on t same on =
-      let then : KeepsPublished (held_joined s) t = record { slot = same.slot; sb = same.sb; chained = same.chained; levels = same.levels } in
+      let then : KeepsPublished (held_joined s) t = record { slot = same.slot; sb = same.sb; chained = same.chained; levels = same.levels; filters = same.filters } in
       let first : IsOnDisk old (held_joined s) = record { content = on.content; exposed = on.exposed; newest = on.newest; chain = on.chain } in
       (logged_leaves old new (held_joined s) t whole then torn appends.time).1 first
 
@@ -77,7 +77,7 @@ module _ (old new : DiskView) (s : Held) (whole : IsConsistent (held_joined s)) 
     behind : (f g : Image) → Exposes old f → Exposes new g → KeepsTaken (is_in_front s.sb.mem) f g
     behind f g told now =
         subst (λ (n : ℕ). KeepsTaken (is_in_front n) f g) whole.log.mem
-        (appended_behind old new s.log whole.log.lawful (omega (arith, whole.log.few, whole.log.mem, length-append s.log.list s.log.batch)) (omega (arith, whole.log.active, whole.lawful.region_most)) holds f g told now)
+        (appended_behind old new s.log whole.log.lawful some fits (omega (arith, whole.log.active, whole.lawful.region_most)) holds f g told now)
 
     agree : (f g : Image) → Exposes old f → Exposes new g → AgreeOn (blocks_listed (arrays_held s.memory s.levels)) f g
     agree = front_keeps old new (held_joined s) whole behind
@@ -96,6 +96,7 @@ module _ (old new : DiskView) (s : Held) (whole : IsConsistent (held_joined s)) 
             stands = now;
             held = ap (λ (z : Contents). with_batch z s.log.batch) at.stands.held;
             cached = cached_behind f g (held_joined s) whole (behind f g at.stands.stands.exposed now.exposed) at.stands.cached;
+            filtered = at.stands.filtered;
           };
           rows_are = rows_kept f g (held_joined s) whole same rows at.rows_are;
           going = λ k of. going_kept f g (held_joined s) whole same k of (at.going k of);

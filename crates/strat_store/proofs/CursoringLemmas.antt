@@ -52,7 +52,7 @@ use Rattle.strat_store.specs.Applying.{FailsAsTold, is_fault}
 use Rattle.strat_publish.specs.Outcomes.{IsDamagedIn}
 use Rattle.strat_store.specs.Cursoring.{IsAppliedAt, cursors_after, reply_of_close, reply_of_next, reply_of_start}
 use Rattle.strat_memory.specs.Held.{Held, IsConsistent, StandsAt, StandsWith, arrays_held, contents_held, position_at, table_at}
-use Rattle.strat_memory.specs.Memory.{Memory, cursor_from, with_cursor}
+use Rattle.strat_memory.specs.Memory.{Memory, cursor_from, with_cursor, lists_in_memory}
 use Rattle.strat_store.specs.Ranging.{HasPairs, TellsOfCursor, TellsOfOpening, TellsOfVersion}
 use Rattle.strat_cursor.proofs.ThroughLemmas.{id_names}
 
@@ -126,7 +126,7 @@ module _ (v : DiskView) (s : Held) (x : Contents) (rows : List Cursor) (whole : 
   pub stands_still : (m : Memory) (b : Bool) (left : List Cursor) → AreRowsOf f m.parents m.cursors.opened left
       → ((c : HeldCursor) → Contains m.cursors.opened c → MayGoOn f next c s.cached) → StandsAt v (record s { memory = m; spent = b }) x left
   stands_still m b left rows_are going = record {
-    stands = record { stands = at.stands.stands; held = at.stands.held; cached = at.stands.cached };
+    stands = record { stands = at.stands.stands; held = at.stands.held; cached = at.stands.cached; filtered = at.stands.filtered };
     rows_are = rows_are;
     going = going;
   }
@@ -161,7 +161,7 @@ module _ (v : DiskView) (s : Held) (x : Contents) (rows : List Cursor) (whole : 
     pub stands_now : (m : Memory) (b : Bool) (left : List Cursor) → AreRowsOf f m.parents m.cursors.opened left
         → ((c : HeldCursor) → Contains m.cursors.opened c → MayGoOn f next c d) → StandsAt now (record s { memory = m; cached = d; spent = b }) x left
     stands_now m b left rows_are going = record {
-      stands = record { stands = later; held = at.stands.held; cached = still_cached };
+      stands = record { stands = later; held = at.stands.held; cached = still_cached; filtered = at.stands.filtered };
       rows_are = subst (λ (g : Image). AreRowsOf g m.parents m.cursors.opened left) same_content rows_are;
       going = λ c of. subst (λ (g : Image). MayGoOn g next c d) same_content (going c of);
     }
@@ -216,7 +216,7 @@ module _ (v : DiskView) (s : Held) (x : Contents) (rows : List Cursor) (whole : 
           → IsMapHeld f s.memory.parents (cursor_from s.memory s.levels n lo hi) (pairs_at (table_of (contents_state (contents_held s levels))) n)
       go levels w same =
           subst (λ (g : Image). IsMapHeld g s.memory.parents (cursor_from s.memory s.levels n lo hi) (pairs_at (table_of (contents_state (contents_held s levels))) n)) same
-          (map_seen w.stands.content s.memory.parents s.memory.entries s.levels n (pairs_at (table_of (contents_state (contents_held s levels))) n) (table_asked v s levels whole w n is))
+          (map_seen w.stands.content s.memory.parents (lists_in_memory s.memory) s.levels n (pairs_at (table_of (contents_state (contents_held s levels))) n) (table_asked v s levels whole w n is))
 
   -- a cursor that begins may go on
   start_goes_on : (n : ℕ) (lo hi : List ℕ) → MayGoOn f next (cursor_from s.memory s.levels n lo hi) s.cached

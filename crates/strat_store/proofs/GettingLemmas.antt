@@ -1,8 +1,8 @@
 -- What a store says of a key: level 0 and its levels answer as its table.
-use Rattle.std.proofs.Common.{◌≡◌, ◌<◌, ◌+◌, ℕ, Bool, true, false, eqb, inl, inr, List, [], ◌∷◌, ◌++◌, length, if◌then◌else◌, Contains, flat_map, Option, Some, None, Result, Ok, Err, IfOk, OnErr, IsErrOf, refl, sym, ap, ◌∙◌, subst, true≢false}
-use Rattle.std.proofs.lemmas.Bool.{ltb-true, eqb-true}
+use Rattle.std.proofs.Common.{◌≡◌, ◌+◌, ℕ, Bool, true, false, eqb, inl, inr, List, [], ◌∷◌, ◌++◌, length, if◌then◌else◌, Contains, flat_map, Option, Some, None, Result, Ok, Err, IfOk, OnErr, IsErrOf, refl, sym, ap, ◌∙◌, subst, true≢false}
+use Rattle.std.proofs.lemmas.Bool.{eqb-true}
 use Rattle.std.proofs.lemmas.List.Elements.{Contains-append_left}
-use Rattle.std.specs.Option.{option_and_then, option_map, option_or}
+use Rattle.std.specs.Option.{option_and_then, option_map}
 use Rattle.strat_array.specs.Kept.{Blocks}
 use Rattle.strat_array.specs.Told.{TheirPairs, TellsFound, AddsPair}
 use Rattle.strat_array.specs.declared.seen.Seen.{Seen}
@@ -25,10 +25,9 @@ use Rattle.strat_model.specs.declared.replies.Refusal.TheVariants as why
 use Rattle.strat_model.specs.declared.replies.Reply.{Reply}
 use Rattle.strat_model.specs.declared.replies.Reply.TheVariants as reply
 use Rattle.strat_promote.specs.Job.{blocks_listed}
-use Rattle.def_recovery.proofs.AskedLemmas.{asked_same}
 use Rattle.def_recovery.proofs.HeadLemmas.{state_with}
 use Rattle.def_recovery.proofs.OpeningLemmas.{map_some, next_some}
-use Rattle.def_recovery.specs.Asked.{on_disk, asked}
+use Rattle.def_recovery.specs.Asked.{asked}
 use Rattle.def_recovery.specs.Head.{descriptors}
 use Rattle.def_recovery.specs.Opening.{state_of}
 use Rattle.def_meaning.specs.StateTable.{table_of}
@@ -38,16 +37,18 @@ use Rattle.def_publish.specs.Contents.{Contents, contents_state}
 use Rattle.def_publish.specs.Standing.{LeavesContent, ContentsStand}
 use Rattle.def_state.specs.Level.{Level}
 use Rattle.def_state.specs.LookUp.{looked_up}
-use Rattle.def_state.specs.Reading.{level_zero}
-use Rattle.def_state.specs.State.{State, versions_of, is_living}
+use Rattle.def_state.specs.State.{State, is_living}
 use Rattle.strat_publish.proofs.LookLawLemmas.{in_order}
-use Rattle.strat_memory.proofs.MemoryLawLemmas.{key_unknown, key_found, known_of, living_of}
+use Rattle.strat_memory.proofs.MemoryLawLemmas.{key_asked, key_unknown, known_of, living_of}
+use Rattle.strat_store.proofs.FilteringLemmas.{AreSilent, are_silent, filtered_agrees}
 use Rattle.strat_store.specs.Applying.{is_fault, IsLookedUp}
+use Rattle.strat_store.specs.Filtering.{AreNumberedByPlace, asked_filtered, on_disk_filtered}
 use Rattle.strat_publish.specs.Outcomes.{IsDamagedIn}
 use Rattle.strat_store.specs.Getting.{reply_of_get}
+use Rattle.strat_memory.specs.Filters.{LevelFilters}
 use Rattle.strat_memory.specs.Held.{Held, IsConsistent, StandsWith, arrays_held, contents_held, head_held}
 use Rattle.strat_cursor.specs.Looking.{levels_there, arrays_asked, arrays_there, AreInOrder, AreCachedFrom, LooksThrough, NamesNoBlock, HaveOwnIds}
-use Rattle.strat_memory.specs.Memory.{Memory}
+use Rattle.strat_memory.specs.Memory.{Memory, lists_in_memory}
 use Rattle.strat_cursor.proofs.HoldingLemmas.{asked_cached, asked_ordered}
 use Rattle.strat_cursor.proofs.ThroughLemmas.{still_cached}
 use Rattle.strat_publish.proofs.WholeLemmas.{whole_read}
@@ -65,20 +66,20 @@ answer_of e key out seen.None tells =
     ∙ ap (found key) (sym (ap (λ (o : Option Entry). option_and_then (λ x. x.value) o) tells.0))
 
 -- what a look-up through level 0 and levels says of what it found
-abbrev pub FindsIt : Option Image → Parents → List Entry → List (Option LevelDesc) → ℕ → List ℕ → Blocks → TheirPairs → Seen → Type 0
-FindsIt content parents entries levels n key c out told =
-    (f : Image) (next : ℕ) → content ≡ Some f → AreInOrder f (arrays_asked parents levels n) → HaveOwnIds (arrays_there levels) → AreCachedFrom f next (arrays_asked parents levels n) c
-    → TellsFound (looked_up (on_disk f) parents (entries ∷ []) (levels_there levels) n key) key [] out told
+abbrev pub FindsIt : Option Image → List LevelFilters → Parents → List (List Entry) → List (Option LevelDesc) → ℕ → List ℕ → Blocks → TheirPairs → Seen → Type 0
+FindsIt content filters parents zeros levels n key c out told =
+    (f : Image) (next : ℕ) → content ≡ Some f → AreInOrder f (arrays_asked parents levels n) → HaveOwnIds (arrays_there levels) → AreNumberedByPlace levels → AreCachedFrom f next (arrays_asked parents levels n) c
+    → TellsFound (looked_up (on_disk_filtered f filters) parents zeros (levels_there levels) n key) key [] out told
 
 -- unless a fault ended the look-up it is so
-pub answer_told : (content : Option Image) (parents : Parents) (entries : List Entry) (levels : List (Option LevelDesc)) (n : ℕ) (key : List ℕ) (c : Blocks) (out : TheirPairs) (r : Result Seen Fault)
-    → IfOk r (FindsIt content parents entries levels n key c out) → is_fault (reply_of_get r) ≡ false
-    → (f : Image) (next : ℕ) → content ≡ Some f → AreInOrder f (arrays_asked parents levels n) → HaveOwnIds (arrays_there levels) → AreCachedFrom f next (arrays_asked parents levels n) c
-    → as_told (reply_of_get r) out ≡ found key (asked f parents (entries ∷ []) (levels_there levels) n key)
-answer_told content parents entries levels n key c out (Ok told) tells none f next exposed ordered own cached =
-    answer_of (looked_up (on_disk f) parents (entries ∷ []) (levels_there levels) n key) key out told (tells f next exposed ordered own cached)
-answer_told content parents entries levels n key c out (Err fault.Device) tells none f next exposed ordered own cached = absurd (true≢false none)
-answer_told content parents entries levels n key c out (Err (fault.Damaged block)) tells none f next exposed ordered own cached = absurd (true≢false none)
+pub answer_told : (content : Option Image) (filters : List LevelFilters) (parents : Parents) (zeros : List (List Entry)) (levels : List (Option LevelDesc)) (n : ℕ) (key : List ℕ) (c : Blocks) (out : TheirPairs) (r : Result Seen Fault)
+    → IfOk r (FindsIt content filters parents zeros levels n key c out) → is_fault (reply_of_get r) ≡ false
+    → (f : Image) (next : ℕ) → content ≡ Some f → AreInOrder f (arrays_asked parents levels n) → HaveOwnIds (arrays_there levels) → AreNumberedByPlace levels → AreCachedFrom f next (arrays_asked parents levels n) c
+    → as_told (reply_of_get r) out ≡ found key (asked_filtered f filters parents zeros (levels_there levels) n key)
+answer_told content filters parents zeros levels n key c out (Ok told) tells none f next exposed ordered own numbered cached =
+    answer_of (looked_up (on_disk_filtered f filters) parents zeros (levels_there levels) n key) key out told (tells f next exposed ordered own numbered cached)
+answer_told content filters parents zeros levels n key c out (Err fault.Device) tells none f next exposed ordered own numbered cached = absurd (true≢false none)
+answer_told content filters parents zeros levels n key c out (Err (fault.Damaged block)) tells none f next exposed ordered own numbered cached = absurd (true≢false none)
 
 -- beside what is told of a key stands its pair where it was found, and else none
 pub key_pairs : (told : Reply) (r : Result Seen Fault) (mid out : TheirPairs) → told ≡ reply_of_get r → mid ≡ [] → IfOk r (λ seen. AddsPair mid out seen) → OnErr r (out ≡ mid)
@@ -182,13 +183,20 @@ module _ (v : DiskView) (s : Held) (levels : List Level) (whole : IsConsistent s
 
   -- what is looked up is what the table has
   pub asked_is : (n : ℕ) (key : List ℕ) → is_known s.memory.parents n ≡ true
-      → asked w.stands.content s.memory.parents (s.memory.entries ∷ []) (levels_there s.levels) n key ≡ value_of (pairs_at (table_of it) n) key
+      → asked w.stands.content s.memory.parents (lists_in_memory s.memory) (levels_there s.levels) n key ≡ value_of (pairs_at (table_of it) n) key
   asked_is n key is =
-      let same = key_found w.stands.content (head_held s) it s.memory read whole.memory w.stands.sound n key in
-      let here : n < length (versions_of it) = subst (λ (ps : Parents). n < length ps) whole.memory.parents (ltb-true n (length s.memory.parents) is) in
-      ap (λ (o : Option Entry). option_and_then (λ x. x.value) (option_or o (looked_up (on_disk w.stands.content) s.memory.parents [] (levels_there s.levels) n key))) same
-      ∙ (λ i. asked w.stands.content (whole.memory.parents i) (level_zero it ∷ []) (whole.placed.listed_are i) n key)
-      ∙ asked_same w.stands.content (head_held s) it n key read w.stands.sound here (living n)
+      ap (λ (ds : List LevelDesc). asked w.stands.content s.memory.parents (lists_in_memory s.memory) ds n key) whole.placed.listed_are
+      ∙ key_asked w.stands.content (head_held s) it s.memory read whole.memory w.stands.sound n key is
+
+  -- also where filters are asked, which are of the keys of its arrays
+  pub filtered_is : (n : ℕ) (key : List ℕ) → is_known s.memory.parents n ≡ true
+      → asked_filtered w.stands.content s.filters s.memory.parents (lists_in_memory s.memory) (levels_there s.levels) n key ≡ value_of (pairs_at (table_of it) n) key
+  filtered_is n key is =
+      let lies = (w.stands.reads w.stands.content w.stands.left).lies.arrays in
+      let silent = subst (λ (ds : List LevelDesc). AreSilent w.stands.content s.filters s.memory.parents n key ds) (sym whole.placed.listed_are)
+      (are_silent w.stands.content s.filters s.memory.parents n key s.chained.manifest.levels levels lies w.filtered) in
+      ap (λ (o : Option Entry). option_and_then (λ x. x.value) o) (filtered_agrees w.stands.content s.filters s.memory.parents n key (lists_in_memory s.memory) (levels_there s.levels) silent)
+      ∙ asked_is n key is
 
   accepted : (n : ℕ) (key : List ℕ) → is_known s.memory.parents n ≡ true → accepts (step (table_of it) (Get n key)).answer.reply ≡ true
   accepted n key is = ap (λ (a : Answer). accepts a.reply) (stepped n key is) ∙ each (value_of (pairs_at (table_of it) n) key)
@@ -213,20 +221,21 @@ module _ (v : DiskView) (s : Held) (levels : List Level) (whole : IsConsistent s
           held = refl;
           cached = subst (λ (f : Image). AreCachedFrom f s.chained.manifest.next_array (descriptors s.chained.manifest) d) same
               (subst (λ (rs : List ArrayDesc). AreCachedFrom w.stands.content s.chained.manifest.next_array rs d) listed kept);
+          filtered = w.filtered;
         }
 
     not_there : (n : ℕ) (key : List ℕ) → is_known s.memory.parents n ≡ false → IsLookedUp now (record s { cached = d }) y (Get n key) (as_told (reply.Refused why.UnknownVersion) [])
     not_there n key off = inl (sym (ap (λ (o : Outcome). o.answer) (key_unknown w.stands.content (head_held s) it s.memory read whole.memory n key off)), stays)
 
-    there : (n : ℕ) (key : List ℕ) (out : TheirPairs) (r : Result Seen Fault) → is_known s.memory.parents n ≡ true → IfOk r (FindsIt v.content s.memory.parents s.memory.entries s.levels n key s.cached out)
+    there : (n : ℕ) (key : List ℕ) (out : TheirPairs) (r : Result Seen Fault) → is_known s.memory.parents n ≡ true → IfOk r (FindsIt v.content s.filters s.memory.parents (lists_in_memory s.memory) s.levels n key s.cached out)
         → OnErr r (out ≡ []) → ((b : ℕ) → IsErrOf r (fault.Damaged b) → NamesNoBlock v.content (arrays_there s.levels) b)
         → IsLookedUp now (record s { cached = d }) y (Get n key) (as_told (reply_of_get r) out)
     there n key out (Ok told) is tells none names =
         let may = whole_read s whole in
         inl (
-          answer_of (looked_up (on_disk w.stands.content) s.memory.parents (s.memory.entries ∷ []) (levels_there s.levels) n key) key out told
-              (tells w.stands.content s.chained.manifest.next_array w.stands.exposed (asked_ordered s.memory.parents s.levels n w.stands.content ordered) may.own (asked_cached s.memory.parents s.levels n w.stands.content s.chained.manifest.next_array s.cached cached))
-              ∙ ap (found key) (asked_is n key is) ∙ sym (stepped n key is),
+          answer_of (looked_up (on_disk_filtered w.stands.content s.filters) s.memory.parents (lists_in_memory s.memory) (levels_there s.levels) n key) key out told
+              (tells w.stands.content s.chained.manifest.next_array w.stands.exposed (asked_ordered s.memory.parents s.levels n w.stands.content ordered) may.own whole.placed.numbered (asked_cached s.memory.parents s.levels n w.stands.content s.chained.manifest.next_array s.cached cached))
+              ∙ ap (found key) (filtered_is n key is) ∙ sym (stepped n key is),
           stays,
         )
     there n key out (Err fault.Device) is tells none names = inr (ap (as_told (reply.Refused why.DeviceFault)) none, refl, accepted n key is)
@@ -241,7 +250,7 @@ module _ (v now : DiskView) (s : Held) (x : Contents) (d : Blocks) (n : ℕ) (ke
       (subst (λ (ps : TheirPairs). IsLookedUp now (record s { cached = d }) (contents_held s x.levels) (Get n key) (as_told (reply.Refused why.UnknownVersion) ps)) (sym none)
       (not_there v s x.levels whole (subst (StandsWith v s) w.held w) now d looks leaves n key off))
 
-  pub known_looked_up : (r : Result Seen Fault) → is_known s.memory.parents n ≡ true → IfOk r (FindsIt v.content s.memory.parents s.memory.entries s.levels n key s.cached out)
+  pub known_looked_up : (r : Result Seen Fault) → is_known s.memory.parents n ≡ true → IfOk r (FindsIt v.content s.filters s.memory.parents (lists_in_memory s.memory) s.levels n key s.cached out)
       → OnErr r (out ≡ []) → ((b : ℕ) → IsErrOf r (fault.Damaged b) → NamesNoBlock v.content (arrays_there s.levels) b)
       → IsLookedUp now (record s { cached = d }) x (Get n key) (as_told (reply_of_get r) out)
   known_looked_up r is tells none names =

@@ -151,8 +151,8 @@ consistent_with r m cached c whole is kept =
         undropped = whole.memory.undropped;
         updates = whole.memory.updates;
         changes = whole.memory.changes;
-        entries = whole.memory.entries;
-        room = whole.memory.room;
+        lists = whole.memory.lists;
+        counted = whole.memory.counted;
       };
       placed = whole.placed;
       kept = kept;

@@ -36,12 +36,13 @@ use Rattle.def_publish.specs.Contents.{Contents, contents_state}
 use Rattle.def_state.specs.State.{IsPaid}
 use Rattle.strat_store.specs.Cursoring.{LeavesCursors}
 use Rattle.strat_memory.specs.Held.{Held, ArePlaced, IsConsistent, IsOnDisk, StandsWith, arrays_held}
-use Rattle.strat_memory.specs.Memory.{KeepsRows, Memory, prepared, refusal_of_change, reply_to}
+use Rattle.strat_memory.specs.Memory.{IsReadyFrom, KeepsRows, Memory, refusal_of_change, reply_to}
 use Rattle.strat_memory.specs.Paying.{ArePaidSince}
 use Rattle.strat_publish.specs.Counting.{CountsWritten}
 use Rattle.strat_memory.specs.RecoveredFields.{held_of}
 use Rattle.strat_store.specs.Applying.{held_after}
 use Rattle.strat_publish.specs.Publishing.{is_in_front}
+use Rattle.strat_memory.specs.Filters.{LevelFilters}
 use Rattle.strat_publish.specs.Settling.{ArePublishedAfter, KeepsCursors, KeepsPublished, HasPublished, LeavesPublished, arrays_taken, carries_out}
 use Rattle.strat_memory.specs.declared.open_store.OpenStore.{OpenStore}
 use Rattle.strat_publish.proofs.KeptLemmas.{behind_kept, left_held}
@@ -82,19 +83,23 @@ wanted_change (Clone v) c wanted = refl
 wanted_change (DropVersion v) c wanted = refl
 wanted_change _ c wanted = absurd (cc)
 
--- a store that keeps what is published, its journal and its memory, but for what stands ready, holds the same
+-- a store that keeps what is published, its journal and its memory, but for what is ready, holds the same
 pub holds_the_same : (r new : OpenStore) (cached : Blocks) (told : Reply) → KeepsPublished (held_of r cached) (held_of new cached) → new.journal ≡ r.journal
-    → new.memory ≡ prepared r.memory new.memory.ready new.memory.cursors.room → HoldsTheSame (held_of r cached) (held_after new cached told)
-holds_the_same r new cached told keeps journal memory = λ i. record {
-  slot = keeps.slot i;
-  sb = keeps.sb i;
-  chained = keeps.chained i;
-  log = journal i;
-  memory = memory i;
-  levels = keeps.levels i;
-  cached = cached;
-  spent = is_fault told;
-}
+    → IsReadyFrom r.sb.mem r.memory new.memory → HoldsTheSame (held_of r cached) (held_after new cached told)
+holds_the_same r new cached told keeps journal memory = (
+  memory,
+  λ i. record {
+    slot = keeps.slot i;
+    sb = keeps.sb i;
+    chained = keeps.chained i;
+    log = journal i;
+    memory = new.memory;
+    levels = keeps.levels i;
+    filters = keeps.filters i;
+    cached = cached;
+    spent = is_fault told;
+  },
+)
 
 -- a change that is refused leaves the disk as it was
 pub untouched_by : (v w : DiskView) (request : Request) (c : Change) (r new : OpenStore) (cached : Blocks) (told : Reply) → change_wanted request ≡ Some c
@@ -140,7 +145,7 @@ both_keep v u w s mem whole mem_is time first second f g was now b of =
 
 -- a store that is spent or not holds the same
 keeps_spent : (s t : Held) (b : Bool) → KeepsPublished s t → KeepsPublished s (record t { spent = b })
-keeps_spent s t b same = record { slot = same.slot; sb = same.sb; chained = same.chained; levels = same.levels }
+keeps_spent s t b same = record { slot = same.slot; sb = same.sb; chained = same.chained; levels = same.levels; filters = same.filters }
 
 on_spent : (v : DiskView) (s : Held) (b : Bool) → IsOnDisk v s → IsOnDisk v (record s { spent = b })
 on_spent v s b on = record { content = on.content; exposed = on.exposed; newest = on.newest; chain = on.chain }
@@ -148,7 +153,7 @@ on_spent v s b on = record { content = on.content; exposed = on.exposed; newest 
 -- nothing was carried out
 pub left_alone : (v w : DiskView) (s : Held) (carried : Bool) (told : Reply) (b : Bool) → carried ≡ false → OnlyReads v w → LeavesPublished v w s carried told (record s { spent = b })
 left_alone v w s carried told b none reads =
-    let same : KeepsPublished s (record s { spent = b }) = record { slot = refl; sb = refl; chained = refl; levels = refl } in
+    let same : KeepsPublished s (record s { spent = b }) = record { slot = refl; sb = refl; chained = refl; levels = refl; filters = refl } in
     record {
       either = inl same;
       kept = λ _ _. same;
@@ -165,7 +170,7 @@ pub left_queried : (v w : DiskView) (r new : OpenStore) (m : Memory) (old now : 
 left_queried v w r new m old now carried told b is none reads =
     let s : Held = held_of r old in
     let t : Held = record (held_of (record r { memory = m }) now) { spent = b } in
-    let same : KeepsPublished s t = record { slot = refl; sb = refl; chained = refl; levels = refl } in
+    let same : KeepsPublished s t = record { slot = refl; sb = refl; chained = refl; levels = refl; filters = refl } in
     subst (λ (z : OpenStore). LeavesPublished v w s carried told (record (held_of z now) { spent = b })) (sym is)
     (record {
       either = inl same;
@@ -212,7 +217,7 @@ gives_up v w r new cached t told is same still pays agree =
 
 -- a publication, and then a change that leaves what was published
 pub has_published : (r mid new : OpenStore) (cached : Blocks) (told : Reply) → r.journal.mem ≤ length r.journal.list → mid.slot ≡ 1 - r.slot
-    → ArePublishedAfter (super_of r.sb) (manifest_of r.published.manifest) r.memory (super_of mid.sb) (manifest_of mid.published.manifest) mid.memory.cursors
+    → ArePublishedAfter (super_of r.sb) (manifest_of r.published.manifest) r.memory r.filters (super_of mid.sb) (manifest_of mid.published.manifest) mid.memory.cursors mid.filters
     → KeepsPublished (held_of mid cached) (held_of new cached) → new.memory.cursors ≡ mid.memory.cursors → HasPublished (held_of r cached) (held_after new cached told)
 has_published r mid new cached told full slot after same cursors =
     let manifest_is : manifest_of new.published.manifest ≡ manifest_of mid.published.manifest = ap (λ (c : Chained). c.manifest) same.chained in
@@ -222,6 +227,8 @@ has_published r mid new cached told full slot after same cursors =
       slot = same.slot ∙ slot;
       after = record {
         target = after.target;
+        made = after.made;
+        low = after.low;
         are = record {
           made = after.are.made;
           first = after.are.first;
@@ -231,6 +238,7 @@ has_published r mid new cached told full slot after same cursors =
           sb_is = same.sb ∙ after.are.sb_is;
         };
         cursors_are = subst (λ (cs : HeldCursors). cs ≡ record (retired_all gone r.memory.cursors) { room = cs.room }) (sym cursors) after.cursors_are;
+        filters_are = same.filters ∙ after.filters_are;
       };
     }
 
@@ -286,8 +294,8 @@ rows_renewed old mid new parents opened keeps f rows are =
     subst (λ (ps : Parents). AreRowsOf f ps mid.cursors.opened rows) (sym parents) (subst (λ (cs : List HeldCursor). AreRowsOf f old.parents cs rows) (sym opened) are)
     ))
 
-pub opened_after : (sb next_sb : Super) (m next : Manifest) (memory : Memory) (cursors : HeldCursors) → ArePublishedAfter sb m memory next_sb next cursors → cursors.opened ≡ memory.cursors.opened
-opened_after sb next_sb m next memory cursors after =
+pub opened_after : (sb next_sb : Super) (m next : Manifest) (memory : Memory) (cursors : HeldCursors) (filters left : List LevelFilters) → ArePublishedAfter sb m memory filters next_sb next cursors left → cursors.opened ≡ memory.cursors.opened
+opened_after sb next_sb m next memory cursors filters left after =
     ap (λ (cs : HeldCursors). cs.opened) after.cursors_are ∙ (retired_rest memory.cursors (arrays_taken after.target m)).0
 
 pub leaves_wanted : (v w : DiskView) (s t : Held) (r : Request) (c : Change) (told : Reply) → change_wanted r ≡ Some c → LeavesPublished v w s (accepts told) told t

@@ -1,4 +1,5 @@
 pub mod BadLemmas
+pub mod FilteringLemmas
 pub mod GettingLemmas
 pub mod KeepingLemmas
 pub mod CursoringLemmas

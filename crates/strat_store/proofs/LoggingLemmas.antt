@@ -1,7 +1,7 @@
 -- Changes that join the journal of contents.
-use Rattle.std.proofs.Common.{◌≡◌, ◌≤◌, ◌<◌, ◌+◌, ℕ, true, inl, inr, List, [], ◌∷◌, ◌++◌, length, Some, refl, sym, ap, ◌∙◌, subst, arith, length-append}
+use Rattle.std.proofs.Common.{◌≡◌, ◌≤◌, ◌<◌, ◌+◌, ℕ, Bool, cond, true, inl, inr, List, [], ◌∷◌, ◌++◌, length, Some, refl, sym, ap, ◌∙◌, subst, arith, length-append}
 use Rattle.std.specs.List.{list_all}
-use Rattle.std.proofs.lemmas.Bool.{and_from, and_parts, ltb-false}
+use Rattle.std.proofs.lemmas.Bool.{and_from, and_parts, lt-ltb, ltb-false}
 use Rattle.std.proofs.lemmas.List.Folds.{list_all-append}
 use Rattle.strat_base.specs.Change.{Change, is_lawful}
 use Rattle.def_crash.specs.Blocks.{KeepsTaken}
@@ -11,7 +11,7 @@ use Rattle.def_crash.specs.Trail.{Trail}
 use Rattle.def_crash.proofs.ImageLemmas.{outside_patch}
 use Rattle.def_bytes.specs.Layout.{first_free}
 use Rattle.def_bytes.specs.Records.{records_bytes}
-use Rattle.strat_journal.specs.Log.{Log, Stands, HoldsBatch, batch_joined, gate_of}
+use Rattle.strat_journal.specs.Log.{Log, Stands, HoldsBatch, batch_joined, behind_log, gate_in, gate_of}
 use Rattle.strat_journal.proofs.LaidLemmas.{length-records_bytes, region_takes}
 use Rattle.strat_model.specs.Table.{Table}
 use Rattle.def_meaning.specs.StateTable.{table_of}
@@ -27,10 +27,15 @@ use Rattle.strat_memory.proofs.PayingLemmas.{paid_as, paid_appended, stored_sinc
 use Rattle.strat_memory.specs.Paying.{ArePaidSince, StoreTwoSince}
 use Rattle.strat_publish.specs.Publishing.{is_in_front}
 
+-- while the active region has room, the next record goes there
+gate_short : (log : Log) → length log.list < log.mem → gate_of log ≡ gate_in log
+gate_short log short = ap (λ (b : Bool). gate_in (cond b log (behind_log log))) (lt-ltb (length log.list) log.mem short)
+
 -- the records of a batch behind the journal leave alone the blocks behind the regions
-batch_behind : (log : Log) (batch : List Change) (f : Image) → list_all is_lawful (log.list ++ batch) ≡ true → length log.list + length batch ≤ log.mem → log.active ≤ 1
+batch_behind : (log : Log) (batch : List Change) (f : Image) → list_all is_lawful (log.list ++ batch) ≡ true → 0 < length batch → length log.list + length batch ≤ log.mem → log.active ≤ 1
     → KeepsTaken (is_in_front log.mem) f (patch f (gate_of log) (records_bytes batch ++ 0 ∷ []))
-batch_behind log batch f lawful few active b taken =
+batch_behind log batch f lawful some few active b taken =
+    let here : gate_of log ≡ gate_in log = gate_short log (omega (arith, some, few)) in
     let p = places log.mem log.active active in
     let far = ltb-false b (first_free log.mem) taken in
     let out = outside_patch f (gate_of log) (records_bytes batch ++ 0 ∷ []) in
@@ -39,15 +44,15 @@ batch_behind log batch f lawful few active b taken =
     let one = length-records_bytes log.list both.0 in
     let two = length-records_bytes batch both.1 in
     let takes = region_takes log.mem in
-    record { byte = λ i low high. out.above i (omega (arith, text, one, two, few, takes, p.in_front, far, low)) }
+    record { byte = λ i low high. out.above i (omega (arith, here, text, one, two, few, takes, p.in_front, far, low)) }
 
 -- so do those that were appended
-pub appended_behind : (old new : DiskView) (log : Log) → list_all is_lawful (log.list ++ log.batch) ≡ true → length log.list + length log.batch ≤ log.mem → log.active ≤ 1 → HoldsBatch old new log
+pub appended_behind : (old new : DiskView) (log : Log) → list_all is_lawful (log.list ++ log.batch) ≡ true → 0 < length log.batch → length log.list + length log.batch ≤ log.mem → log.active ≤ 1 → HoldsBatch old new log
     → (f g : Image) → Exposes old f → Exposes new g → KeepsTaken (is_in_front log.mem) f g
-appended_behind old new log lawful few active holds f g told now =
+appended_behind old new log lawful some few active holds f g told now =
     let there : Some (patch f (gate_of log) (records_bytes log.batch ++ 0 ∷ [])) ≡ Some g = sym (holds.content f told) ∙ now in
     let written : patch f (gate_of log) (records_bytes log.batch ++ 0 ∷ []) ≡ g = cc in
-    subst (λ (c : Image). KeepsTaken (is_in_front log.mem) f c) written (batch_behind log log.batch f lawful few active)
+    subst (λ (c : Image). KeepsTaken (is_in_front log.mem) f c) written (batch_behind log log.batch f lawful some few active)
 
 -- what each image leaves is paid for while a batch is appended, and stores at most two entries for each update
 pub batch_paid : (old new : DiskView) (x : Contents) (log : Log) → ContentsStand old x → IsLogOf x log → AppendsBatch old new log → IsSound (contents_state (with_batch x log.batch)) → IsPaid (contents_state x)
@@ -67,7 +72,7 @@ logged_behind old new log added change none is lawful all room few holds =
     let one : added ≡ record log { batch = change ∷ [] } = is ∙ ap (λ (cs : List Change). record log { batch = cs ++ change ∷ [] }) none in
     let each : list_all is_lawful (log.list ++ change ∷ []) ≡ true =
     list_all-append is_lawful log.list (change ∷ []) ∙ and_from (list_all is_lawful log.list) (list_all is_lawful (change ∷ [])) all (and_from (is_lawful change) true lawful refl) in
-    appended_behind old new (record log { batch = change ∷ [] }) each (omega (arith, room)) few (subst (λ (j : Log). HoldsBatch old new j) one holds)
+    appended_behind old new (record log { batch = change ∷ [] }) each (omega arith) (omega (arith, room)) few (subst (λ (j : Log). HoldsBatch old new j) one holds)
 
 module _ (old new : DiskView) (x : Contents) (log added : Log) (change : Change) (s : ContentsStand old x) (l : IsLogOf x log) (none : log.batch ≡ [])
     (is : added ≡ record log { batch = log.batch ++ change ∷ [] }) where

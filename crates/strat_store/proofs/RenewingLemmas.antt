@@ -1,5 +1,6 @@
--- A change that meets a full journal, which a publication empties first.
-use Rattle.std.proofs.Common.{◌≡◌, ◌≤◌, ◌+◌, ℕ, Bool, true, false, inl, inr, eqb, not, if◌then◌else◌, [], ◌∷◌, length, Some, None, refl, sym, ap, ◌∙◌, subst, true≢false, arith}
+-- A change that meets a full region, which a publication empties first.
+use Rattle.std.proofs.Common.{◌≡◌, ◌≤◌, ◌<◌, ◌+◌, ◌-◌, ℕ, Bool, true, false, inl, inr, eqb, not, if◌then◌else◌, List, [], ◌∷◌, drop, length, Some, None, refl, sym, ap, ◌∙◌, subst, true≢false, arith}
+use Rattle.std.proofs.lemmas.List.{length-drop}
 use Rattle.strat_array.specs.Kept.{Blocks}
 use Rattle.strat_base.specs.Change.{Change}
 use Rattle.strat_base.specs.Change as change
@@ -11,8 +12,8 @@ use Rattle.def_crash.specs.Trail.{Trail}
 use Rattle.def_crash.proofs.MomentLemmas.{since_now}
 use Rattle.def_crash.proofs.TrailLemmas.{trail_of_one, trail_join, trail_more}
 use Rattle.strat_model.specs.Answer.{plain, accepts}
-use Rattle.strat_model.specs.Run.{MayFill, is_carried_out}
-use Rattle.strat_model.proofs.FillLemmas.{carried, empties_none, filled_full, first_fill, refused_not, stays}
+use Rattle.strat_model.specs.Run.{is_carried_out}
+use Rattle.strat_model.proofs.FillLemmas.{carried, refused_not, stays}
 use Rattle.strat_model.specs.Step.{Outcome, step}
 use Rattle.strat_model.specs.Table.{Table}
 use Rattle.strat_model.specs.declared.replies.Refusal.{Refusal}
@@ -30,6 +31,8 @@ use Rattle.strat_memory.specs.Memory.{Memory, refusal_of_change}
 use Rattle.strat_memory.specs.RecoveredFields.{held_of}
 use Rattle.strat_store.specs.Applying.{held_after}
 use Rattle.strat_memory.specs.declared.open_store.OpenStore.{OpenStore}
+use Rattle.def_slice.specs.Filling.{fill_left}
+use Rattle.def_slice.proofs.FillingLemmas.{empties_nothing, left_below, left_full}
 use Rattle.strat_store.proofs.ChangingLemmas.{changes_it, state_held, acceptable, breaks}
 use Rattle.strat_memory.proofs.MemoryLawLemmas.{change_refused}
 
@@ -67,9 +70,9 @@ module _ (r : OpenStore) (cached : Blocks) (kept : IsConsistent (held_of r cache
         told = sym (ap (λ (o : Outcome). o.answer) same);
         going = refused_calm r.memory c q refused;
         after = x;
-        stands = record { stands = stands.stands; held = stands.held; cached = stands.cached };
+        stands = record { stands = stands.stands; held = stands.held; cached = stands.cached; filtered = stands.filtered };
         place = stays r.journal.mem at after (request_for c) off (λ i. (sym same i).table) refl;
-        fill = empties_none r.journal.mem at after (request_for c) off;
+        fill = empties_nothing r.journal.mem at after (request_for c) off;
       })
 
   pub refused_trail : FollowsStep v v x (request_for c) (plain (reply.Refused q))
@@ -90,7 +93,7 @@ short_of trouble.Device told is short = absurd (let e : reply.Refused why.Device
 short_of (trouble.Damaged b) told is short = absurd (let e : reply.Refused (why.Damaged b) ≡ reply.Refused why.NoMemory = sym (ap reply.Refused is) ∙ short in cc)
 
 module _ (r : OpenStore) (cached : Blocks) (kept : IsConsistent (held_of r cached)) (v : DiskView) (x : Contents) (stands : StandsWith v (held_of r cached) x)
-    (c : Change) (free : refusal_of_change r.memory c ≡ None) (full : length r.journal.list ≡ r.sb.mem) where
+    (c : Change) (free : refusal_of_change r.memory c ≡ None) (full : r.sb.mem ≤ length r.journal.list) where
   accepted : accepts (step (table_of (contents_state x)) (request_for c)).answer.reply ≡ true
   accepted = acceptable r cached kept v x stands c free
 
@@ -106,7 +109,7 @@ module _ (r : OpenStore) (cached : Blocks) (kept : IsConsistent (held_of r cache
         full = omega (arith, full, kept.log.mem);
         told = refl;
         going = refl;
-        stands = record { stands = now.stands; held = now.held; cached = now.cached };
+        stands = record { stands = now.stands; held = now.held; cached = now.cached; filtered = now.filtered };
         place = λ i. record { table = table_of (contents_state x); fill = length (same refl i).list };
       }))
   gives_up new w trouble.Device still same whole = breaks r cached kept v x stands c free new w
@@ -119,8 +122,8 @@ module _ (r : OpenStore) (cached : Blocks) (kept : IsConsistent (held_of r cache
       subst (λ (q : Refusal). IsAppliedTo w (held_of r cached) x (request_for c) (plain (reply.Refused q)) (held_after new cached (reply.Refused q))) (sym is)
       (gives_up new w t still same whole)
 
-  -- or other contents that mean the same table stand, and the journal is empty
-  module _ (mid : OpenStore) (u : DiskView) (held : IsConsistent (held_of mid cached)) (empty : mid.journal.list ≡ []) (p : IsPublishedAs u x (held_of mid cached)) where
+  -- or other contents that mean the same table stand, and the journal has what was behind the full region
+  module _ (mid : OpenStore) (u : DiskView) (held : IsConsistent (held_of mid cached)) (size : mid.sb.mem ≡ r.sb.mem) (left : mid.journal.list ≡ drop r.sb.mem r.journal.list) (p : IsPublishedAs u x (held_of mid cached)) where
     -- it is accepted there too, and so carried out
     there : is_carried_out (position_with (held_of mid cached) p.after) (request_for c) ≡ true
     there = carried (position_with (held_of mid cached) p.after) (request_for c) (changes_it c) (ap (λ (t : Table). accepts (step t (request_for c)).answer.reply) p.table ∙ accepted)
@@ -131,11 +134,16 @@ module _ (r : OpenStore) (cached : Blocks) (kept : IsConsistent (held_of r cache
     whole : r.journal.mem ≤ length r.journal.list
     whole = omega (arith, full, kept.log.mem)
 
-    -- and is the one change of the journal then
-    alone : (n : ℕ) → MayFill mid.journal.mem (length mid.journal.list) n → n ≡ 1
-    alone n may =
-        first_fill mid.journal.mem n (omega (arith, held.log.mem, held.lawful.mem_least))
-        (subst (λ (k : ℕ). MayFill mid.journal.mem k n) (ap length empty) may)
+    -- there is room behind what is left
+    many : length mid.journal.list + r.sb.mem ≡ length r.journal.list
+    many = let n = ap (λ (cs : List Change). length cs) left in omega (arith, n, length-drop r.sb.mem r.journal.list, full)
+
+    under : length mid.journal.list < mid.journal.mem
+    under = omega (arith, many, kept.log.few, kept.lawful.mem_least, held.log.mem, size)
+
+    -- and the change comes behind that
+    last : (n : ℕ) → n ≡ fill_left mid.journal.mem (length mid.journal.list) → n + r.sb.mem ≡ length r.journal.list + 1
+    last n is = let one : n ≡ length mid.journal.list + 1 = is ∙ left_below mid.journal.mem (length mid.journal.list) under in omega (arith, one, many)
 
     -- the change is carried out on these
     pub renewed : (new : OpenStore) (w : DiskView) (told : Reply) → IsAppliedTo w (held_of mid cached) p.after (request_for c) (plain told) (held_after new cached told)
@@ -148,14 +156,15 @@ module _ (r : OpenStore) (cached : Blocks) (kept : IsConsistent (held_of r cache
       place = record {
         table = a.place.table ∙ ap (λ (t : Table). (step t (request_for c)).table) p.table;
         fill = λ done.
-            let one : length new.journal.list ≡ 1 = alone (length new.journal.list) (a.place.fill there) in
-            let sum : length new.journal.list + r.journal.mem ≡ length r.journal.list + 1 = omega (arith, one, full, kept.log.mem) in
+            let sum : length new.journal.list + r.journal.mem ≡ length r.journal.list + 1 = omega (arith, last (length new.journal.list) (a.fill there), kept.log.mem) in
             inr (whole, sum);
         same = λ off. absurd (true≢false (sym here ∙ off));
       };
-      fill = λ done. alone (length new.journal.list) (a.place.fill there) ∙ sym (filled_full r.journal.mem (length r.journal.list) whole);
+      fill = λ done.
+          let rest : length new.journal.list ≡ length r.journal.list + 1 - r.journal.mem = omega (arith, last (length new.journal.list) (a.fill there), kept.log.mem) in
+          rest ∙ sym (left_full r.journal.mem (length r.journal.list) whole);
     })
-    renewed new w told (inr (inl short)) = absurd (omega (arith, short.full, held.log.mem, held.lawful.mem_least, ap length empty))
+    renewed new w told (inr (inl short)) = absurd (omega (arith, short.full, under))
     renewed new w told (inr (inr broken)) = inr (inr (record { reached = broken.reached; acceptable = accepted; told = broken.told; spent = broken.spent }))
 
     pub renewed_trail : (w : DiskView) (told : Reply) → Passes u w → Trail ShowsTable u v.moment (table_of (contents_state x) ∷ []) 0 → FollowsStep u w p.after (request_for c) (plain told)

@@ -1,7 +1,7 @@
 -- Changes that wait to become durable together: what a store with them holds, and what their table tells.
-use Rattle.std.proofs.Common.{◌≡◌, ◌≤◌, ◌<◌, ◌+◌, ◌-◌, ℕ, suc, zero, Bool, true, ltb, inl, inr, List, [], ◌∷◌, ◌++◌, length, Option, Some, None, refl, sym, ap, ◌∙◌, subst, true≢false, arith, append_assoc, length-append}
+use Rattle.std.proofs.Common.{◌≡◌, ◌≤◌, ◌<◌, ◌+◌, ℕ, suc, zero, Bool, true, ltb, inl, List, [], ◌∷◌, ◌++◌, length, Option, Some, None, refl, sym, ap, ◌∙◌, subst, true≢false, arith, append_assoc, length-append}
 use Rattle.std.specs.Prelude.{Contains, fold, option_map, is_none, slice_get, unwrap_or}
-use Rattle.std.proofs.lemmas.Bool.{and_parts, cases_lt, le-ltb, lt-ltb, ltb-true}
+use Rattle.std.proofs.lemmas.Bool.{and_parts, ltb-true}
 use Rattle.std.proofs.lemmas.List.{append-nil}
 use Rattle.std.proofs.lemmas.List.Sums.{fold-append}
 use Rattle.strat_array.specs.Kept.{Blocks}
@@ -15,8 +15,8 @@ use Rattle.strat_cursor.specs.Looking.{AreOfOldArrays}
 use Rattle.strat_journal.specs.Log.{Log, batch_joined}
 use Rattle.strat_model.specs.Answer.{Answer, accepts, plain}
 use Rattle.strat_model.specs.Request.{Request}
-use Rattle.strat_model.specs.Run.{EmptiesAtOnce, IsAfter, Position, is_carried_out}
-use Rattle.strat_model.proofs.FillLemmas.{carried, filled_below}
+use Rattle.strat_model.specs.Run.{IsAfter, Position, is_carried_out}
+use Rattle.strat_model.proofs.FillLemmas.{carried}
 use Rattle.strat_model.specs.Step.{Outcome, step}
 use Rattle.strat_model.specs.Table.{Cursor, Table}
 use Rattle.strat_model.specs.declared.replies.Refusal.{Refusal}
@@ -41,7 +41,9 @@ use Rattle.strat_memory.proofs.MemoryLawLemmas.{change_answered_with, change_tak
 use Rattle.strat_memory.specs.RecoveredFields.{held_of}
 use Rattle.strat_memory.specs.declared.open_store.OpenStore.{OpenStore}
 use Rattle.strat_store.specs.Applying.{change_wanted}
-use Rattle.strat_store.specs.Staging.{IsStaged, IsStagedAt, has_place, held_joined, may_stage, position_staged, replies_over, replies_staged, reply_over, takes_staged, with_staged}
+use Rattle.def_slice.specs.Filling.{EmptiesFirst}
+use Rattle.def_slice.proofs.FillingLemmas.{left_below}
+use Rattle.strat_store.specs.Staging.{HasRoomForStaged, IsStaged, IsStagedAt, has_place, held_joined, may_stage, position_staged, replies_over, replies_staged, reply_over, takes_staged, with_staged}
 use Rattle.strat_store.proofs.AppliedLemmas.{beside, change_beside}
 use Rattle.strat_store.proofs.ApplyLemmas.{spent_consistent, wanted_for}
 use Rattle.strat_store.proofs.ChangingLemmas.{changes_it, cursors_stay, told_well}
@@ -96,10 +98,14 @@ joined_list log none = λ i. record {
 pub joined_none : (s : Held) → s.log.batch ≡ [] → held_joined s ≡ s
 joined_none s none = ap (λ (log : Log). record s { log = log }) (joined_list s.log none)
 
+pub fits_none : (log : Log) → log.batch ≡ [] → HasRoomForStaged log
+fits_none log none some = absurd (let size : length log.batch ≡ 0 = ap (λ (cs : List Change). length cs) none in omega (arith, size, some))
+
 pub consistent_staged : (s : Held) → IsConsistent s → AreOfOldArrays s.chained.manifest.next_array s.cached → IsStaged s
 consistent_staged s whole old = record {
   whole = subst IsConsistent (sym (joined_none s whole.log.batch)) whole;
   few = let none : length s.log.batch ≡ 0 = ap (λ (cs : List Change). length cs) whole.log.batch in omega (arith, none);
+  room = fits_none s.log whole.log.batch;
   cached = old;
 }
 
@@ -141,10 +147,11 @@ replies_pushed r new cached c replies more told whole are is tells pushed =
 
 -- what holds between two calls
 pub staged_of : (r : OpenStore) (cached : Blocks) (b : Bool) (replies : List Reply) → ((others : Blocks) → IsConsistent (held_joined (held_of r others))) → AreOfOldArrays (chained_of r.published).manifest.next_array cached
-    → replies ≡ replies_staged (held_of r cached) → length replies ≤ 16 → IsStaged (record (held_of r cached) { spent = b })
-staged_of r cached b replies whole old are few = record {
+    → replies ≡ replies_staged (held_of r cached) → length replies ≤ 16 → HasRoomForStaged r.journal → IsStaged (record (held_of r cached) { spent = b })
+staged_of r cached b replies whole old are few room = record {
   whole = spent_consistent (held_joined (held_of r cached)) b (whole cached);
   few = omega (arith, replies_counted r cached replies are, few);
+  room = room;
   cached = old;
 }
 
@@ -240,8 +247,8 @@ module _ (v : DiskView) (s : Held) (x : Contents) (whole : IsConsistent (held_jo
         same = λ off. absurd (true≢false (sym next_carried ∙ off));
       }
 
-      next_empties : EmptiesAtOnce s.log.mem p (request_for c) q
-      next_empties done = next_fill ∙ sym (filled_below s.log.mem p.fill under)
+      next_empties : EmptiesFirst s.log.mem p (request_for c) q
+      next_empties done = next_fill ∙ sym (left_below s.log.mem p.fill under)
 
     next_kept : slice_get (replies_staged (with_staged s c)) (length s.log.batch) ≡ Some (reply_to s.memory c)
     next_kept =
@@ -256,7 +263,7 @@ stands_staged v s x rows c keeps at =
     let m = memory_after s.memory c in
     let same : m.cursors.opened ≡ s.memory.cursors.opened = ap (λ (k : HeldCursors). k.opened) (cursors_stay s.memory c) in
     record {
-      stands = record { stands = at.stands.stands; held = at.stands.held; cached = at.stands.cached };
+      stands = record { stands = at.stands.stands; held = at.stands.held; cached = at.stands.cached; filtered = at.stands.filtered };
       rows_are = subst (λ (cs : List HeldCursor). AreRowsOf f m.parents cs rows) (sym same) (keeps f rows at.rows_are);
       going = λ k of. at.going k (subst (λ (cs : List HeldCursor). Contains cs k) same of);
     }
@@ -275,12 +282,6 @@ pub place_room : (log : Log) → has_place log ≡ true → (length log.batch < 
 place_room log place =
     let parts = and_parts (ltb (length log.batch) 16) (ltb (length log.list + length log.batch) log.mem) place in
     (ltb-true (length log.batch) 16 parts.0, ltb-true (length log.list + length log.batch) log.mem parts.1)
-
-pub place_is : (list batch mem : ℕ) → ltb batch (mem - list) ≡ ltb (list + batch) mem
-place_is list batch mem = elim (cases_lt (list + batch) mem) [
-  | inl low ↦ lt-ltb batch (mem - list) (omega (arith, low)) ∙ sym (lt-ltb (list + batch) mem low)
-  | inr high ↦ le-ltb batch (mem - list) (omega (arith, high)) ∙ sym (le-ltb (list + batch) mem high)
-]
 
 -- a change that is staged is the step of the table
 pub staged_at : (v : DiskView) (s : Held) (x : Contents) (rows : List Cursor) (request : Request) (c : Change) → IsStaged s → StandsAt v s x rows → change_wanted request ≡ Some c → may_stage s request ≡ true

@@ -13,7 +13,7 @@ use Rattle.strat_cursor.specs.declared.cursors.NextFault.TheVariants as next_fau
 use Rattle.strat_model.specs.Answer.{Answer, accepts, refusal}
 use Rattle.strat_model.specs.Pairs.{Pairs}
 use Rattle.strat_model.specs.Request.{Request, OpenCursor, NextPairs, CloseCursor}
-use Rattle.strat_model.specs.Run.{EmptiesAtOnce, IsAfter, reaches_disk, is_change, takes_memory}
+use Rattle.strat_model.specs.Run.{IsAfter, reaches_disk, is_change, takes_memory}
 use Rattle.strat_model.specs.Step.{step}
 use Rattle.strat_model.specs.Table.{Cursor}
 use Rattle.strat_model.specs.declared.replies.Refusal.TheVariants as why
@@ -21,6 +21,7 @@ use Rattle.strat_model.specs.declared.replies.Reply.{Reply}
 use Rattle.strat_model.specs.declared.replies.Reply.TheVariants as reply
 use Rattle.def_publish.specs.Contents.{Contents}
 use Rattle.strat_store.specs.Applying.{change_wanted}
+use Rattle.def_slice.specs.Filling.{EmptiesFirst}
 use Rattle.strat_memory.specs.Held.{Held, StandsAt, arrays_held, position_at, table_at}
 use Rattle.strat_memory.specs.Memory.{Memory, cursor_from, with_cursor}
 use Rattle.strat_publish.specs.Settling.{HasPublished, KeepsCursors}
@@ -79,8 +80,8 @@ pub record LeavesCursors (old : Held) (request : Request) (answer : Answer) (new
   pub retired : (a : ArrayDesc) → Contains new.memory.cursors.retired a
       → Contains (arrays_held old.memory old.levels) a
 
--- a command was answered as the table with the cursors says, and the store stands at a position after it; it uses one
--- region of its journal at a time
+-- a command was answered as the table with the cursors says, and the store stands at a position after it; a region of its
+-- journal that was full is emptied first
 pub record IsAnsweredAt (now : DiskView) (old : Held) (x : Contents) (rows : List Cursor)
     (request : Request) (answer : Answer) (new : Held) : Type 0 where
   pub told : answer ≡ (step (table_at old x rows) request).answer
@@ -89,7 +90,7 @@ pub record IsAnsweredAt (now : DiskView) (old : Held) (x : Contents) (rows : Lis
   pub left : List Cursor
   pub stands : StandsAt now new after left
   pub place : IsAfter old.log.mem (position_at old x rows) request (position_at new after left)
-  pub fill : EmptiesAtOnce old.log.mem (position_at old x rows) request
+  pub fill : EmptiesFirst old.log.mem (position_at old x rows) request
       (position_at new after left)
 
 -- memory ran out for a command that the table accepts, an opening of a cursor or a change at a full journal, and nothing

@@ -1,5 +1,5 @@
 -- What a store says of a range, and of any look-up.
-use Rattle.std.specs.Prelude.{◌≡◌, ◌≢◌, ◌⊎◌, ℕ, Bool, true, false, if◌then◌else◌, List, [], ◌∷◌, length, Contains, Option, None, Result, Ok, Err}
+use Rattle.std.specs.Prelude.{◌≡◌, ◌≢◌, ◌⊎◌, ℕ, Bool, true, false, if◌then◌else◌, List, [], length, Contains, Option, None, Result, Ok, Err}
 use Rattle.strat_base.specs.declared.limits.TheConstants.{CURSORS_MAX}
 use Rattle.strat_base.specs.Entries.{Entry}
 use Rattle.strat_base.specs.Tree.{Parents, is_known}
@@ -22,21 +22,22 @@ use Rattle.strat_model.specs.declared.replies.Reply.{Reply}
 use Rattle.strat_model.specs.declared.replies.Reply.TheVariants as reply
 use Rattle.def_recovery.specs.Asked.{asked}
 use Rattle.strat_store.specs.Applying.{change_wanted}
+use Rattle.strat_store.specs.Filtering.{arrays_unrefused, asked_filtered}
 use Rattle.strat_store.specs.Getting.{MayTellOfKey}
 use Rattle.strat_memory.specs.Held.{Held}
-use Rattle.strat_memory.specs.Memory.{Memory, info_told, stat_told}
+use Rattle.strat_memory.specs.Memory.{Memory, info_told, lists_in_memory, stat_told}
 
 -- what is told of a range after a scan, or after the fault that ended it
 abbrev pub reply_of_scan : Result Bool Fault → Reply
 reply_of_scan (Ok more) = reply.Pairs more
 reply_of_scan (Err fault) = reply.Refused (refusal_by fault)
 
--- these pairs are the map of a version, as look-ups find it in an image
-pub record IsMapAsked (f : Image) (parents : Parents) (entries : List Entry)
+-- these pairs are the map of a version, as look-ups find it in these lists of level 0, the newest first, and in an image
+pub record IsMapAsked (f : Image) (parents : Parents) (zeros : List (List Entry))
     (levels : List (Option LevelDesc)) (v : ℕ) (m : Pairs) : Type 0 where
   pub ordered : IsMap m
   pub each : (key : List ℕ)
-      → value_of m key ≡ asked f parents (entries ∷ []) (levels_there levels) v key
+      → value_of m key ≡ asked f parents zeros (levels_there levels) v key
 
 -- what may be told of a range of a version that is there
 abbrev pub MayTellOfRange : Reply → Type 0
@@ -95,9 +96,16 @@ abbrev pub arrays_of_version : Held → ℕ → List ArrayDesc
 arrays_of_version s version =
     if is_known s.memory.parents version then arrays_asked s.memory.parents s.levels version else []
 
--- the arrays that a look-up may read: those of its version, or of its cursor. No other command reads any
+-- those of them whose filter does not refuse a key
+abbrev pub arrays_of_key : Held → ℕ → List ℕ → List ArrayDesc
+arrays_of_key s version key =
+    if is_known s.memory.parents version
+    then arrays_unrefused s.filters s.memory.parents s.levels version key else []
+
+-- the arrays that a look-up may read: those of its version, for a get without those that refuse its key, or those of its
+-- cursor. No other command reads any
 abbrev pub arrays_wanted : Held → Request → List ArrayDesc
-arrays_wanted s (Get version key) = arrays_of_version s version
+arrays_wanted s (Get version key) = arrays_of_key s version key
 arrays_wanted s (Scan version lo hi limit) = arrays_of_version s version
 arrays_wanted s (NextPairs number limit) = arrays_of_number number s.memory.cursors.opened
 arrays_wanted s _ = []
@@ -108,15 +116,15 @@ ReadsForLook s request before now =
     change_wanted request ≡ None → ReadsArrays (arrays_wanted s request) before now
 
 -- a command that asks for no change was answered as what is in memory says, and the arrays of its version or of its cursor where
--- they are read as an image has them, whatever is bad in others
+-- they are read as an image has them, whatever is bad in others; of a key that its filter refuses an array has no entry for a get
 abbrev pub TellsFrom : Image → Held → Request → Answer → Type 0
 TellsFrom f s (Get version key) answer = TellsOfVersion s.memory version answer
     (MayTellOfKey answer.reply × (AreReadAs f s version
-    → answer ≡ found key (asked f s.memory.parents (s.memory.entries ∷ [])
+    → answer ≡ found key (asked_filtered f s.filters s.memory.parents (lists_in_memory s.memory)
     (levels_there s.levels) version key)))
 TellsFrom f s (Scan version lo hi limit) answer = TellsOfVersion s.memory version answer
     (MayTellOfRange answer.reply × (AreReadAs f s version → (pairs : Pairs)
-    → IsMapAsked f s.memory.parents s.memory.entries s.levels version pairs
+    → IsMapAsked f s.memory.parents (lists_in_memory s.memory) s.levels version pairs
     → answer ≡ page (range pairs lo hi) limit))
 TellsFrom f s (Info version) answer =
     TellsOfVersion s.memory version answer (answer ≡ plain (info_told s.memory version))

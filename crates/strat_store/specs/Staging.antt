@@ -1,5 +1,5 @@
 -- Changes that wait to become durable together.
-use Rattle.std.specs.Prelude.{◌≡◌, ◌≤◌, ◌+◌, ◌&&◌, nat_lt, is_none, Bool, true, false, if◌then◌else◌, List, [], ◌∷◌, ◌++◌, length, Option, Some, None, slice_get}
+use Rattle.std.specs.Prelude.{◌≡◌, ◌≤◌, ◌<◌, ◌+◌, ◌&&◌, nat_lt, is_none, Bool, true, false, if◌then◌else◌, List, [], ◌∷◌, ◌++◌, length, Option, Some, None, slice_get}
 use Rattle.strat_base.specs.Change.{Change, Clone}
 use Rattle.strat_base.specs.Tree.{Parents}
 use Rattle.def_crash.specs.Moments.{DiskView}
@@ -8,7 +8,7 @@ use Rattle.strat_cursor.specs.Looking.{AreOfOldArrays}
 use Rattle.strat_journal.specs.Log.{Log, batch_joined}
 use Rattle.strat_model.specs.Answer.{plain}
 use Rattle.strat_model.specs.Request.{Request}
-use Rattle.strat_model.specs.Run.{EmptiesAtOnce, IsAfter, Position, is_carried_out}
+use Rattle.strat_model.specs.Run.{IsAfter, Position, is_carried_out}
 use Rattle.strat_model.specs.Step.{step}
 use Rattle.strat_model.specs.Table.{Cursor}
 use Rattle.strat_model.specs.declared.replies.Refusal.TheVariants as why
@@ -23,15 +23,21 @@ use Rattle.def_state.specs.State.{tree_after}
 use Rattle.strat_memory.specs.Held.{Held, IsConsistent, StandsAt, head_held, position_at}
 use Rattle.strat_memory.specs.Memory.{memory_after, refusal_of_change}
 use Rattle.strat_store.specs.Applying.{change_wanted}
+use Rattle.def_slice.specs.Filling.{EmptiesFirst}
 
 -- a store whose staged changes are in its journal's list
 abbrev pub held_joined : Held → Held
 held_joined s = record s { log = batch_joined s.log }
 
--- a store with staged changes, sixteen at most, holds what an opening may find once they are durable
+-- what is staged finds room in the active region, behind its list
+abbrev pub HasRoomForStaged : Log → Type 0
+HasRoomForStaged log = 0 < length log.batch → length log.list + length log.batch ≤ log.mem
+
+-- a store with staged changes, sixteen at most, holds what an opening may find once they are durable, in the active region
 pub record IsStaged (s : Held) : Type 0 where
   pub whole : IsConsistent (held_joined s)
   pub few : length s.log.batch ≤ 16
+  pub room : HasRoomForStaged s.log
   pub cached : AreOfOldArrays s.chained.manifest.next_array s.cached
 
 -- a journal has a place for one more: its batch has fewer than sixteen changes, and the active region has room behind them
@@ -85,7 +91,7 @@ pub record IsStagedAt (now : DiskView) (old : Held) (x : Contents) (rows : List 
   pub stands : StandsAt now new x rows
   pub place : IsAfter old.log.mem (position_staged old x rows) request
       (position_staged new x rows)
-  pub fill : EmptiesAtOnce old.log.mem (position_staged old x rows) request
+  pub fill : EmptiesFirst old.log.mem (position_staged old x rows) request
       (position_staged new x rows)
 
 -- from the table of some contents the images of a disk go on to the table after all of a batch, where it became durable, or

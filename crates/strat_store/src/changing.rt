@@ -127,8 +127,8 @@ fn refusal_of(obstacle: Obstacle) -> Refusal
     }
 }
 
-/// Carries out a change that is not refused, where the journal is full: a checkpoint empties it into the levels, and then
-/// the change begins it anew. It costs a checkpoint, and then what `carry_out` costs.
+/// Carries out a change that is not refused, where the active region is full: a checkpoint empties that into the levels, and
+/// then the change follows what was behind it, in the other region. It costs a checkpoint, and then what `carry_out` costs.
 fn carry_out_anew<D: Disk>(
     alloc: Global,
     held: &mut OpenStore,
@@ -138,7 +138,7 @@ fn carry_out_anew<D: Disk>(
     requires kept { (cached : Blocks) → IsConsistent (held_of held.old cached) }
     requires fits { IsTrue (is_lawful (change_of change.now)) }
     requires none { refusal_of_change held.old.memory (change_of change.now) ≡ None }
-    requires room { length held.old.journal.list ≡ held.old.sb.mem }
+    requires room { held.old.sb.mem ≤ length held.old.journal.list }
     ensures ok { (x : Contents) (cached : Blocks)
         → StandsWith (D.view disk.old) (held_of held.old cached) x
         → IsAppliedTo (D.view disk.new) (held_of held.old cached) x
@@ -168,7 +168,7 @@ fn carry_out_anew<D: Disk>(
     carry_out(held, disk, change)
 }
 
-/// Carries out a change: one that is refused changes nothing, and a full journal is emptied into the levels first. A change
+/// Carries out a change: one that is refused changes nothing, and a full region is emptied into the levels first. A change
 /// costs two writes and two syncs, and one insertion into level 0 or O(log versions_max); one in `mem` changes costs a
 /// checkpoint before these. NoMemory: the checkpoint ran out of memory, and nothing has changed. DeviceFault: the disk
 /// failed. Damaged: a block of an array is bad. After these two the store is not to be used again.
@@ -212,7 +212,7 @@ pub(crate) fn change<D: Disk>(
     if let Some(refusal) = held.memory.refusal(change) {
         return Reply::Refused(refusal);
     }
-    if held.journal.room() == 0 {
+    if held.journal.count() >= held.sb.mem {
         return carry_out_anew(alloc, held, disk, change);
     }
     carry_out(held, disk, change)

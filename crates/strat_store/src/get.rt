@@ -1,6 +1,6 @@
 //! What a store over levels says of a key at a version.
 
-ghost use Rattle.std.specs.Prelude.{◌≡◌, ◌≢◌, ◌<◌, ℕ, [], ◌∷◌, length, true, false, None};
+ghost use Rattle.std.specs.Prelude.{◌≡◌, ◌≢◌, ◌<◌, ℕ, [], length, true, false, None};
 ghost use Rattle.strat_array.specs.Kept.{Blocks};
 ghost use Rattle.strat_base.specs.Tree.{is_known};
 ghost use Rattle.def_crash.specs.Image.{Image};
@@ -11,12 +11,13 @@ ghost use Rattle.strat_model.specs.Request.{Get};
 ghost use Rattle.strat_model.specs.Step.{found as answer_found};
 ghost use Rattle.strat_model.specs.declared.replies.Refusal.TheVariants as why;
 ghost use Rattle.strat_model.specs.declared.replies.Reply.TheVariants as reply;
-ghost use Rattle.def_recovery.specs.Asked.{asked};
 ghost use Rattle.def_publish.specs.Contents.{Contents};
 ghost use Rattle.strat_store.specs.Applying.{is_fault, IsLookedUp, FailsAsTold};
+ghost use Rattle.strat_store.specs.Filtering.{arrays_unrefused, asked_filtered};
 ghost use Rattle.strat_publish.specs.Outcomes.{IsDamagedIn};
 ghost use Rattle.strat_store.specs.Getting.{reply_of_get, MayTellOfKey};
 ghost use Rattle.strat_memory.specs.Held.{IsConsistent, StandsWith};
+ghost use Rattle.strat_memory.specs.Memory.{lists_in_memory};
 ghost use Rattle.strat_cursor.specs.Looking.{levels_there, arrays_there, AreInOrder, AreCachedFrom, LooksThrough, ReadsArrays, arrays_asked};
 ghost use Rattle.strat_memory.specs.RecoveredFields.{held_of};
 
@@ -40,8 +41,9 @@ fn reply_of_get(found: Result<Seen, Fault>) -> Reply
 }
 
 /// What a store says of a key at a version; a value's pair is put into `out`, which has none. Level 0 is asked first,
-/// and then the levels, of each one array at most, until one says something: in an array of fewer than 2^n blocks a search
-/// reads n + 4 of them at most, and each block is read once more at most. It takes no memory but for blocks that are cached.
+/// then the sealed one where there is one, and then the levels, of each one array at most, until one says something: in
+/// an array of fewer than 2^n blocks a search reads n + 4 of them at most, and each block is read once more at most. An
+/// array whose filter refuses the key adds none to these reads. It takes no memory but for blocks that are cached.
 /// UnknownVersion: there is no such version, and nothing was read. DeviceFault: the disk counted a fault. Damaged: this
 /// block of one of the arrays is no block of entries.
 pub(crate) fn get<D: Disk>(
@@ -63,8 +65,9 @@ pub(crate) fn get<D: Disk>(
         → AreCachedFrom f held.now.published.manifest.next_array
         (arrays_asked held.now.memory.parents held.now.published.levels version) cache.old
         → is_fault result ≡ false → is_known held.now.memory.parents version ≡ true
-        → as_told result out.new ≡ answer_found key.now (asked f held.now.memory.parents
-        (held.now.memory.entries ∷ []) (levels_there held.now.published.levels) version key.now) }
+        → as_told result out.new ≡ answer_found key.now (asked_filtered f held.now.filters
+        held.now.memory.parents (lists_in_memory held.now.memory)
+        (levels_there held.now.published.levels) version key.now) }
     ensures none { is_known held.now.memory.parents version ≡ false
         → (result ≡ reply.Refused why.UnknownVersion) × (disk.new ≡ disk.old) }
     ensures same { LooksThrough (D.view disk.old) (D.view disk.new)
@@ -78,17 +81,15 @@ pub(crate) fn get<D: Disk>(
     ensures len { (result ≡ reply.Found → length out.new ≡ 1)
         × (result ≢ reply.Found → out.new ≡ []) }
     ensures reads { ReadsArrays
-        (arrays_asked held.now.memory.parents held.now.published.levels version)
-        (D.reads disk.old) (D.reads disk.new) }
+        (arrays_unrefused held.now.filters held.now.memory.parents held.now.published.levels
+        version key.now) (D.reads disk.old) (D.reads disk.new) }
 {
     if !held.memory.has(version) {
         return Reply::Refused(Refusal::UnknownVersion);
     }
     match held.memory.find(key, version, out) {
         Seen::None => {
-            let (_, _, tree) = held.memory.parts();
-            let levels = &held.published.levels;
-            let found = get_from_levels(disk, cache, levels, tree, key, version, scratch, out);
+            let found = get_from_levels(disk, cache, held, key, version, scratch, out);
             reply_of_get(found)
         }
         seen => reply_of_get(Ok(seen)),

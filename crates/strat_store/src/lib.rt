@@ -4,6 +4,8 @@
 mod changing;
 mod cursors;
 pub mod damage_laws;
+pub mod export_laws;
+mod filtering;
 mod get;
 mod level_lookup;
 pub mod looking_laws;

@@ -17,6 +17,7 @@ ghost use Rattle.def_publish.specs.Contents.{Contents};
 ghost use Rattle.strat_store.specs.Applying.{is_fault, IsLookedUp, FailsAsTold};
 ghost use Rattle.strat_publish.specs.Outcomes.{IsDamagedIn};
 ghost use Rattle.strat_memory.specs.Held.{IsConsistent, StandsWith};
+ghost use Rattle.strat_memory.specs.Memory.{lists_in_memory};
 ghost use Rattle.strat_store.specs.Ranging.{reply_of_scan, HasPairsFor, IsMapAsked, MayTellOfRange};
 ghost use Rattle.strat_memory.specs.RecoveredFields.{held_of};
 
@@ -38,7 +39,7 @@ fn reply_of_scan(found: Result<bool, Fault>) -> Reply
 }
 
 /// The first pairs of a version from `lo` on and below `hi`, at most `limit` of them, which are put into `out`, and whether
-/// others follow. Costs what `strat_cursor::scan` does, over level 0 and the array of each level that is for the version, and
+/// others follow. Costs what `strat_cursor::scan` does, over level 0, a sealed one, and the array of each level that is for the version, and
 /// takes no memory but for blocks that are cached. UnknownVersion: there is no such version, and nothing was read. DeviceFault:
 /// the disk counted a fault. Damaged: this block of one of the arrays is no block of entries.
 pub(crate) fn scan_range<D: Disk>(
@@ -63,7 +64,7 @@ pub(crate) fn scan_range<D: Disk>(
         → AreCachedFrom f held.now.published.manifest.next_array
         (arrays_asked held.now.memory.parents held.now.published.levels version) cache.old
         → is_fault result ≡ false → is_known held.now.memory.parents version ≡ true
-        → IsMapAsked f held.now.memory.parents held.now.memory.entries
+        → IsMapAsked f held.now.memory.parents (lists_in_memory held.now.memory)
         held.now.published.levels version m
         → as_told result out.new ≡ page (range m lo.now hi.now) limit }
     ensures none { is_known held.now.memory.parents version ≡ false
@@ -84,12 +85,12 @@ pub(crate) fn scan_range<D: Disk>(
     if !held.memory.has(version) {
         return Reply::Refused(Refusal::UnknownVersion);
     }
-    let (zero, pool, tree) = held.memory.parts();
+    let (zero, sealed, pool, tree) = held.memory.lists();
     let view = View {
         tree,
         pool,
-        zero: zero.view(),
-        sealed: None,
+        zero,
+        sealed,
         levels: Picked::Live(&held.published.levels),
     };
     let found = scan(disk, cache, &view, version, lo, hi, limit, buffers, out);

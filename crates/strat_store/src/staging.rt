@@ -15,7 +15,7 @@ ghost use Rattle.strat_memory.specs.Memory.{KeepsRows, memory_after};
 ghost use Rattle.strat_memory.specs.RecoveredFields.{held_of};
 ghost use Rattle.strat_publish.specs.Settling.{LeavesPublished};
 ghost use Rattle.strat_store.specs.Applying.{held_after};
-ghost use Rattle.strat_store.specs.Staging.{FollowsBatch, has_place, held_joined, reply_of_commit, reply_over, takes_staged};
+ghost use Rattle.strat_store.specs.Staging.{HasRoomForStaged, FollowsBatch, has_place, held_joined, reply_of_commit, reply_over, takes_staged};
 
 use std::marker::Model;
 use strat_base::{Change, Failed};
@@ -93,12 +93,11 @@ impl Replies {
 }
 
 /// Whether one more change may be staged behind so many.
-#[tactic(auto, using(crate::proofs::StagingLemmas::place_is))]
-fn has_place(journal: &Journal, staged: usize) -> bool
-    requires len { staged ≡ length journal.now.batch }
+fn has_place(journal: &Journal, mem: u32, staged: usize) -> bool
+    requires len { (staged ≡ length journal.now.batch) × (mem ≡ journal.now.mem) }
     ensures ok { result ≡ has_place journal.now }
 {
-    staged < STAGED_MAX && staged < journal.room() as usize
+    staged < STAGED_MAX && journal.count() as usize + staged < mem as usize
 }
 
 /// Stages a change after so many others, and has memory make it. Answers the reply that waits for it; or `None` if it may
@@ -123,9 +122,10 @@ pub(crate) fn stage_change(
       memory = memory_after held.old.memory (change_of change.now);
     } }
     ensures kept { (cached : Blocks) → IsConsistent (held_joined (held_of held.new cached)) }
+    ensures room { is_some result ≡ true → HasRoomForStaged held.new.journal }
     ensures same { KeepsRows held.old.memory held.new.memory }
 {
-    if !has_place(&held.journal, staged) {
+    if !has_place(&held.journal, held.sb.mem, staged) {
         return None;
     }
     let None = held.memory.refusal(change) else {
@@ -135,10 +135,12 @@ pub(crate) fn stage_change(
     Some(held.memory.take(change))
 }
 
-/// Makes the staged changes durable, all of them or none at any crash: two writes and two syncs, whatever their number.
+/// Makes the staged changes durable, all of them or none at any crash: two writes and two syncs, whatever their number. They go
+/// into the active region, which has room for them.
 pub(crate) fn append_staged<D: Disk>(held: &mut OpenStore, disk: &mut D) -> Result<(), Failed>
     requires kept { (cached : Blocks) → IsConsistent (held_joined (held_of held.old cached)) }
     requires len { 0 < length held.old.journal.batch }
+    requires room { HasRoomForStaged held.old.journal }
     ensures ok { OnOk result (held.new
         ≡ record held.old { journal = batch_joined held.old.journal }) }
     ensures err { OnErr result (held.new ≡ held.old) }

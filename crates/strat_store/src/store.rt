@@ -1,16 +1,18 @@
 //! An open store: what it holds in memory of a disk, and how it carries out commands.
 
-ghost use Rattle.std.specs.Prelude.{◌≡◌, ◌≢◌, ◌<◌, ◌≤◌, ◌+◌, ℕ, List, [], length, Some, None, Ok, Err, IfOk, IfErr, IsErrOf, OnErr, OnOk, is_ok, true, false, slice_get};
+ghost use Rattle.std.specs.Prelude.{◌≡◌, ◌≢◌, ◌<◌, ◌≤◌, ◌+◌, ◌*◌, ℕ, List, [], length, take, drop, Some, None, Ok, Err, IfOk, IfErr, IsErrOf, OnErr, OnOk, is_ok, true, false, slice_get, option_map, IsTrue, ◌↔◌};
+ghost use Rattle.std.specs.Option.{option_to_list};
 ghost use Rattle.strat_array.specs.Kept.{Blocks};
 ghost use Rattle.strat_base.specs.Change.{Change as TheChange};
 ghost use Rattle.strat_base.specs.ChangeView.{change_of};
 ghost use Rattle.strat_base.specs.Finds.{Finds};
-ghost use Rattle.strat_base.specs.Tree.{is_known};
+ghost use Rattle.strat_base.specs.Tree.{IsTree, is_known};
 ghost use Rattle.def_crash.specs.Faults.{CountsFaults, HasCause, ReadsAtMost};
 ghost use Rattle.def_crash.specs.Image.{Image};
 ghost use Rattle.def_crash.specs.Moments.{Exposes, Images, Passes, Since};
 ghost use Rattle.def_bytes.specs.Chain.{chain_length};
 ghost use Rattle.def_bytes.specs.Layout.{region_blocks};
+ghost use Rattle.def_bytes.specs.Records.{records_bytes};
 ghost use Rattle.strat_model.specs.Answer.{as_told};
 ghost use Rattle.strat_model.specs.Command.{request_of};
 ghost use Rattle.strat_model.specs.Spelling.{has_lawful_sizes};
@@ -27,9 +29,14 @@ ghost use Rattle.strat_publish.specs.Outcomes.{IsDamagedIn};
 ghost use Rattle.strat_store.specs.Cursoring.{IsAppliedAt, LeavesCursors, cursors_after};
 ghost use Rattle.strat_open.specs.Following.{IsOpenedAs, IsUnchanged, LeavesOpening};
 ghost use Rattle.strat_memory.specs.Held.{IsConsistent, StandsAt, StandsWith, arrays_held};
-ghost use Rattle.strat_memory.specs.Memory.{KeepsRows, info_told};
-ghost use Rattle.strat_cursor.specs.Looking.{AreOfOldArrays, LooksThrough, ReadsArrays};
+ghost use Rattle.strat_memory.specs.Memory.{KeepsRows, info_told, lists_in_memory, sealed_entries};
+ghost use Rattle.strat_cursor.specs.Looking.{AreOfOldArrays, LooksThrough, MayBeFound, ReadsArrays, arrays_asked};
+ghost use Rattle.strat_arena.specs.declared.pool.PoolEntry.{PoolEntry};
+ghost use Rattle.strat_cursor.specs.Ranges.{sealed_held};
+ghost use Rattle.strat_cursor.specs.Views.{ViewStands, arrays_read, zeros_in};
+ghost use Rattle.strat_level.specs.Memtable.{entries_held};
 ghost use Rattle.strat_memory.specs.Paying.{StoreTwoSince};
+ghost use Rattle.strat_store.specs.Filtering.{KeepsFilter};
 ghost use Rattle.strat_store.specs.Ranging.{HasPairsFor, ReadsForLook, TellsFrom, arrays_wanted};
 ghost use Rattle.strat_store.specs.Staging.{FollowsBatch, IsStaged, held_joined, may_stage, replies_staged, reply_of_commit, with_staged};
 ghost use Rattle.strat_memory.specs.RecoveredFields.{held_of, empty_cache};
@@ -39,20 +46,24 @@ ghost use Rattle.strat_open.specs.declared.attach_fault.AttachFault.TheVariants 
 
 use crate::changing::change;
 use crate::cursors::{reply_to_close_cursor, reply_to_next_pairs, reply_to_open_cursor};
+use crate::filtering::keeps_filter;
 use crate::get::get;
 use crate::scan::scan_range;
 use crate::staging::{Replies, append_staged, stage_change};
 use std::alloc::Global;
 use std::marker::Model;
+use strat_arena::ArenaPool;
 use strat_array::{Cache, Scratch};
 use strat_base::limits::CACHED_BLOCKS;
-use strat_base::{Change, Failed, NoMemory, PairBuf, Version};
-use strat_cursor::ScanBuffers;
+use strat_base::{Arrays, Change, Failed, NoMemory, PairBuf, Version};
+use strat_cursor::{Picked, ScanBuffers, View, arrays_at};
 use strat_disk::Disk;
+use strat_level::ZeroView;
 use strat_memory::memory::Memory;
 use strat_memory::open_store::OpenStore;
 use strat_model::{Command, Refusal, Reply};
 use strat_open::{AttachFault, open};
+use strat_tree::Tree;
 
 /// An open store. It is seen as what it holds of a disk: the newest superblock and its slot, the manifest and the blocks of its
 /// chain, the journal, the versions and level 0, the levels, the blocks that are cached, and whether it is spent: after a fault
@@ -253,6 +264,105 @@ impl Store {
         self.spent
     }
 
+    /// How many changes it accepted in its life, those that are staged among them: the number of the next one. O(1).
+    pub fn changes(&self) -> u32
+        ensures ok { result ≡ self.now.memory.changes }
+    {
+        self.held.memory.counts().0
+    }
+
+    /// How many changes its journal has, those since the last checkpoint: in the active region, and behind it in the other
+    /// one. O(1).
+    pub fn journal_counts(&self) -> (u32, u32)
+        ensures ok { (result.0 ≡ length (take self.now.log.mem self.now.log.list))
+            × (result.1 ≡ length (drop self.now.log.mem self.now.log.list)) }
+    {
+        self.held.journal.counts()
+    }
+
+    /// Whether these are as many as a region takes, so that the next change makes a checkpoint first. O(1).
+    pub fn is_journal_full(&self) -> bool
+        ensures ok { IsTrue result ↔ (self.now.sb.mem ≤ length self.now.log.list) }
+    {
+        self.held.journal.count() >= self.held.sb.mem
+    }
+
+    /// The records of these changes in their order, as they stand on the disk, region by region. O(1).
+    pub fn journal_records(&self) -> (&[u8], &[u8])
+        ensures ok { (result.0.now ≡ records_bytes (take self.now.log.mem self.now.log.list))
+            × (result.1.now ≡ records_bytes (drop self.now.log.mem self.now.log.list)) }
+    {
+        self.held.journal.records()
+    }
+
+    /// Whether there is such a version. O(1).
+    pub fn known(&self, version: Version) -> bool
+        ensures ok { result ≡ is_known self.now.memory.parents version }
+    {
+        self.held.memory.has(version)
+    }
+
+    /// Copies of the descriptors of the arrays that hold a version, of each level one at most, the newest level's first.
+    /// O(22 log versions_max) and the time of copying them. The only error is want of memory.
+    pub fn picked(&self, version: Version) -> Result<Arrays, NoMemory>
+        requires kept { IsConsistent self.now × (self.now.spent ≡ false) }
+        requires found { IsTrue (is_known self.now.memory.parents version) }
+        ensures ok { IfOk result (λ arrays. arrays
+            ≡ arrays_asked self.now.memory.parents self.now.levels version) }
+        ensures kept { IfOk result (λ arrays. MayBeFound arrays × (length arrays ≤ 22)) }
+    {
+        let (_zero, _pool, tree) = self.held.memory.parts();
+        arrays_at(self.alloc, tree, &self.held.published.levels, version)
+    }
+
+    /// Level 0, and the sealed one, where there is one: their keys and values are in one pool, which `lend` lends. O(1).
+    pub fn zeros(&self) -> (&ZeroView, Option<&ZeroView>)
+        ensures ok { (pool : List PoolEntry)
+            × (entries_held pool result.0.now ≡ self.now.memory.entries)
+            × (sealed_held pool (option_map (λ z. z.now) result.1)
+            ≡ option_to_list (sealed_entries self.now.memory)) }
+    {
+        let (zero, sealed, _pool, _tree) = self.held.memory.lists();
+        (zero, sealed)
+    }
+
+    /// The versions, and the pool that has the keys and values of level 0 and of the sealed one. O(1).
+    pub fn lend(&self) -> (&Tree, &ArenaPool)
+        ensures ok { result.0.now.parents ≡ self.now.memory.parents }
+        ensures kept { IsTree result.0.now.parents }
+    {
+        let (_zero, _sealed, pool, tree) = self.held.memory.lists();
+        (tree, pool)
+    }
+
+    /// What the store's pairs are read through: all that `zeros` and `lend` lend, and these arrays in the place of the levels.
+    /// O(1).
+    pub fn view<'a>(&'a self, arrays: &'a Arrays) -> View<'a>
+        requires kept { MayBeFound arrays.now × (length arrays.now ≤ 22) }
+        ensures ok { (zeros_in result ≡ lists_in_memory self.now.memory)
+            × (result.tree.now.parents ≡ self.now.memory.parents)
+            × ((v : ℕ) → arrays_read result v ≡ arrays.now) }
+        ensures kept { ViewStands result }
+    {
+        let (zero, sealed, pool, tree) = self.held.memory.lists();
+        View {
+            tree,
+            pool,
+            zero,
+            sealed,
+            levels: Picked::Pinned(arrays),
+        }
+    }
+
+    /// Whether the store keeps a filter of an array of its levels. One that was opened has none; its checkpoints make them, as
+    /// far as there is memory. O(arrays of the levels).
+    pub fn has_filter(&self, id: u64) -> bool
+        ensures ok { result ≡ true → KeepsFilter self.now.filters self.now.levels id }
+        ensures none { result ≡ false → ¬ KeepsFilter self.now.filters self.now.levels id }
+    {
+        keeps_filter(&self.held.filters, &self.held.published.levels, id)
+    }
+
     /// Carries out one command. The pairs of its answer are in `out`, which is emptied first.
     ///
     /// A change is durable before it is answered: two writes and two syncs, and in memory one insertion into level 0, or
@@ -261,9 +371,10 @@ impl Store {
     /// five times at most. It takes its memory before anything of the store is replaced; without it the answer is
     /// `NoMemory`, and the store is as it was.
     ///
-    /// A get asks level 0, and then one array of each level at most. A scan goes through level 0 and one array of each
-    /// level, pair by pair. In an array of fewer than 2^n blocks either reads n + 4 at most to search, and each once more at
-    /// most. It reads no array that is not asked at the version. These take no memory but for blocks that are cached.
+    /// A get asks level 0, and then one array of each level at most, but none whose filter refuses the key. A scan goes through
+    /// level 0 and one array of each level, pair by pair. In an array of fewer than 2^n blocks either reads n + 4 at most to
+    /// search, and each once more at most. No array that is not asked at the version, or that refuses a get's key, adds to
+    /// these reads. These take no memory but for blocks that are cached.
     ///
     /// Opening a cursor copies level 0's items, 12 bytes each, and at most 22 descriptors, and reads no block; `NoMemory`
     /// if there is no room for these. It shares the pairs: a level 0 that was emptied keeps its memory while a cursor reads
@@ -405,20 +516,23 @@ impl Store {
     }
 
     /// Opens the store on a disk. It syncs; it reads both superblock slots, each block of the manifest's chain, each
-    /// block of the active journal region up to its first closed gate, and one gate of the other region. It reads no
-    /// block of an array. If that gate is open while the active region has room, it shuts the gate (a run that was
-    /// killed in a checkpoint leaves it open): at most one read, one write and one sync more. Linear in the manifest
-    /// and the journal, but for O(log) at each array and each version. Until the first sync succeeds a crash leaves
-    /// only what it might have left before. After an error other than `Device` the disk is as it was; after `Device` it
-    /// is so too, unless it was the last step that failed, which shuts the gate.
+    /// block of the active journal region up to its first closed gate, and one gate of the other region, or that region in
+    /// the same way where the active one is full. It reads no block of an array. If that gate is open while the active
+    /// region has room, it shuts the gate (a run that was killed in a checkpoint leaves it open): at most one read, one
+    /// write and one sync more. Where the journal goes on in the other region, level 0 is sealed with what fills the active
+    /// one, and the next change empties that first. Linear in the manifest and the journal, but for O(log) at each array
+    /// and each version. Until the first sync succeeds a crash leaves only what it might have left before. After an error
+    /// other than `Device` the disk is as it was; after `Device` it is so too, unless it was the last step that failed,
+    /// which shuts the gate.
     ///
     /// A disk that crashed, or that an earlier run or opening failed on, may be opened as it is. If each of its crash
     /// states shows a table, each crash meanwhile leaves one of these tables, and afterwards that of the content.
     ///
-    /// It takes the memory of all changes that do not meet a full journal: 3.9 KB for each of `mem` and 75 bytes for
+    /// It takes the memory of all changes that do not meet a full journal: 3.9 KB for each of `mem` and 83 bytes for
     /// each of `versions_max`; 25 blocks, one for gets and 24 for scans; 0.5 MB for hints where blocks begin; and the
     /// levels' descriptors twice, once with an index of versions. While it recovers it takes more: 2.6 KB for each of
-    /// `mem`, 0.3 MB, and 8 bytes for each block in use. Up to 1 MiB of blocks is cached later.
+    /// `mem`, 0.3 MB, and 8 bytes for each block in use. Where the journal goes on in the other region, it takes 1.3 KB for
+    /// each of `mem` for the sealed level 0. Up to 1 MiB of blocks is cached later.
     pub fn attach<D: Disk>(alloc: Global, disk: &mut D) -> Result<Store, AttachFault>
         ensures ok { IfOk result (λ s. IsOpenedAs (D.view disk.old) (D.view disk.new) s
             × (s.cached ≡ empty_cache 256) × IsConsistent s) }
@@ -439,7 +553,7 @@ impl Store {
         ensures cause { HasCause fault.Device (D.faults disk.old) (D.faults disk.new) result }
         ensures reads { ReadsAtMost 1052184 (D.reads disk.old) (D.reads disk.new)
             × IfOk result (λ s. ReadsAtMost
-            (chain_length s.sb.length + region_blocks s.sb.mem + 4)
+            (chain_length s.sb.length + 2 * region_blocks s.sb.mem + 3)
             (D.reads disk.old) (D.reads disk.new)) }
     {
         let (cache, scratch, buffers) = take_read_buffers(alloc)?;

@@ -1,5 +1,5 @@
 -- What is asked of a disk with one block of entries.
-use Rattle.std.proofs.Common.{◌≡◌, ℕ, Bool, true, false, cond, List, [], ◌∷◌, Option, Some, None, Contains, IsTrue, refl, sym, ap, ◌∙◌, subst, arith}
+use Rattle.std.proofs.Common.{◌≡◌, ◌+◌, ℕ, zero, suc, Bool, true, false, cond, get_or, List, [], ◌∷◌, Option, Some, None, Contains, IsTrue, refl, sym, ap, ◌∙◌, subst, arith}
 use Rattle.std.specs.Option.{option_and_then, option_or, unwrap_or}
 use Rattle.std.specs.Str.{bytes_eq}
 use Rattle.std.specs.List.Sorted.{IsStrictlySortedBy}
@@ -11,15 +11,25 @@ use Rattle.strat_base.specs.Numbers.{be, number}
 use Rattle.strat_base.specs.Samples.{says}
 use Rattle.strat_base.specs.Tree.{climb}
 use Rattle.strat_base.specs.declared.descriptors.ArrayDesc.{ArrayDesc}
+use Rattle.strat_base.specs.declared.descriptors.LevelDesc.{LevelDesc}
+use Rattle.def_crash.specs.Faults.{ReadsAtMost}
 use Rattle.def_crash.specs.Image.{over, window}
-use Rattle.strat_cursor.proofs.PickLemmas.{only}
-use Rattle.strat_cursor.specs.Looking.{arrays_asked, levels_there}
+use Rattle.strat_cursor.proofs.PickLemmas.{level_next, only}
+use Rattle.strat_cursor.specs.Looking.{ReadsArrays, arrays_asked, levels_there}
+use Rattle.strat_filter.specs.Bits.{bits_after}
+use Rattle.strat_level.specs.Levels.{level_numbered}
+use Rattle.strat_memory.specs.Filters.{filter_at}
+use Rattle.strat_model.specs.Answer.{Answer, as_told}
+use Rattle.strat_model.specs.Request.{Get}
+use Rattle.strat_model.specs.Step.{found}
+use Rattle.strat_model.specs.declared.replies.Reply.TheVariants as reply
 use Rattle.def_bytes.specs.Arrays.{block_on, blocks_of, entries_on}
 use Rattle.def_bytes.specs.Block.{block_bytes, block_in, entries_in}
 use Rattle.def_recovery.specs.Asked.{asked}
 use Rattle.def_state.specs.LookUp.{first_live}
-use Rattle.strat_store.specs.Ranging.{AreReadAs, IsMapAsked}
-use Rattle.strat_store_pins.specs.Examples.{array_in, children_apart, one_block, with_cached}
+use Rattle.strat_store.specs.Filtering.{KeepsFilter, asked_filtered}
+use Rattle.strat_store.specs.Ranging.{AreReadAs, IsMapAsked, ReadsForLook, TellsFrom, arrays_wanted}
+use Rattle.strat_store_pins.specs.Examples.{array_in, children_apart, children_filtered, one_block, with_cached}
 
 pub seven : entries_on one_block (7 ∷ []) ≡ Some (says 97 1 49 ∷ [])
 unfolding number be window over entry_in entries_in block_bytes block_in entries_on
@@ -63,6 +73,11 @@ asked_is key =
     by true = refl
     by false = refl
 
+-- and for a get that has no filter to ask
+pub filtered_is : (key : List ℕ) → asked_filtered one_block children_apart.filters children_apart.memory.parents ([] ∷ []) (levels_there children_apart.levels) 1 key ≡ option_and_then (λ e. e.value) (cond (bytes_eq (97 ∷ []) key) (Some (says 97 1 49)) None)
+unfolding climb
+filtered_is key = asked_is key
+
 back : (x y : List ℕ) → bytes_eq x y ≡ bytes_eq y x
 back x y = by (bytes_eq x y) (bytes_eq y x) refl refl
   where
@@ -72,7 +87,7 @@ back x y = by (bytes_eq x y) (bytes_eq y x) refl refl
     by true false one other = sym (same_bytes y x (sym (bytes_same x y one))) ∙ other
     by false true one other = sym one ∙ same_bytes x y (sym (bytes_same y x other))
 
-pub map_is : IsMapAsked one_block children_apart.memory.parents [] children_apart.levels 1 ((97 ∷ [], 49 ∷ []) ∷ [])
+pub map_is : IsMapAsked one_block children_apart.memory.parents ([] ∷ []) children_apart.levels 1 ((97 ∷ [], 49 ∷ []) ∷ [])
 unfolding IsStrictlySortedBy
 map_is = record {
   ordered = (tt, tt);
@@ -83,7 +98,7 @@ map_is = record {
     by true = refl
     by false = refl
 
-pub no_map : IsMapAsked one_block children_apart.memory.parents [] children_apart.levels 1 [] → ⊥
+pub no_map : IsMapAsked one_block children_apart.memory.parents ([] ∷ []) children_apart.levels 1 [] → ⊥
 no_map is =
     let none : ◌≡◌ {A = Option (List ℕ)} None (Some (49 ∷ [])) = is.each (97 ∷ []) ∙ asked_is (97 ∷ []) in
     cc
@@ -109,3 +124,58 @@ wrong_reads_not reads =
     let is : block_on one_block 7 ≡ Some [] = reads.cached (array_in 5 1 7) 0 7 [] (subst (λ (xs : List ArrayDesc). Contains xs (array_in 5 1 7)) (sym asked_one) (0, omega arith, refl)) (0, omega arith, refl) refl in
     let full : Some [] ≡ Some (says 97 1 49 ∷ []) = sym is ∙ block_seven in
     cc
+
+-- with a filter of its first array, whose only key is `a`
+filtered_reads : AreReadAs one_block children_filtered 1
+filtered_reads = record { ordered = one_reads.ordered; cached = one_reads.cached }
+
+filtered_found : asked_filtered one_block children_filtered.filters children_apart.memory.parents ([] ∷ []) (levels_there children_apart.levels) 1 (97 ∷ []) ≡ Some (49 ∷ [])
+unfolding climb
+filtered_found = ap (λ (o : Option (List Entry)). option_and_then (λ e. e.value) (first_live children_apart.memory.parents ([] ∷ unwrap_or o [] ∷ []) 1 (97 ∷ []))) seven
+
+pub filtered_tells : (answer : Answer) → TellsFrom one_block children_filtered (Get 1 (97 ∷ [])) answer → answer ≡ as_told reply.Found ((97 ∷ [], 49 ∷ []) ∷ [])
+filtered_tells answer tells = (tells.1 refl).1 filtered_reads ∙ ap (found (97 ∷ [])) filtered_found
+
+-- its one level is the first
+level_at : (number : ℕ) (level : LevelDesc) → level_numbered children_apart.levels number ≡ Some level → number ≡ 1
+level_at zero level is = absurd (cc)
+level_at (suc i) level is =
+    let next : i + 1 ≡ suc i = omega arith in
+    by i (sym (level_next children_apart.levels i) ∙ ap (λ (n : ℕ). level_numbered children_apart.levels n) next ∙ is)
+  where
+    by : (j : ℕ) → get_or children_apart.levels j None ≡ Some level → suc j ≡ 1
+    by zero here = refl
+    by (suc j) here = absurd (cc)
+
+b_unread : arrays_wanted children_filtered (Get 1 (98 ∷ [])) ≡ []
+unfolding climb
+b_unread = refl
+
+pub b_reads_none : (before now : ℕ) → ReadsForLook children_filtered (Get 1 (98 ∷ [])) before now → now ≡ before
+b_reads_none before now reads =
+    let most : ReadsAtMost 0 before now = subst (λ (arrays : List ArrayDesc). ReadsArrays arrays before now) b_unread (reads refl) 0 (λ a among. absurd (omega (arith, among.1))) in
+    omega (arith, most.later, most.bound)
+
+pub a_read : arrays_wanted children_filtered (Get 1 (97 ∷ [])) ≡ array_in 5 1 7 ∷ []
+unfolding climb
+a_read = refl
+
+pub keeps_five : KeepsFilter children_filtered.filters children_filtered.levels 5
+keeps_five = (
+  1,
+  record {
+    level = record { number = 1; horizon = 3; arrays = array_in 5 1 7 ∷ array_in 6 2 8 ∷ [] };
+    array = array_in 5 1 7;
+    bits = bits_after 64 ((97 ∷ []) ∷ []);
+    placed = refl;
+    listed = (0, omega arith, refl);
+    named = refl;
+    kept = refl;
+  },
+)
+
+pub keeps_not_six : KeepsFilter children_filtered.filters children_filtered.levels 6 → ⊥
+keeps_not_six keeps =
+    let one = level_at keeps.0 keeps.1.level keeps.1.placed in
+    let none : None ≡ Some keeps.1.bits = ap (λ (n : ℕ). filter_at children_filtered.filters n 6) (sym one) ∙ keeps.1.kept in
+    absurd (cc)

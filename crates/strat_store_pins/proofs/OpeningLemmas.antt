@@ -1,5 +1,5 @@
 -- A disk that may be a new store, or that with a full journal.
-use Rattle.std.proofs.Common.{◌≡◌, ◌⊎◌, inl, inr, ℕ, refl, sym, ap, ◌∙◌, subst}
+use Rattle.std.proofs.Common.{◌≡◌, ◌⊎◌, inl, inr, refl, sym, ap, ◌∙◌, subst}
 use Rattle.def_crash.specs.Image.{Image}
 use Rattle.def_recovery.specs.Disks.{formatted}
 use Rattle.def_publish.specs.Contents.{contents_state}

@@ -1,9 +1,11 @@
 -- Publications at a fill of one, and of one change more than a region takes.
-use Rattle.std.proofs.Common.{◌≡◌, ◌≢◌, ◌<◌, ℕ, zero, suc, List, length, [], ◌∷◌, Err, refl, ap, arith}
+use Rattle.std.proofs.Common.{◌≡◌, ◌<◌, ◌≤◌, ◌-◌, ◌++◌, ℕ, zero, suc, List, length, drop, take, replicate, [], ◌∷◌, Option, None, Some, Err, refl, sym, ap, ◌∙◌, arith}
+use Rattle.std.specs.Option.{IfSome, option_map_or}
+use Rattle.std.proofs.lemmas.List.{take_all}
 use Rattle.strat_base.specs.EntryBytes.{entry_in}
 use Rattle.strat_base.specs.Numbers.{number, be}
-use Rattle.strat_base.specs.Tree.{climb}
-use Rattle.strat_base.specs.Change.{change_in}
+use Rattle.strat_base.specs.Tree.{Parents, climb}
+use Rattle.strat_base.specs.Change.{Change, change_in}
 use Rattle.def_crash.specs.Image.{window, over}
 use Rattle.def_bytes.specs.Arrays.{entries_on}
 use Rattle.def_bytes.specs.Block.{block_in, block_bytes, entries_in}
@@ -13,12 +15,14 @@ use Rattle.def_bytes.specs.Manifest.{all_pass, read_number, read_items, read_ext
 use Rattle.def_bytes.specs.Records.{records}
 use Rattle.def_bytes.specs.SuperBlock.{IsLawful, slot_of, slot_in, zeros}
 use Rattle.def_promote.specs.Promoted.{SaysTheSame}
+use Rattle.def_recovery.specs.Head.{Head, head_changes, head_updates, head_versions}
 use Rattle.def_recovery.specs.Opening.{recover}
 use Rattle.def_state.proofs.BreachLemmas.{sound_from_none}
 use Rattle.def_state.specs.Sound.{IsSound}
 use Rattle.def_state.specs.State.{deep, map_at}
 use Rattle.def_publish.specs.Contents.{contents_state}
 use Rattle.def_publish.specs.Publication.{Succeeds}
+use Rattle.strat_memory.specs.Memory.{Memory, SealedLevel, CountsSealed, IsMemoryOf}
 use Rattle.def_publish.specs.Worked.{chain_logged, chain_next, published_disk}
 use Rattle.strat_store_pins.specs.Publications.{chain_grown, chain_behind, new_logged, new_next, twice_disk}
 
@@ -136,3 +140,28 @@ one_succeeds = record {
 pub twice_damaged : recover twice_disk ≡ Err 2
 unfolding number be window over slot_of slot_in zeros change_in all_pass read_number read_items read_extent read_array read_level read_mark read_only read_manifest manifest_in manifest_bytes chain_from records block_in block_bytes entry_in entries_in link_bytes entries_on climb
 twice_damaged = refl
+
+-- what stands behind some places and one more
+behind_one : {X : Type 0} (x made : X) (n : ℕ) (rest : List X) → drop (suc n) (replicate n x ++ made ∷ rest) ≡ rest
+behind_one x made zero rest = refl
+behind_one x made (suc n) rest = behind_one x made n rest
+
+pub left_behind : {X : Type 0} (x made : X) (n : ℕ) (old : List X) → 1 ≤ n → drop n (replicate (n - 1) x ++ made ∷ drop n old) ≡ drop n old
+left_behind x made zero old low = absurd (omega (arith, low))
+left_behind x made (suc n) old low =
+    let k : suc n - 1 ≡ n = omega arith in
+    ap (λ (m : ℕ). drop (suc n) (replicate m x ++ made ∷ drop (suc n) old)) k ∙ behind_one x made n (drop (suc n) old)
+
+-- where a journal fits a region, what was counted at a seal is all that memory counts
+pub sealed_all : (h : Head) (m : Memory) → IsMemoryOf h m → length h.journal ≤ h.sb.mem → (sealed : Option SealedLevel) → IfSome sealed (CountsSealed h)
+    → (option_map_or (λ (z : SealedLevel). z.changes) sealed m.changes ≡ m.changes) × (option_map_or (λ (z : SealedLevel). z.updates) sealed m.updates ≡ m.updates)
+    × (take (option_map_or (λ (z : SealedLevel). z.versions) sealed (length m.parents)) m.parents ≡ m.parents)
+sealed_all h m of few None counted = (refl, refl, take_all (length m.parents) m.parents (omega arith))
+sealed_all h m of few (Some z) counted =
+    let front : take h.sb.mem h.journal ≡ h.journal = take_all h.sb.mem h.journal few in
+    let many : z.versions ≡ length m.parents =
+    counted.versions ∙ ap (λ (js : List Change). length (head_versions (record h { journal = js }))) front ∙ ap (λ (ps : Parents). length ps) (sym of.parents) in (
+      counted.changes ∙ ap (λ (js : List Change). head_changes (record h { journal = js })) front ∙ sym of.changes,
+      counted.updates ∙ ap (λ (js : List Change). head_updates (record h { journal = js })) front ∙ sym of.updates,
+      take_all z.versions m.parents (omega (arith, many)),
+    )

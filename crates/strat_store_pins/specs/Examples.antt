@@ -5,6 +5,7 @@ use Rattle.strat_base.specs.Entries.{Entry}
 use Rattle.strat_base.specs.declared.descriptors.ArrayDesc.{ArrayDesc}
 use Rattle.strat_base.specs.declared.descriptors.LevelDesc.{LevelDesc}
 use Rattle.strat_cursor.specs.Held.{HeldCursor, HeldCursors}
+use Rattle.strat_filter.specs.Bits.{bits_after}
 use Rattle.def_crash.specs.Image.{Image, patch}
 use Rattle.def_crash.specs.Moments.{DiskView}
 use Rattle.def_bytes.specs.Manifest.{new_manifest}
@@ -64,8 +65,15 @@ children_apart = record {
   };
   levels = Some (record { number = 1; horizon = 3; arrays = array_in 5 1 7 ∷ array_in 6 2 8 ∷ [] })
       ∷ [];
+  filters = [];
   cached = record { entries = []; cap = 256 };
   spent = false;
+}
+
+-- the same store with a filter of the first of its arrays, whose only key is `a`
+abbrev pub children_filtered : Held
+children_filtered = record children_apart {
+  filters = record { first = 5; kept = Some (bits_after 64 ((97 ∷ []) ∷ [])) ∷ None ∷ [] } ∷ [];
 }
 
 -- a disk that has entries in block 7, and in no other

@@ -22,9 +22,10 @@ ghost use Rattle.def_state.specs.State.{State, IsPaid};
 ghost use Rattle.strat_memory.specs.Held.{Held};
 ghost use Rattle.strat_memory.specs.Memory.{info_told, stat_told};
 ghost use Rattle.strat_memory.specs.Paying.{IsPaidIn};
-ghost use Rattle.strat_serve.specs.Session.{Took, IsAtEnd, too_long_bytes};
+ghost use Rattle.strat_loop.specs.Session.{Took, IsAtEnd};
+ghost use Rattle.strat_serve.specs.Serving.{too_long_bytes};
 ghost use Rattle.strat_serve.specs.Tables.{AnswersAllTaken, AnswersAsTable, AnswersNothing, AnswersUntil, AnswersUntilCut, AnswersUntilFault, RefusesNext, begins_at};
-ghost use Rattle.strat_serve.specs.World.{Streams};
+ghost use Rattle.strat_loop.specs.World.{Streams};
 ghost use Rattle.strat_store.specs.Getting.{MayTellOfKey};
 ghost use Rattle.strat_store.specs.Ranging.{MayTellOfRange, TellsFrom, TellsOfOpening};
 

@@ -63,7 +63,7 @@ pub fn changes_and_publications_leave_cursors()
         (change.Clone 0)).cursors ≡ cursors (cursor 3 None [] ∷ []) [] }
     ensures same { (emptied 4 (memory (cursors (cursor 3 None [] ∷ []) []))).cursors
         ≡ cursors (cursor 3 None [] ∷ []) [] }
-    ensures kept { (renewed 4 (array 5 ∷ array 6 ∷ [])
+    ensures kept { (renewed (array 5 ∷ array 6 ∷ [])
         (memory (cursors (cursor 3 None (array 6 ∷ []) ∷ []) []))).cursors
         ≡ cursors (cursor 3 None (array 6 ∷ []) ∷ []) (array 6 ∷ []) }
 {}

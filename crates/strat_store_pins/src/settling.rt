@@ -1,7 +1,7 @@
 //! What a command leaves of superblock and manifest, and of which trouble it may tell: each fact of these records, used once. Each is
 //! the contract of a function that does nothing.
 
-ghost use Rattle.std.specs.Prelude.{◌≡◌, ◌≢◌, ◌≤◌, ◌⊎◌, ◌+◌, ◌-◌, ℕ, suc, Bool, List, true, false, length, replicate, Contains, Some, None, Ok};
+ghost use Rattle.std.specs.Prelude.{◌≡◌, ◌≢◌, ◌≤◌, ◌⊎◌, ◌+◌, ◌-◌, ℕ, suc, Bool, List, true, false, length, drop, replicate, Contains, Some, None, Ok};
 ghost use Rattle.strat_base.specs.declared.descriptors.ArrayDesc.{ArrayDesc};
 ghost use Rattle.def_crash.specs.Blocks.{AgreeOn};
 ghost use Rattle.def_crash.specs.Image.{Image};
@@ -22,8 +22,8 @@ ghost use Rattle.def_publish.specs.Contents.{Contents, contents_state};
 ghost use Rattle.def_publish.specs.Next.{arrays_made};
 ghost use Rattle.def_state.specs.State.{IsPaid};
 ghost use Rattle.strat_store.specs.Applying.{TellsTroubleOf};
-ghost use Rattle.strat_memory.specs.Held.{Held, IsOnDisk, StandsWith, arrays_held};
-ghost use Rattle.strat_memory.specs.Memory.{Memory};
+ghost use Rattle.strat_memory.specs.Held.{Held, IsConsistent, IsOnDisk, StandsWith, arrays_held};
+ghost use Rattle.strat_memory.specs.Memory.{Memory, oldest_changes, oldest_parents, oldest_updates};
 ghost use Rattle.strat_publish.specs.Counting.{CountsWritten, KeepsCount, manifest_with_array};
 ghost use Rattle.strat_memory.specs.Paying.{IsPaidIn};
 ghost use Rattle.strat_publish.specs.Settling.{ArePublishedTo, HasPublished, LeavesPublished, arrays_taken};
@@ -31,7 +31,9 @@ ghost use Rattle.strat_publish.specs.Settling.{ArePublishedTo, HasPublished, Lea
 use def_crash::laws::Viewed;
 
 /// A change that was carried out at a full journal left the other slot, with the next generation and the other region, and a
-/// manifest of all that memory counts, in the newest format and with no version dropped.
+/// manifest of what memory counted at the seal, in the newest format and with no version dropped. In a consistent store that is
+/// all that memory counts, where nothing is behind the full region. The levels deeper than the one that it filled have the
+/// filters that they had.
 pub fn a_full_journal_is_published<D: Viewed>()
     ensures ok { (d e : D) (old new : Held) (told : Reply)
         → LeavesPublished (D.view d) (D.view e) old true told new
@@ -39,15 +41,19 @@ pub fn a_full_journal_is_published<D: Viewed>()
         × (new.sb.generation ≡ old.sb.generation + 1) × (new.sb.region ≡ 1 - old.sb.region)
         × (new.sb.mem ≡ old.sb.mem) × (new.sb.changes_max ≡ old.sb.changes_max)
         × (new.sb.versions_max ≡ old.sb.versions_max)
-        × (new.chained.manifest.changes ≡ old.memory.changes)
-        × (new.chained.manifest.updates ≡ old.memory.updates)
-        × (new.chained.manifest.parents ≡ parent_numbers old.memory.parents) }
+        × (new.chained.manifest.changes ≡ oldest_changes old.memory)
+        × (new.chained.manifest.updates ≡ oldest_updates old.memory)
+        × (new.chained.manifest.parents ≡ parent_numbers (oldest_parents old.memory)) }
+    ensures found { (s : Held) → IsConsistent s → length s.log.list ≤ s.sb.mem
+        → (oldest_changes s.memory ≡ s.memory.changes)
+        × (oldest_updates s.memory ≡ s.memory.updates)
+        × (oldest_parents s.memory ≡ s.memory.parents) }
     ensures same { (d e : D) (old new : Held) (told : Reply)
         → LeavesPublished (D.view d) (D.view e) old true told new
         → old.log.mem ≤ length old.log.list → (new.sb.format ≡ newest_format)
         × (new.chained.manifest.compacted ≡ old.chained.manifest.compacted)
         × (new.chained.manifest.marks
-        ≡ replicate (suc (length (parent_numbers old.memory.parents))) false) }
+        ≡ replicate (suc (length (parent_numbers (oldest_parents old.memory)))) false) }
     ensures room { (old new : Held) → HasPublished old new
         → old.log.mem ≤ length old.log.list }
     ensures fits { (target : ℕ) (sb next_sb : Super) (m next : Manifest) (memory : Memory)
@@ -58,15 +64,18 @@ pub fn a_full_journal_is_published<D: Viewed>()
         (arrays_taken has.after.target old.chained.manifest) old.memory.cursors) {
           room = new.memory.cursors.room;
         } }
+    ensures filter { (old new : Held) (has : HasPublished old new)
+        → drop has.after.target new.filters ≡ drop has.after.target old.filters }
 {}
 
-/// A command that was not carried out as a change, and was not told that the device failed, left slot, superblock, manifest and
-/// levels; one that was told so left them, or those of a checkpoint.
+/// A command that was not carried out as a change, and was not told that the device failed, left slot, superblock, manifest,
+/// levels and filters; one that was told so left them, or those of a checkpoint.
 pub fn no_other_command_publishes<D: Viewed>()
     ensures same { (d e : D) (old new : Held) (told : Reply)
         → LeavesPublished (D.view d) (D.view e) old false told new
         → told ≢ reply.Refused why.DeviceFault → (new.slot ≡ old.slot) × (new.sb ≡ old.sb)
-        × (new.chained ≡ old.chained) × (new.levels ≡ old.levels) }
+        × (new.chained ≡ old.chained) × (new.levels ≡ old.levels)
+        × (new.filters ≡ old.filters) }
     ensures err { (d e : D) (old new : Held)
         → LeavesPublished (D.view d) (D.view e) old false (reply.Refused why.DeviceFault) new
         → (new.slot ≡ old.slot) ⊎ (new.slot ≡ 1 - old.slot) }

@@ -1,14 +1,14 @@
 //! Changes that wait to become durable together: which may be staged, what is told of them, and what a crash leaves of them.
 //! Facts of these records, used once, and examples. Each is the contract of a function that does nothing.
 
-ghost use Rattle.std.specs.Prelude.{◌≡◌, ◌≤◌, ◌⊎◌, ◌++◌, ◌+◌, ℕ, List, [], ◌∷◌, length, None, Some, Ok, true, false, slice_get};
+ghost use Rattle.std.specs.Prelude.{◌≡◌, ◌≤◌, ◌<◌, ◌⊎◌, ◌++◌, ◌+◌, ℕ, List, [], ◌∷◌, length, None, Some, Ok, true, false, slice_get};
 ghost use Rattle.strat_base.specs.Change.{Change};
 ghost use Rattle.strat_base.specs.Change as change;
 ghost use Rattle.def_crash.specs.Image.{Image};
 ghost use Rattle.def_crash.specs.Moments.{Images, Since};
 ghost use Rattle.strat_model.specs.Answer.{plain};
 ghost use Rattle.strat_model.specs.Request.{Request, Put, Get, Clone};
-ghost use Rattle.strat_model.specs.Run.{EmptiesAtOnce, IsAfter, is_carried_out};
+ghost use Rattle.strat_model.specs.Run.{IsAfter, is_carried_out};
 ghost use Rattle.strat_model.specs.Step.{step};
 ghost use Rattle.strat_model.specs.Table.{Cursor};
 ghost use Rattle.strat_model.specs.declared.replies.Refusal.TheVariants as why;
@@ -24,17 +24,20 @@ ghost use Rattle.def_state.specs.State.{State};
 ghost use Rattle.strat_cursor.specs.Looking.{AreOfOldArrays};
 ghost use Rattle.strat_memory.specs.Held.{Held, IsConsistent, StandsAt};
 ghost use Rattle.strat_memory.specs.Memory.{memory_after};
+ghost use Rattle.def_slice.specs.Filling.{EmptiesFirst};
 ghost use Rattle.strat_store.specs.Staging.{FollowsBatch, IsStaged, IsStagedAt, has_place, held_joined, may_stage, position_staged, replies_staged, reply_of_commit, with_staged};
 ghost use Rattle.strat_store_pins.specs.Examples.{children_apart, log_of};
 
 use def_crash::laws::Viewed;
 
-/// A store with staged changes, of which there are sixteen at most, holds what an opening may find once they are durable, and no
-/// blocks of arrays that are yet to come.
+/// A store with staged changes, of which there are sixteen at most, holds what an opening may find once they are durable, for
+/// which the active region has room, and no blocks of arrays that are yet to come.
 pub fn a_store_with_staged_changes_is_consistent()
     ensures kept { (s : Held) → IsStaged s → IsConsistent (held_joined s)
         × AreOfOldArrays s.chained.manifest.next_array s.cached }
     ensures len { (s : Held) → IsStaged s → length s.log.batch ≤ 16 }
+    ensures room { (s : Held) → IsStaged s → 0 < length s.log.batch
+        → length s.log.list + length s.log.batch ≤ s.log.mem }
 {}
 
 /// A region of four takes a fourth change behind those that are staged, and no fifth. A sixteenth is staged, and no seventeenth.
@@ -89,7 +92,7 @@ pub fn a_staged_change_is_a_step_of_the_table<D: Viewed>()
     ensures end { (d : D) (old new : Held) (x : Contents) (rows : List Cursor) (request : Request)
         → IsStagedAt (D.view d) old x rows request new
         → IsAfter old.log.mem (position_staged old x rows) request (position_staged new x rows)
-        × EmptiesAtOnce old.log.mem (position_staged old x rows) request
+        × EmptiesFirst old.log.mem (position_staged old x rows) request
         (position_staged new x rows) }
     ensures len { (s : Held) (x : Contents) (rows : List Cursor)
         → (position_staged s x rows).fill ≡ length s.log.list + length s.log.batch }

@@ -1,7 +1,7 @@
 //! What a command leaves of a store and of its disk, as it was told: each fact of this record, used once. Each is the contract of a
 //! function that does nothing.
 
-ghost use Rattle.std.specs.Prelude.{◌≡◌, ◌⊎◌, ℕ, List, true, false, None, Some, Contains};
+ghost use Rattle.std.specs.Prelude.{◌≡◌, ◌⊎◌, ℕ, List, [], true, false, None, Some, Contains};
 ghost use Rattle.strat_array.specs.Kept.{IsBlockRead};
 ghost use Rattle.strat_base.specs.Change as change;
 ghost use Rattle.strat_base.specs.Entries.{Entry};
@@ -14,11 +14,12 @@ ghost use Rattle.strat_model.specs.declared.replies.Reply.{Reply};
 ghost use Rattle.strat_model.specs.declared.replies.Reply.TheVariants as reply;
 ghost use Rattle.strat_store.specs.Applying.{IsUntouched, may_write};
 ghost use Rattle.strat_memory.specs.Held.{Held, arrays_held};
-ghost use Rattle.strat_memory.specs.Memory.{Memory, memory_after, refusal_of_change};
+ghost use Rattle.strat_memory.specs.Memory.{Memory, memory_after, refusal_of_change, sealed_now};
 
 use def_crash::laws::Viewed;
 
-/// A change that is told of want of memory leaves all that the store holds, but for the memory that stands ready.
+/// A change that is told of want of memory leaves all that the store holds, but for the memory that stands ready; and level 0
+/// as it was, or sealed with a new one before it that has no entries.
 pub fn a_change_short_of_memory_leaves_what_is_held<D: Viewed>()
     ensures same { (d e : D) (old new : Held) (v : ℕ) (key value : List ℕ)
         → IsUntouched (D.view d) (D.view e) (Put v key value) old (reply.Refused why.NoMemory) new
@@ -27,10 +28,16 @@ pub fn a_change_short_of_memory_leaves_what_is_held<D: Viewed>()
     ensures kept { (d e : D) (old new : Held) (v : ℕ) (key value : List ℕ)
         → IsUntouched (D.view d) (D.view e) (Put v key value) old (reply.Refused why.NoMemory) new
         → (new.memory.parents ≡ old.memory.parents) × (new.memory.updates ≡ old.memory.updates)
-        × (new.memory.changes ≡ old.memory.changes) × (new.memory.entries ≡ old.memory.entries)
-        × (new.memory.spare ≡ old.memory.spare)
+        × (new.memory.changes ≡ old.memory.changes)
         × (new.memory.cursors.opened ≡ old.memory.cursors.opened)
         × (new.memory.cursors.retired ≡ old.memory.cursors.retired) }
+    ensures found { (d e : D) (old new : Held) (v : ℕ) (key value : List ℕ)
+        → IsUntouched (D.view d) (D.view e) (Put v key value) old (reply.Refused why.NoMemory) new
+        → ((new.memory.entries ≡ old.memory.entries) × (new.memory.sealed ≡ old.memory.sealed)
+        × (new.memory.spare ≡ old.memory.spare))
+        ⊎ ((old.memory.sealed ≡ None) × (new.memory.entries ≡ [])
+        × (new.memory.sealed ≡ Some (sealed_now old.memory))
+        × (new.memory.spare ≡ old.sb.mem)) }
 {}
 
 /// A change that memory refuses is refused so, and leaves store and disk as they were.

@@ -5,3 +5,4 @@ pub mod LivingLemmas
 pub mod PreorderLemmas
 pub mod PassLemmas
 pub mod DepthLemmas
+pub mod OrderLemmas

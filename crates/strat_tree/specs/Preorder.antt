@@ -18,3 +18,8 @@ pub record IsPreorder (n : ℕ) (parents : Parents) (numbering : Numbering) : Ty
   pub starts_len : length numbering.starts ≡ n
   pub ends_len : length numbering.ends ≡ n
   pub law : (u v : ℕ) → u < n → v < n → is_ancestor parents u v ≡ spans numbering u v
+
+-- each of the first n versions spans itself and those of its descendants that are among them, and no other of them
+abbrev pub OrdersFirst : ℕ → Parents → Numbering → Type 0
+OrdersFirst n parents numbering =
+    (u v : ℕ) → u < n → v < n → is_ancestor parents u v ≡ spans numbering u v

@@ -1,10 +1,11 @@
 -- The fields of a tree of versions.
-use Rattle.std.specs.Prelude.{◌≤◌, length, vec_capacity}
+use Rattle.std.specs.Prelude.{◌≡◌, ◌≤◌, length, vec_capacity}
 use Rattle.strat_base.specs.Tree.{IsTree}
 use Rattle.strat_base.specs.Marks.{ArePruned}
 use Rattle.strat_tree.specs.TreeView.{TreeView}
 use Rattle.strat_tree.specs.Jumps.{IsIndex}
 use Rattle.strat_tree.specs.Living.{AreLivingCounts}
+use Rattle.strat_tree.specs.Preorder.{OrdersFirst}
 use Rattle.strat_tree.specs.declared.tree.Tree.TheInside.{Inside}
 
 -- the tree of these fields
@@ -29,3 +30,6 @@ pub record IsIndexed (a : Inside) : Type 0 where
   pub jumps_room : a.versions_max ≤ vec_capacity a.jumps
   pub dropped_room : a.versions_max ≤ vec_capacity a.dropped
   pub living_room : a.versions_max ≤ vec_capacity a.living
+  pub numbered_fits : a.numbered ≤ length a.parents.items
+  pub order_room : length a.order.starts ≡ a.versions_max
+  pub ordered : OrdersFirst a.numbered a.parents.items a.order

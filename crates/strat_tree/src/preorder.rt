@@ -1,8 +1,8 @@
 //! The versions of a tree in an order in which each is followed at once by its descendants.
 
 ghost use Rattle.std.specs.Prelude.{◌≡◌, ◌<◌, ◌≤◌, ◌+◌, ℕ, length, slice_index, Some, IfOk};
-ghost use Rattle.strat_base.specs.Tree.{Parents, parent_of};
-ghost use Rattle.strat_tree.specs.Preorder.{IsPreorder};
+ghost use Rattle.strat_base.specs.Tree.{Parents, parent_of, IsTree};
+ghost use Rattle.strat_tree.specs.Preorder.{IsPreorder, OrdersFirst, spans};
 ghost use Rattle.strat_tree.specs.Intervals.{passed_up, first_left, AreSizes, AreIntervals};
 
 use crate::tree::Tree;
@@ -54,7 +54,19 @@ impl Preorder {
     {
         // For the proof: the parents are a tree.
         let _ = tree.count();
-        put_in_order(&mut self.starts, &mut self.ends, tree);
+        put_in_order(&mut self.starts, &mut self.ends, tree.parents());
+    }
+
+    /// Puts the first versions in the order of their parents, and leaves the numbers of the others as they
+    /// come. O(parents).
+    pub fn number_first(&mut self, parents: &[Option<Version>])
+        requires kept { IsTree parents.now }
+        requires fits { length parents.now ≤ 16384 }
+        requires room { length parents.now ≤ length self.old.starts }
+        ensures ok { OrdersFirst (length parents.now) parents.now self.new }
+        ensures len { length self.new.starts ≡ length self.old.starts }
+    {
+        put_first_in_order(&mut self.starts, &mut self.ends, parents);
     }
 
     /// The number of a version. O(1).
@@ -72,49 +84,83 @@ impl Preorder {
     {
         self.ends[v as usize]
     }
+
+    /// Whether a version is one of those from u's number on that u and its descendants have: two
+    /// comparisons. O(1).
+    #[inline(always)]
+    pub fn spans(&self, u: Version, v: Version) -> bool
+        requires { (u < length self.now.starts) × (v < length self.now.starts) }
+        ensures ok { result ≡ spans self.now u v }
+    {
+        let at = self.start(v);
+        self.start(u) <= at && at < self.end(u)
+    }
+}
+
+/// Gives each version of a tree its interval, in the fronts of lists that may be longer.
+fn put_first_in_order(starts: &mut [u32], ends: &mut [u32], parents: &[Option<Version>])
+    requires kept { IsTree parents.now }
+    requires fits { length parents.now ≤ 16384 }
+    requires len { length starts.old ≡ length ends.old }
+    requires room { length parents.now ≤ length ends.old }
+    ensures ok { AreIntervals parents.now (length parents.now)
+        (λ v. slice_index starts.new v) (λ v. slice_index ends.new v) }
+{
+    let n = parents.len();
+    put_in_order(&mut starts[..n], &mut ends[..n], parents);
+}
+
+/// The parent of a version.
+fn parent_at(parents: &[Option<Version>], v: usize) -> Option<Version>
+    requires { v < length parents.now }
+    ensures ok { result ≡ parent_of parents.now v }
+{
+    parents[v]
 }
 
 /// Gives each version its interval in a tree.
-fn put_in_order(starts: &mut [u32], ends: &mut [u32], tree: &Tree)
+fn put_in_order(starts: &mut [u32], ends: &mut [u32], parents: &[Option<Version>])
+    requires kept { IsTree parents.now }
+    requires room { length parents.now ≤ 16384 }
     requires len { length starts.old ≡ length ends.old }
-    requires fits { length ends.old ≤ length tree.now.parents }
-    ensures ok { AreIntervals tree.now.parents (length ends.old)
+    requires fits { length ends.old ≤ length parents.now }
+    ensures ok { AreIntervals parents.now (length ends.old)
         (λ v. slice_index starts.new v) (λ v. slice_index ends.new v) }
 {
     ends.fill(1);
-    add_sizes(ends, tree);
-    lay_out(starts, ends, tree);
+    add_sizes(ends, parents);
+    lay_out(starts, ends, parents);
 }
 
 /// Adds up how many versions each version and its descendants are, from the greatest down.
-fn add_sizes(sizes: &mut [u32], tree: &Tree)
+fn add_sizes(sizes: &mut [u32], parents: &[Option<Version>])
+    requires kept { IsTree parents.now }
+    requires fits { length parents.now ≤ 16384 }
     requires same { (v : ℕ) → v < length sizes.old → slice_index sizes.old v ≡ 1 }
-    requires len { length sizes.old ≤ length tree.now.parents }
-    ensures ok { AreSizes tree.now.parents (length sizes.old) (λ v. slice_index sizes.new v) }
+    requires len { length sizes.old ≤ length parents.now }
+    ensures ok { AreSizes parents.now (length sizes.old) (λ v. slice_index sizes.new v) }
 {
-    // For the proof: the parents are a tree.
-    let _ = tree.count();
     let mut v = sizes.len();
     while v > 1 {
         v -= 1;
-        pass_up(sizes, tree.parent(v as Version), v);
+        pass_up(sizes, parent_at(parents, v), v);
     }
 }
 
 /// Gives each version its interval out of what its parent's has left: it takes the numbers of its size,
 /// and its children begin behind the first of them. An end stands where the next child begins, and
 /// after the last child where the interval ends.
-fn lay_out(starts: &mut [u32], ends: &mut [u32], tree: &Tree)
-    requires kept { AreSizes tree.now.parents (length ends.old) (λ v. slice_index ends.old v) }
+fn lay_out(starts: &mut [u32], ends: &mut [u32], parents: &[Option<Version>])
+    requires kept { IsTree parents.now }
+    requires room { length parents.now ≤ 16384 }
+    requires found { AreSizes parents.now (length ends.old) (λ v. slice_index ends.old v) }
     requires len { length starts.old ≡ length ends.old }
-    requires fits { length ends.old ≤ length tree.now.parents }
-    ensures ok { AreIntervals tree.now.parents (length ends.old)
+    requires fits { length ends.old ≤ length parents.now }
+    ensures ok { AreIntervals parents.now (length ends.old)
         (λ v. slice_index starts.new v) (λ v. slice_index ends.new v) }
 {
-    // For the proof: the parents are a tree.
-    let _ = tree.count();
     for v in 0..ends.len() {
-        let start = pass_up(ends, tree.parent(v as Version), v);
+        let start = pass_up(ends, parent_at(parents, v), v);
         starts[v] = start;
         ends[v] = start + 1;
     }

@@ -7,6 +7,7 @@ ghost use Rattle.strat_base.specs.Tree.{parent_of, depth, has_child, is_ancestor
 ghost use Rattle.strat_base.specs.Marks.{is_dropped, has_living_child, ArePruned};
 ghost use Rattle.strat_tree.specs.Jumps.{IsChildRow};
 
+use crate::preorder::Preorder;
 use std::alloc::Global;
 use std::marker::Model;
 use strat_base::{NoMemory, Version};
@@ -30,6 +31,7 @@ fn jumps_over(depth: u32) -> usize
 
 /// The versions of a store: version 0, and others that were each made as a child of an earlier one.
 /// Jump `i` of a version leads `2^i` steps up its path, and to version 0 where the path is shorter.
+/// The order is of the first `numbered` versions.
 #[derive(Drop)]
 pub struct Tree {
     versions_max: u32,
@@ -39,6 +41,8 @@ pub struct Tree {
     jumps: Vec<[Version; JUMPS]>,
     dropped: Vec<bool>,
     living: Vec<u32>,
+    order: Preorder,
+    numbered: u32,
 }
 
 impl Model for Tree {
@@ -54,7 +58,7 @@ impl Model for Tree {
 }
 
 impl Tree {
-    /// A tree of version 0 alone. Takes memory for all versions that there may be, about 75 bytes
+    /// A tree of version 0 alone. Takes memory for all versions that there may be, about 83 bytes
     /// each, and no other call takes any. Where memory is short, none stays taken.
     #[tactic(auto, using(crate::proofs::PrunedLemmas::none_dropped))]
     pub fn new(alloc: Global, versions_max: u32) -> Result<Tree, NoMemory>
@@ -74,6 +78,7 @@ impl Tree {
         let mut jumps = Vec::with_capacity(alloc, room)?;
         let mut dropped = Vec::with_capacity(alloc, room)?;
         let mut living = Vec::with_capacity(alloc, room)?;
+        let order = Preorder::new(alloc, versions_max)?;
         parents.push_reserved(None);
         depths.push_reserved(0);
         inner.push_reserved(false);
@@ -88,6 +93,8 @@ impl Tree {
             jumps,
             dropped,
             living,
+            order,
+            numbered: 0,
         })
     }
 
@@ -175,14 +182,28 @@ impl Tree {
         self.dropped[v as usize] = true;
     }
 
-    /// Whether u is v or an ancestor of v. O(log depth): up to 15 steps.
+    /// Whether u is v or an ancestor of v. O(1) where both were there when the versions were last numbered:
+    /// two comparisons. Else O(log depth): up to 15 steps.
     pub fn is_ancestor(&self, u: Version, v: Version) -> bool
         requires { (u < length self.now.parents) × (v < length self.now.parents) }
         ensures ok { result ≡ is_ancestor self.now.parents u v }
     {
         // For the proof: what every tree keeps.
         let _ = &self.parents;
+        if u < self.numbered && v < self.numbered {
+            return self.order.spans(u, v);
+        }
         self.below(v, u + 1) == u
+    }
+
+    /// Numbers all versions that there are, so that two comparisons tell whether one of them is an
+    /// ancestor of another; versions made later are told by jumps until the next call. It takes no
+    /// memory. O(versions), so it is called after an opening and at each checkpoint.
+    pub fn number(&mut self)
+        ensures ok { self.new ≡ self.old }
+    {
+        self.order.number_first(&self.parents);
+        self.numbered = self.parents.len() as u32;
     }
 
     /// The nearest of v and its ancestors that is numbered below h. O(log depth): a parent has a smaller number than its

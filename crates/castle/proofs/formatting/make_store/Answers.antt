@@ -2,7 +2,7 @@ use Rattle.std.proofs.Common.{◌∙◌}
 use Rattle.def_crash.proofs.MomentLemmas.{leaves_refl}
 use Rattle.castle.specs.Outcomes.{format_text}
 use Rattle.strat_open.proofs.FormatLemmas.{none_yet}
-use Rattle.strat_serve.proofs.SendLemmas.{sends_prefix}
+use Rattle.strat_loop.proofs.SendLemmas.{sends_prefix}
 use Rattle.strat_open.proofs.OtherLemmas.{keep_refl}
 use Rattle.strat_open.proofs.ShutLemmas.{blank_leaves}
 use Rattle.castle.proofs.formatting.make_store.Goals as goal

@@ -1,4 +1,4 @@
-use Rattle.std.proofs.Common.{◌∷◌, List, Option, Some, Ok, Err, inl, inr, refl, sym, ap, subst, ◌∙◌, arith}
+use Rattle.std.proofs.Common.{◌∷◌, List, Option, inl, inr, ap, subst, ◌∙◌, arith}
 use Rattle.def_bytes.specs.Damage.{Read}
 use Rattle.def_state.specs.Breach.{Breach}
 use Rattle.strat_io.specs.Streams.{Appends}
@@ -6,7 +6,7 @@ use Rattle.strat_model.specs.Ended.{status_of}
 use Rattle.def_check.specs.Checked.{checked}
 use Rattle.def_check.proofs.CheckedLemmas.{blames, checked_state, found_sound, sound_found}
 use Rattle.strat_report.specs.Checking.{check_text, end_of_check}
-use Rattle.castle.proofs.CheckLemmas.{check_cut, check_damaged, check_ends_by, check_none, check_same, check_sound, check_unsound, no_store_found}
+use Rattle.castle.proofs.CheckLemmas.{check_cut, check_damaged, check_ends_by, check_none, check_sound, check_unsound, no_store_found}
 use Rattle.castle.proofs.OutcomeLemmas.{causes}
 use Rattle.castle.proofs.laws.a_checking_run_says_what_the_state_breaks.Goals as goal
 

@@ -4,9 +4,10 @@ use Rattle.castle.specs.Arguments.{Subcommand, subcommand_seen}
 use Rattle.castle.specs.Outcomes.{IsEarly, Runs, LeavesAlone}
 use Rattle.castle.specs.declared.arguments.Subcommand.{Subcommand as Borrowed}
 use Rattle.strat_report.specs.Reporting.{levels_text}
-use Rattle.strat_serve.specs.World.{World, world}
+use Rattle.strat_loop.specs.World.{World, world}
+use Rattle.strat_follow.specs.Follows.{follows}
 use Rattle.castle.proofs.CheckLemmas.{check_cause}
-use Rattle.castle.proofs.CompleteLemmas.{completes, completes_sound, gave_up_by}
+use Rattle.castle.proofs.CompleteLemmas.{completes, completes_sound, gave_up_by, of_lead, of_run, of_spoken}
 use Rattle.castle.proofs.FormattedLemmas.{formatted_ends, formatting_gave_up}
 use Rattle.castle.proofs.SizeLemmas.{limits_of}
 use Rattle.castle.proofs.SummaryLemmas.{none_reported, report_cause, silent_by, workload_completes}
@@ -35,8 +36,8 @@ returns-in-Some-Serve-clause-ok g c =
         outcome = c.serve.ensures.ok;
         refuses = c.serve.ensures.found;
         cause = c.serve.ensures.cause;
-        complete = λ calm f exposed. completes 1099511627776 c.serve.result before now f c.serve.ensures.ok c.serve.ensures.found c.serve.ensures.cause calm.source calm.sink calm.disk exposed;
-        sound = λ calm f t exposed shows. completes_sound 1099511627776 c.serve.result before now f t c.serve.ensures.ok c.serve.ensures.found c.serve.ensures.cause calm.source calm.sink calm.disk exposed shows;
+        complete = λ calm f exposed. completes 1099511627776 c.serve.result before now f (of_run 1099511627776 c.serve.result before now c.serve.ensures.ok) c.serve.ensures.found c.serve.ensures.cause calm.source calm.sink calm.disk exposed;
+        sound = λ calm f t exposed shows. completes_sound 1099511627776 c.serve.result before now f t (of_run 1099511627776 c.serve.result before now c.serve.ensures.ok) c.serve.ensures.found c.serve.ensures.cause calm.source calm.sink calm.disk exposed shows;
       },
     )
 
@@ -149,3 +150,72 @@ returns-in-Some-Workload-clause-same g c =
     let named = c.in-Some-Workload.ensures ∙ ap (λ (j : Borrowed). Some (subcommand_seen j)) c.in-Some-Workload.field-0-is in
     subst (λ (s : Option Subcommand). LeavesAlone s (g.D.Disk.view c.args.disk.now) c.status-in-Some-Workload.result (c.args.source.now ≡ c.args.source.now) (c.run_workload.new.sink ≡ c.args.sink.now) (c.run_workload.new.disk ≡ c.args.disk.now)) (sym named)
     (refl, λ is. c.run_workload.ensures.same (silent_by c.run_workload.result (subst (λ (n : ℕ). (n ≡ 2) ⊎ (n ≡ 5) ⊎ (n ≡ 8)) c.status-in-Some-Workload.ensures is)))
+
+pub returns-in-Some-Lead-clause-ok : goal.returns-in-Some-Lead-clause-ok
+returns-in-Some-Lead-clause-ok g c =
+    let before = shown g c.args.source.now c.args.sink.now c.args.disk.now in
+    let now = shown g c.lead.new.source c.lead.new.sink c.lead.new.disk in
+    let named = c.in-Some-Lead.ensures ∙ ap (λ (j : Borrowed). Some (subcommand_seen j)) c.in-Some-Lead.field-0-is in
+    let outcome = of_lead 1099511627776 c.lead.result before now c.lead.ensures.ok in
+    subst (λ (s : Option Subcommand). Runs s 1099511627776 c.status-in-Some-Lead.result before now) (sym named) (
+      c.lead.result,
+      c.status-in-Some-Lead.ensures,
+      record {
+        outcome = c.lead.ensures.ok;
+        leads = c.lead.ensures.kept;
+        refuses = c.lead.ensures.found;
+        cause = c.lead.ensures.cause;
+        complete = λ calm f exposed. completes 1099511627776 c.lead.result before now f outcome c.lead.ensures.found c.lead.ensures.cause calm.source calm.sink calm.disk exposed;
+        sound = λ calm f t exposed shows. completes_sound 1099511627776 c.lead.result before now f t outcome c.lead.ensures.found c.lead.ensures.cause calm.source calm.sink calm.disk exposed shows;
+      },
+    )
+
+pub returns-in-Some-Lead-clause-same : goal.returns-in-Some-Lead-clause-same
+returns-in-Some-Lead-clause-same g c =
+    let view = g.D.Disk.view c.args.disk.now in
+    let named = c.in-Some-Lead.ensures ∙ ap (λ (j : Borrowed). Some (subcommand_seen j)) c.in-Some-Lead.field-0-is in
+    subst (λ (s : Option Subcommand). LeavesAlone s view c.status-in-Some-Lead.result (c.lead.new.source ≡ c.args.source.now) (c.lead.new.sink ≡ c.args.sink.now) (c.lead.new.disk ≡ c.args.disk.now)) (sym named)
+    (λ is. c.lead.ensures.same (gave_up_by c.lead.result view (subst (λ (n : ℕ). IsEarly view n) c.status-in-Some-Lead.ensures is)))
+
+pub returns-in-Some-Follow-clause-ok : goal.returns-in-Some-Follow-clause-ok
+returns-in-Some-Follow-clause-ok g c =
+    let before = shown g c.args.source.now c.args.sink.now c.args.disk.now in
+    let now = shown g c.follow.new.source c.follow.new.sink c.follow.new.disk in
+    let named = c.in-Some-Follow.ensures ∙ ap (λ (j : Borrowed). Some (subcommand_seen j)) c.in-Some-Follow.field-0-is in
+    let outcome = of_spoken follows 1099511627776 c.follow.result before now c.follow.ensures.ok in
+    subst (λ (s : Option Subcommand). Runs s 1099511627776 c.status-in-Some-Follow.result before now) (sym named) (
+      c.follow.result,
+      c.status-in-Some-Follow.ensures,
+      record {
+        outcome = c.follow.ensures.ok;
+        copies = c.follow.ensures.kept;
+        refuses = c.follow.ensures.found;
+        cause = c.follow.ensures.cause;
+        complete = λ calm f exposed. completes 1099511627776 c.follow.result before now f outcome c.follow.ensures.found c.follow.ensures.cause calm.source calm.sink calm.disk exposed;
+        sound = λ calm f t exposed shows. completes_sound 1099511627776 c.follow.result before now f t outcome c.follow.ensures.found c.follow.ensures.cause calm.source calm.sink calm.disk exposed shows;
+      },
+    )
+
+pub returns-in-Some-Follow-clause-same : goal.returns-in-Some-Follow-clause-same
+returns-in-Some-Follow-clause-same g c =
+    let view = g.D.Disk.view c.args.disk.now in
+    let named = c.in-Some-Follow.ensures ∙ ap (λ (j : Borrowed). Some (subcommand_seen j)) c.in-Some-Follow.field-0-is in
+    subst (λ (s : Option Subcommand). LeavesAlone s view c.status-in-Some-Follow.result (c.follow.new.source ≡ c.args.source.now) (c.follow.new.sink ≡ c.args.sink.now) (c.follow.new.disk ≡ c.args.disk.now)) (sym named)
+    (λ is. c.follow.ensures.same (gave_up_by c.follow.result view (subst (λ (n : ℕ). IsEarly view n) c.status-in-Some-Follow.ensures is)))
+
+pub returns-in-Some-Export-clause-ok : goal.returns-in-Some-Export-clause-ok
+returns-in-Some-Export-clause-ok g c =
+    let before = shown g c.args.source.now c.args.sink.now c.args.disk.now in
+    let now = shown g c.args.source.now c.export_version.new.sink c.export_version.new.disk in
+    let named = c.in-Some-Export.ensures ∙ ap (λ (j : Borrowed). Some (subcommand_seen j)) c.in-Some-Export.field-0-is in
+    subst (λ (s : Option Subcommand). Runs s 1099511627776 c.status-in-Some-Export.result before now) (sym named) (
+      c.export_version.result,
+      c.status-in-Some-Export.ensures,
+      c.export_version.ensures.ok before.left before.source_faults,
+    )
+
+pub returns-in-Some-Export-clause-same : goal.returns-in-Some-Export-clause-same
+returns-in-Some-Export-clause-same g c =
+    let named = c.in-Some-Export.ensures ∙ ap (λ (j : Borrowed). Some (subcommand_seen j)) c.in-Some-Export.field-0-is in
+    subst (λ (s : Option Subcommand). LeavesAlone s (g.D.Disk.view c.args.disk.now) c.status-in-Some-Export.result (c.args.source.now ≡ c.args.source.now) (c.export_version.new.sink ≡ c.args.sink.now) (c.export_version.new.disk ≡ c.args.disk.now)) (sym named)
+    (refl, λ is. c.export_version.ensures.same (subst (λ (n : ℕ). (n ≡ 2) ⊎ (n ≡ 8) ⊎ (n ≡ 12)) c.status-in-Some-Export.ensures is))

@@ -2,7 +2,7 @@ use Rattle.std.proofs.Common.{◌≡◌, Some, None, Err, ap, refl, sym, subst, 
 use Rattle.def_crash.proofs.MomentLemmas.{leaves_refl}
 use Rattle.strat_model.specs.declared.ended.Ended.TheVariants as ended
 use Rattle.strat_open.specs.Following.{IsUnchanged}
-use Rattle.strat_serve.specs.World.{world}
+use Rattle.strat_loop.specs.World.{world}
 use Rattle.castle.proofs.ServedLemmas.{workload_end, workload_leaves}
 use Rattle.castle.proofs.working.serve_workload.Goals as goal
 

@@ -17,6 +17,7 @@ invariant-loop g l =
       kept : IsLevelPass (length l.tree.parents) (length l.arrays) l.pass;
       owners : l.pass.owners.items ≡ l.initial.pass.owners.items;
       len : length l.sights.own ≡ length l.initial.sights.own;
+      placed : l.sights.order ≡ l.initial.sights.order;
       reads : HaveRead marked_seen (g.D.Disk.view l.initial.disk) (g.D.Disk.view l.disk) (g.D.Disk.faults l.initial.disk) (g.D.Disk.faults l.disk)
           (g.D.Disk.reads l.initial.disk) (g.D.Disk.reads l.disk) (runs_merged l.initial.pass.merging.merger) (runs_merged l.pass.merging.merger);
       taken : (f : Image) (runs : List (List Entry)) → Exposes (g.D.Disk.view l.initial.disk) f → lefts f (views_of marked_seen l.initial.pass.merging.merger) ≡ runs

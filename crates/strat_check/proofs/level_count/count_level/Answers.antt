@@ -63,11 +63,10 @@ returns-clause-ok g c = λ f on told is may old total.
     ∙ ap (marked_runs 0) (are.kept (length tree)) in
     let apart : is_distinct (flat_map (λ (a : ArrayDesc). a.versions) c.as_slice-arrays.result.now) ≡ true = ap (λ (xs : List ArrayDesc). is_distinct (flat_map (λ (a : ArrayDesc). a.versions) xs)) arrays ∙ tags_apart f c.args.level.now on is may in
     let counting : IsCountingLevel tree (map (λ (a : ArrayDesc). a.versions) c.as_slice-arrays.result.now) runs (lefts f (views_of marked_seen c.in_ok-merging.merging.merger)) c.in_ok-found.found.items c.clear.new.self =
-    record { groups = []; merged = left; counted = counted_none tree (map (λ (a : ArrayDesc). a.versions) c.as_slice-arrays.result.now) c.in_ok-found.found.items c.clear.new.self (c.clear.ensures.ok tree) c.in_ok-found.ensures.ok } in
+    record { groups = []; merged = left; counted = counted_none tree (map (λ (a : ArrayDesc). a.versions) c.as_slice-arrays.result.now) c.in_ok-found.found.items c.clear.new.self (c.clear.ensures.ok tree c.requires.len.0 c.requires.len.1) c.in_ok-found.ensures.ok } in
     let counted = c.in_ok-count_groups.ensures.ok c.if-not-branch.false f runs (c.open_runs.ensures.same.same ∙ told) (c.in_ok-owners.ensures.ok apart) counting in
-    let size : length c.as_slice-arrays.result.now ≡ length on.arrays = ap (λ (xs : List ArrayDesc). length xs) arrays ∙ are.len in
     level_counted tree c.count-versions.ensures.kept on may old (omega (arith, are.len, c.requires.room)) counted.groups counted.merged c.count_groups.new.pass.found.items c.count_groups.new.sights c.finish.new.self
-    (subst (λ (ts : List (List ℕ)). AreGroupsCounted tree ts counted.groups c.count_groups.new.pass.found.items c.count_groups.new.sights) tags counted.counted) (c.in_ok-count_groups.ensures.kept.found ∙ size) total c.finish.ensures.ok
+    (subst (λ (ts : List (List ℕ)). AreGroupsCounted tree ts counted.groups c.count_groups.new.pass.found.items c.count_groups.new.sights) tags counted.counted) total c.finish.ensures.ok
 
 pub returns-then-not-branch-clause-same : goal.returns-then-not-branch-clause-same
 returns-then-not-branch-clause-same g c = reads_trans c.open_runs.ensures.same c.count_groups.ensures.reads.same

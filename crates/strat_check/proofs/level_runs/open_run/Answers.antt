@@ -9,7 +9,7 @@ returns-clause-ok g c =
     record {
       run = marked_seen c.in_ok-run.run';
       behind = ap (λ runs. map marked_seen runs) c.in_ok-push.ensures.items ∙ map-append marked_seen c.args.runs.now.items _;
-      left = run.ok;
+      left = λ f exposed content on up. (run.ok f exposed content on up).1;
       under = run.found;
       blames = run.kept;
       read = run.reads;

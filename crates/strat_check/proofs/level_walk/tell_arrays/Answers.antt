@@ -40,6 +40,7 @@ loop-i-preserved g c =
           arrays_more s on c.loop-i.told c.with-told.result c.loop-i.i a.0 c.args.level.now.number c.index-descs-i.result.id c.in_ok-one.one (sym its.number) (sym (array_of f c.index-descs-i.result a.0 a.2).id) a.1
           (inv.told f s on groups exposed same at looked) (c.in_ok-one.ensures.ok f s on a.0 groups (inv.same.same ∙ exposed) same a.2 one) c.with-told.ensures.ok c.with-told.ensures.len;
       size = c.tell_one.ensures.len ∙ inv.size;
+      placed = c.tell_one.ensures.state ∙ inv.placed;
       same = reads_trans inv.same c.tell_one.ensures.same;
       faults = c.in_ok-one.ensures.cause.ok ∙ inv.faults;
       reads = reads_more c.args.level.now.arrays c.loop-i.i c.index-descs-i.result _ _ _ desc_at inv.reads c.tell_one.ensures.reads;

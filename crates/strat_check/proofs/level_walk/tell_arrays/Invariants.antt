@@ -16,6 +16,7 @@ invariant-loop-i g l =
       told : (f : Image) (s : State) (on : Level) (groups : List (List Entry)) → Exposes (g.D.Disk.view l.initial.disk) f → versions_of s ≡ l.tree.parents → level_on f l.level ≡ Some on
           → AreArraysLooked s on groups l.scans l.strays l.leads → AreArraysTold s on (take l.i on.arrays) l.told;
       size : length l.array.own ≡ length l.initial.array.own;
+      placed : l.array.order ≡ l.initial.array.order;
       same : OnlyReads (g.D.Disk.view l.initial.disk) (g.D.Disk.view l.disk);
       faults : g.D.Disk.faults l.disk ≡ g.D.Disk.faults l.initial.disk;
       reads : ReadsAtMost (length (blocks_listed (take l.i l.level.arrays))) (g.D.Disk.reads l.initial.disk) (g.D.Disk.reads l.disk);

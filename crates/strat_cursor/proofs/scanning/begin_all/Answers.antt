@@ -1,7 +1,7 @@
 use Rattle.std.proofs.Common.{refl, ◌∙◌, arith}
 use Rattle.std.proofs.lemmas.List.{length-set}
 use Rattle.strat_base.proofs.ResultFacts.{err_of}
-use Rattle.strat_cursor.specs.Sources.{reads_left, reads_of_source}
+use Rattle.strat_cursor.specs.Sources.{reads_left, reads_of_source, reads_to_seek}
 use Rattle.strat_cursor.proofs.TournamentLemmas.{get_here}
 use Rattle.strat_cursor.proofs.ThroughLemmas.{through_more, through_trans, names_more, names_earlier}
 use Rattle.strat_cursor.proofs.BeginLemmas.{begins, begins_more, all_settled, all_up, sum_begins, sum_more, sum_ends, sum_rest, few_at}
@@ -42,7 +42,7 @@ returns-in_err-begin-clause-reads g c =
     let of = (c.requires.same.each c.loop-i.i c.index-sources-i.result here) in
     λ n few.
     let own = c.begin.ensures.reads n (few_at n _ (arrays_read c.args.query.now.view.now c.args.query.now.version) of.there few) in
-    let rest = sum_rest (reads_of_source n) c.args.query.now.sources.now c.loop-i.i c.index-sources-i.result here in
+    let rest = sum_rest (reads_of_source (reads_to_seek c.args.query.now.lo.now n)) c.args.query.now.sources.now c.loop-i.i c.index-sources-i.result here in
     record { later = omega (arith, own.later, c.loop-i.invariant.later n few); bound = omega (arith, own.bound, rest, c.loop-i.invariant.reads n few) }
 
 pub loop-i-preserved : goal.loop-i-preserved
@@ -59,7 +59,7 @@ loop-i-preserved g c =
       reads = λ n few.
           let own = c.in_ok-begin.ensures.room n (few_at n _ (arrays_read c.args.query.now.view.now c.args.query.now.version) of.there few) in
           let more = sum_more c.loop-i.i reads_left c.args.query.now.sources.now c.loop-i.positions c.index-sources-i.result c.begin.new.position here (omega (arith, c.loop-i-test.true, c.loop-i.invariant.same, c.requires.room)) in
-          let rest = sum_rest (reads_of_source n) c.args.query.now.sources.now c.loop-i.i c.index-sources-i.result here in
+          let rest = sum_rest (reads_of_source (reads_to_seek c.args.query.now.lo.now n)) c.args.query.now.sources.now c.loop-i.i c.index-sources-i.result here in
           omega (arith, own, more, rest, c.loop-i.invariant.reads n few);
     }
 

@@ -1,4 +1,4 @@
-use Rattle.std.proofs.Common.{◌≡◌, ℕ, true, Result, Ok, Err, is_err, sym, ap, ◌∙◌, subst, take, true≢false}
+use Rattle.std.proofs.Common.{arith, ◌≡◌, ℕ, true, Result, Ok, Err, is_err, sym, ap, ◌∙◌, subst, take, true≢false}
 use Rattle.std.specs.Result.{IfOk}
 use Rattle.def_crash.specs.Faults.{ReadsAtMost}
 use Rattle.strat_cursor.specs.Looking.{reads_of_arrays}
@@ -8,8 +8,9 @@ use Rattle.strat_cursor.proofs.scanning.scan.Goals.{then-is_err, else-is_err}
 
 pub returns-clause-reads : goal.returns-clause-reads
 returns-clause-reads g c = λ n few.
-    subst (λ (most : ℕ). ReadsAtMost most (g.D.Disk.reads c.args.disk.now) (g.D.Disk.reads c.scan_sources-told.new.disk)) (reads_of_sources n (take c.pick-picked.result.count c.pick-picked.result.places) ∙ ap (reads_of_arrays n) c.pick-picked.ensures.ok.arrays)
-    (c.scan_sources-told.ensures.reads n few)
+    let told = c.scan_sources-told.ensures.reads n few in
+    let most = reads_of_sources c.args.lo.now n (take c.pick-picked.result.count c.pick-picked.result.places) in
+    record { later = told.later; bound = omega (arith, told.bound, most, ap (reads_of_arrays n) c.pick-picked.ensures.ok.arrays) }
 
 -- a call that failed has no answer of which anything is to be shown
 no_ok : {T E : Type 0} (P : T → Type 0) (r : Result T E) → is_err r ≡ true → IfOk r P

@@ -16,6 +16,7 @@ invariant-loop-w g l = record {
   same : length l.positions ≡ length l.initial.positions;
   faults : g.D.Disk.faults l.disk ≡ g.D.Disk.faults l.initial.disk;
   later : g.D.Disk.reads l.initial.disk ≤ g.D.Disk.reads l.disk;
+  fewer : sum_over (steps_left l.query.view.now.pool.now) l.query.sources.now l.positions + length l.out ≤ sum_over (steps_left l.query.view.now.pool.now) l.query.sources.now l.initial.positions + length l.initial.out;
   reads : g.D.Disk.reads l.disk + sum_over reads_left l.query.sources.now l.positions ≤ g.D.Disk.reads l.initial.disk + sum_over reads_left l.query.sources.now l.initial.positions;
 }
 

@@ -18,7 +18,7 @@ returns-clause-ok g c =
 
 pub returns-clause-damaged : goal.returns-clause-damaged
 returns-clause-damaged g c = λ b torn.
-    no_block_same (g.D.Disk.view c.args.disk.now).content (g.D.Disk.view c.seek.new.disk).content (blocks_of c.args.desc.now.extents) b c.in_ok-place.ensures.same.disk.same
+    no_block_same (g.D.Disk.view c.args.disk.now).content (g.D.Disk.view c.place_from.new.disk).content (blocks_of c.args.desc.now.extents) b c.in_ok-place.ensures.same.disk.same
     (c.stand_place.ensures.damaged b torn)
 
 pub returns-clause-same : goal.returns-clause-same

@@ -38,7 +38,7 @@ returns-clause-found g c = ends_full _ _ (g.D.Disk.view c.loop-i.disk) _ _ (g.D.
 
 pub returns-in_default-clause-kept : goal.returns-in_default-clause-kept
 returns-in_default-clause-kept g c =
-    front_kept _ c.next.new.self.bytes c.loop-i.at c.into_front.result.items c.loop-i.logged.items c.loop-i.invariant.0.kept (c.next.ensures.ok.front c.loop-i.at c.loop-i.invariant.0.near) c.into_front.ensures
+    front_kept _ c.next.new.self.bytes c.loop-i.at c.into_front-bytes.result.items c.loop-i.logged.items c.loop-i.invariant.0.kept (c.next.ensures.ok.front c.loop-i.at c.loop-i.invariant.0.near) c.into_front-bytes.ensures
 
 pub returns-clause-kept : goal.returns-clause-kept
-returns-clause-kept g c = rw c.into_front-2.ensures c.loop-i.invariant.0.kept
+returns-clause-kept g c = rw c.into_front-bytes-2.ensures c.loop-i.invariant.0.kept

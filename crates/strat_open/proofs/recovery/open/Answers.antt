@@ -53,7 +53,7 @@ pub returns-clause-ok : goal.returns-clause-ok
 returns-clause-ok g c = λ cap.
     opened_as _ (g.D.Disk.view c.sync_first.new.disk) (g.D.Disk.view c.recover_store.new.disk) _ c.in_ok-recovered.recovered
     (synced g (goal.at.returns-clause-ok g c).After-recover_store) c.in_ok-sync_first.ensures.ok (g.met.D.Disk.leaves_content c.sync_first.new.disk) c.recover_store.ensures.same c.shut_other.ensures.time
-    (λ f exposed. c.in_ok-recovered.ensures.found f (c.sync_first.ensures.same ∙ exposed)) c.shut_other.ensures.trail c.shut_other.ensures.images c.in_ok-shut_other.ensures.kept c.in_ok-shut_other.ensures.durable c.in_ok-recovered.ensures.cursors c.in_ok-recovered.ensures.kept cap
+    (λ f exposed. c.in_ok-recovered.ensures.found f (c.sync_first.ensures.same ∙ exposed)) c.shut_other.ensures.trail c.shut_other.ensures.images c.in_ok-shut_other.ensures.kept c.in_ok-shut_other.ensures.durable c.in_ok-recovered.ensures.cursors c.in_ok-recovered.ensures.filters c.in_ok-recovered.ensures.kept cap
 
 pub returns-in_err-sync_first-clause-trail : goal.returns-in_err-sync_first-clause-trail
 returns-in_err-sync_first-clause-trail g c = λ f exposed each. kept_whole _ _ each c.sync_first.ensures.images
@@ -81,3 +81,8 @@ returns-in_err-shut_other-clause-cause g c =
     failed_cause c.from_residual-in_err-shut_other.result before now (p.1 ∙ ap (λ (e : AttachFault). Err e) p.2)
     (subst (λ (n : ℕ). n ≤ now) calm c.shut_other.ensures.cause.later)
     (subst (λ (n : ℕ). Rose n now) calm c.in_err-shut_other.ensures.cause.err)
+
+pub returns-in_err-shut_other-clause-same : goal.returns-in_err-shut_other-clause-same
+returns-in_err-shut_other-clause-same g c =
+    let p = err_from_is_err_and c.from_residual-in_err-shut_other.result c.from_residual-in_err-shut_other.ensures.1 in
+    rw p.1 (λ other. absurd (other p.2))

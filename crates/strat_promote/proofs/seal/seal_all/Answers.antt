@@ -1,4 +1,4 @@
-use Rattle.std.proofs.Common.{◌≡◌, ◌+◌, ◌∙◌, ℕ, Some, slice_set, refl, subst, arith}
+use Rattle.std.proofs.Common.{◌≡◌, ◌∙◌, ℕ, Some, slice_set, refl, subst, arith}
 use Rattle.std.specs.Prelude.{MatchResult}
 use Rattle.std.specs.List.{slice_get}
 use Rattle.std.proofs.lemmas.Option.{slice_get_read}
@@ -48,7 +48,7 @@ pub loop-i-preserved : goal.loop-i-preserved
 loop-i-preserved g c = (
   sealing_next (g.D.Disk.view c.args.disk.now) (g.D.Disk.view c.loop-i.disk) (g.D.Disk.view c.seal_one.new.disk) c.args.space.now c.loop-i.space c.seal_one.new.space
       c.args.writers.now.items c.loop-i.writers.items c.loop-i.i c.index_mut.result.now c.seal_one.new.writer c.requires.found c.loop-i.invariant.0
-      (next_one g (goal.at.loop-i-preserved g c).After-seal_one) c.seal_one.ensures.room c.seal_one.ensures.same.0 c.seal_one.ensures.same.1 c.seal_one.ensures.same.2
+      (next_one g (goal.at.loop-i-preserved g c).After-seal_one) c.seal_one.ensures.room c.seal_one.ensures.same.0 c.seal_one.ensures.same.1 c.seal_one.ensures.same.2 c.seal_one.ensures.filter
       c.in_ok-seal_one.ensures.ok,
   c.in_ok-seal_one.ensures.cause ∙ c.loop-i.invariant.1,
   c.seal_one.ensures.reads ∙ c.loop-i.invariant.2,

@@ -1,4 +1,4 @@
-use Rattle.std.proofs.Common.{◌+◌, arith}
+use Rattle.std.proofs.Common.{arith}
 use Rattle.strat_promote.proofs.ObstacleLemmas.{fit_handed, gives_handed}
 use Rattle.strat_promote.proofs.SpacesLemmas.{takes_more}
 use Rattle.strat_promote.proofs.seal.seal_one.Goals as goal

@@ -1,9 +1,10 @@
-use Rattle.std.proofs.Common.{◌+◌, List, refl, subst, arith}
+use Rattle.std.proofs.Common.{List, refl, subst, arith}
 use Rattle.strat_base.proofs.ResultFacts.{err_of}
 use Rattle.strat_array.specs.Progress.{ArrayProgress}
 use Rattle.strat_promote.specs.Closing.{IsDescribed}
 use Rattle.strat_promote.specs.InputFields.{input_seen}
 use Rattle.strat_split.specs.PlanSeen.{plan_seen}
+use Rattle.strat_promote.proofs.FilterLemmas.{sealed_filters}
 use Rattle.strat_promote.proofs.MadeLemmas.{level_made}
 use Rattle.strat_promote.proofs.ObstacleLemmas.{gives_kept, short_fit}
 use Rattle.strat_promote.proofs.OwnedLemmas.{owned}
@@ -19,6 +20,12 @@ returns-clause-ok g c = λ f h inputs job told tells ready is written.
     let described = subst (λ (ws : List ArrayProgress). IsDescribed (plan_seen c.args.writing.now.filling.plan) c.args.task.now.target ws c.in_ok-made.made) c.deref.ensures.value c.in_ok-made.ensures.ok in
     level_made input_seen f h _ _ job c.args.task.now.first c.args.writing.now _ written c.in_ok-seal_all.ensures.ok told tells c.in_ok-seal_all.ensures.len c.requires.kept.writers
     c.args.task.now inputs c.in_ok-made.made ready is c.requires.kept described
+
+pub returns-clause-filters : goal.returns-clause-filters
+returns-clause-filters g c = λ f h job told tells written.
+    let described = subst (λ (ws : List ArrayProgress). IsDescribed (plan_seen c.args.writing.now.filling.plan) c.args.task.now.target ws c.in_ok-made.made) c.deref.ensures.value c.in_ok-made.ensures.ok in
+    sealed_filters input_seen f h _ _ job c.args.task.now.first c.args.writing.now _ written c.in_ok-seal_all.ensures.ok told tells c.in_ok-seal_all.ensures.len
+    (plan_seen c.args.writing.now.filling.plan) c.args.task.now.target c.in_ok-made.made described
 
 pub returns-in_err-seal_all-clause-fits : goal.returns-in_err-seal_all-clause-fits
 returns-in_err-seal_all-clause-fits g c = λ unfit.

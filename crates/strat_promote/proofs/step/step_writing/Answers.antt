@@ -1,4 +1,4 @@
-use Rattle.std.proofs.Common.{◌+◌, ℕ, sym, ap, ◌∙◌, subst, arith}
+use Rattle.std.proofs.Common.{ℕ, sym, ap, ◌∙◌, subst, arith}
 use Rattle.strat_base.proofs.ResultFacts.{err_of}
 use Rattle.def_crash.specs.Faults.{HasCause}
 use Rattle.strat_merge.specs.MergerFields.{views_of}
@@ -58,6 +58,12 @@ returns-clause-ok g c = λ f g' job told tells task used writing.
     let all = c.in_ok-more.ensures.none c.if-more.false f mid.0 job c.args.task.now.first told mid.1 writing in
     let counted = ap (λ (m : Merger Input). m.consumed) c.in_ok-made.ensures.kept.0 ∙ all.0.taken ∙ count_same f mid.0 job agree in
     (made_from f mid.0 g' job _ _ _ agree (c.in_ok-made.ensures.ok mid.0 g' _ job mid.1 tells c.requires.fits (task_stays f mid.0 _ _ job agree task) all.0), counted, ap (λ (m : Merger Input). m.consumed) c.in_ok-made.ensures.kept.0 ∙ all.1)
+
+pub returns-clause-filters : goal.returns-clause-filters
+returns-clause-filters g c = λ f g' job told tells task used writing.
+    let mid = still_told (g.D.Disk.view c.args.disk.now) (g.D.Disk.view c.write_group.new.disk) f c.in_ok-more.ensures.same.time told in
+    let all = c.in_ok-more.ensures.none c.if-more.false f mid.0 job c.args.task.now.first told mid.1 writing in
+    c.in_ok-made.ensures.filters mid.0 g' job mid.1 tells all.0
 
 pub returns-then-more-clause-damaged : goal.returns-then-more-clause-damaged
 returns-then-more-clause-damaged g c = (

@@ -18,10 +18,6 @@ use Rattle.strat_promote.proofs.step.take_step.Goals as goal
 pub step_writing-requires-clause-found : goal.step_writing-requires-clause-found
 step_writing-requires-clause-found g c = subst (λ (s : Stage). AreAllUsed c.args.space.now (stage_writers s)) c.in-Writing.is c.requires.found
 
-pub returns-in_ok-next-in-Counting-clause-found : goal.returns-in_ok-next-in-Counting-clause-found
-returns-in_ok-next-in-Counting-clause-found g c =
-    turned_used c.args.space.now c.step_counting.new.counting c.in_ok-next-in-Counting.next (stage.Counting c.step_counting.new.counting) c.enter_stage.new.stage refl c.enter_stage.ensures.ok c.in_ok-next-in-Counting.ensures.none
-
 pub returns-in_ok-next-in-Counting-clause-ok : goal.returns-in_ok-next-in-Counting-clause-ok
 returns-in_ok-next-in-Counting-clause-ok g c = λ f g' job told tells task used underway.
     turned_on f g' c.args.task.now job _ c.step_counting.new.counting c.in_ok-next-in-Counting.next c.args.stage.now c.enter_stage.new.stage
@@ -38,9 +34,11 @@ returns-in_ok-step-in-Writing-clause-reads g c =
     c.in-Writing.field-1 _ c.in-Writing.is c.step_writing.ensures.reads
 
 pub returns-in_ok-next-in-Counting-clause-room : goal.returns-in_ok-next-in-Counting-clause-room
-returns-in_ok-next-in-Counting-clause-room g c =
-    turned_takes c.args.space.now c.step_counting.new.counting c.in_ok-next-in-Counting.next c.args.stage.now (stage.Counting c.step_counting.new.counting) c.enter_stage.new.stage (ap stage_writers c.in-Counting.is)
-    (turned_is c.step_counting.new.counting c.in_ok-next-in-Counting.next (stage.Counting c.step_counting.new.counting) c.enter_stage.new.stage refl c.enter_stage.ensures.ok) c.in_ok-next-in-Counting.ensures.none
+returns-in_ok-next-in-Counting-clause-room g c = (
+  turned_used c.args.space.now c.step_counting.new.counting c.in_ok-next-in-Counting.next (stage.Counting c.step_counting.new.counting) c.enter_stage.new.stage refl c.enter_stage.ensures.ok c.in_ok-next-in-Counting.ensures.none,
+  turned_takes c.args.space.now c.step_counting.new.counting c.in_ok-next-in-Counting.next c.args.stage.now (stage.Counting c.step_counting.new.counting) c.enter_stage.new.stage (ap stage_writers c.in-Counting.is)
+      (turned_is c.step_counting.new.counting c.in_ok-next-in-Counting.next (stage.Counting c.step_counting.new.counting) c.enter_stage.new.stage refl c.enter_stage.ensures.ok) c.in_ok-next-in-Counting.ensures.none,
+)
 
 pub returns-in_ok-step-in-Writing-clause-ok : goal.returns-in_ok-step-in-Writing-clause-ok
 returns-in_ok-step-in-Writing-clause-ok g c = λ f g' job told tells task used underway.
@@ -137,3 +135,7 @@ returns-in_ok-step-in-Writing-clause-damaged g c = (
   λ b bad. absurd (cc),
   λ f g' told tells used read. (c.in_ok-step-in-Writing.ensures.damaged.1 f g' (arrays_to c.args.sources.now.levels.now c.args.task.now.target) told tells used (subst (λ (s : Stage). IsReadOf f (arrays_to c.args.sources.now.levels.now c.args.task.now.target) s) c.in-Writing.is read)),
 )
+
+pub returns-in_ok-step-in-Writing-clause-filters : goal.returns-in_ok-step-in-Writing-clause-filters
+returns-in_ok-step-in-Writing-clause-filters g c = λ f g' job told tells task used underway.
+    c.in_ok-step-in-Writing.ensures.filters f g' job told tells task used (subst (λ (s : Stage). IsUnderway f job c.args.task.now.first s) c.in-Writing.is underway).0

@@ -38,7 +38,7 @@ pub returns-clause-ok : goal.returns-clause-ok
 returns-clause-ok g c =
     ok_and c.compute_next.result _ _ _ (λ r computed found x cached stands.
     readied (g.D.Disk.view c.args.disk.now) (g.D.Disk.view c.compute_next.new.disk) (held_of c.args.held.now cached) x c.in_ok-space.space c.compute_next.new.space
-    c.args.held.now.published.chain (extents_of c.args.held.now.memory.cursors.retired) r.made.target r.made.level r.first r.length r.chain (manifest_of r.manifest) (c.requires.kept cached) stands
+    c.args.held.now.published.chain (extents_of c.args.held.now.memory.cursors.retired) r.made.target r.made.level r.first r.length r.chain (manifest_of r.manifest) r.made.filters (c.requires.kept cached) stands
     c.requires.len refl (c.in_ok-space.ensures.ok cached) computed found)
     c.compute_next.ensures.ok c.compute_next.ensures.found
 
@@ -57,7 +57,7 @@ returns-clause-err g c = λ unfit x cached stands.
 
 pub returns-clause-fits : goal.returns-clause-fits
 returns-clause-fits g c = if_ok_then c.compute_next.result c.compute_next.ensures.fits (λ r fits.
-    (let first = (c.in_ok-space.ensures.ok (empty_cache 0) []).first in omega (arith, first, fits.2), fits.3, fits.4, fits.5))
+    (let first = (c.in_ok-space.ensures.ok (empty_cache 0) []).first in omega (arith, first, fits.2), fits.3, fits.4, fits.5, fits.0, fits.1))
 
 pub returns-clause-images : goal.returns-clause-images
 returns-clause-images g c = λ cached.

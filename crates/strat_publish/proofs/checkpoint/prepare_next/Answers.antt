@@ -1,4 +1,4 @@
-use Rattle.std.proofs.Common.{ℕ, sym, ap, subst, ◌∙◌}
+use Rattle.std.proofs.Common.{ℕ, sym, ap, subst, ◌∙◌, arith}
 use Rattle.std.proofs.lemmas.Result.{err_from_is_err_and}
 use Rattle.strat_base.proofs.ResultFacts.{err_of}
 use Rattle.def_bytes.specs.Arrays.{blocks_of}
@@ -18,7 +18,8 @@ admit_next-requires-clause-kept g c = ((c.requires.kept (empty_cache 0)).lawful,
 
 pub returns-clause-ok : goal.returns-clause-ok
 returns-clause-ok g c = λ x cached stands.
-    readied_as (g.D.Disk.view c.compute_beside.new.disk) (held_of c.args.held.now cached) x _ _ _ _ c.in_ok-next.ensures.ok.0 c.in_ok-next.ensures.found (c.in_ok-computed.ensures.ok x cached stands).0
+    readied_as (g.D.Disk.view c.compute_beside.new.disk) (held_of c.args.held.now cached) x _ _ _ _ _ _ _ _ c.in_ok-next.ensures.ok.0 c.in_ok-next.ensures.found c.in_ok-next.ensures.ok.2 c.in_ok-next.ensures.filters
+    (c.in_ok-computed.ensures.ok x cached stands).0
 
 pub returns-clause-found : goal.returns-clause-found
 returns-clause-found g c = record {
@@ -47,7 +48,7 @@ pub returns-in_err-next-clause-err : goal.returns-in_err-next-clause-err
 returns-in_err-next-clause-err g c = λ unfit x cached stands.
     let ready = c.in_ok-computed.ensures.ok x cached stands in
     c.in_err-next.ensures.err (err_of c.from_residual-in_err-next.result _ _ c.from_residual-in_err-next.ensures.1 unfit)
-    (may_admit (g.D.Disk.view c.compute_beside.new.disk) (held_of c.args.held.now cached) x _ _ _ (c.requires.kept cached) ready.0 ready.1)
+    (may_admit (g.D.Disk.view c.compute_beside.new.disk) (held_of c.args.held.now cached) x _ _ _ _ (c.requires.kept cached) ready.0 ready.1)
 
 pub returns-in_err-next-clause-cause : goal.returns-in_err-next-clause-cause
 returns-in_err-next-clause-cause g c = short_cause c.from_residual-in_err-next.result _ c.from_residual-in_err-next.ensures.1 c.in_err-next.ensures.cause _ _ c.in_ok-computed.ensures.cause.ok
@@ -63,4 +64,6 @@ returns-clause-kept g c = (
       let y : Chained = record { manifest = manifest_of c.in_ok-computed.computed.manifest; blocks = blocks_of c.in_ok-computed.computed.chain } in
       subst (λ (y : Chained). StandApart c.in_ok-next.next.target (held_of c.args.held.now cached) y) (sym c.in_ok-next.ensures.found)
       (subst (λ (n : ℕ). StandApart n (held_of c.args.held.now cached) y) (sym c.in_ok-next.ensures.ok.2) apart),
+  omega (arith, c.in_ok-next.ensures.ok.2, c.in_ok-computed.ensures.fits.4),
+  omega (arith, c.in_ok-next.ensures.ok.2, c.in_ok-computed.ensures.fits.5),
 )

@@ -1,8 +1,9 @@
-use Rattle.std.proofs.Common.{arith}
+use Rattle.std.proofs.Common.{ap, arith}
+use Rattle.def_bytes.specs.Manifest.{Manifest}
 use Rattle.strat_base.proofs.ResultFacts.{err_of}
 use Rattle.strat_manifest.specs.ManifestView.{manifest_of}
 use Rattle.strat_publish.proofs.LaidLemmas.{written_at}
-use Rattle.strat_publish.proofs.ComputedLemmas.{computed_by, made_blocks, may_be_written, none_reached, torn_on, uses_both}
+use Rattle.strat_publish.proofs.ComputedLemmas.{computed_by, made_blocks, may_be_written, torn_on, uses_both}
 use Rattle.strat_publish.proofs.next_manifest.compute_next.Goals as goal
 
 pub returns-clause-ok : goal.returns-clause-ok
@@ -12,7 +13,7 @@ returns-clause-ok g c x log others may old_is mem_is =
     (g.met.D.Disk.leaves_content c.promote.new.disk) c.in_ok-made.ensures.ok
     (g.D.Disk.view c.write_next_manifest.new.disk) c.promote.new.space c.write_next_manifest.new.space c.in_ok-manifest.first c.in_ok-manifest.length c.in_ok-manifest.chain
     c.in_ok-made.ensures.room c.write_next_manifest.ensures.images c.in_ok-manifest.ensures.room (g.met.D.Disk.leaves_content c.write_next_manifest.new.disk)
-    (manifest_of c.in_ok-manifest.manifest) c.in_ok-manifest.ensures.found c.in_ok-manifest.ensures.ok
+    (manifest_of c.in_ok-manifest.manifest) c.in_ok-manifest.ensures.found c.in_ok-manifest.ensures.ok c.in_ok-made.ensures.fits.0.0 c.in_ok-made.made.filters c.in_ok-made.ensures.filters
 
 pub returns-clause-room : goal.returns-clause-room
 returns-clause-room g c = uses_both c.args.space.now c.promote.new.space c.write_next_manifest.new.space _ c.in_ok-manifest.chain c.in_ok-made.ensures.room c.in_ok-manifest.ensures.room
@@ -30,8 +31,7 @@ returns-clause-disk g c =
 
 pub returns-in_err-made-clause-err : goal.returns-in_err-made-clause-err
 returns-in_err-made-clause-err g c = λ unfit room x log others may old_is mem_is.
-    none_reached (g.D.Disk.view c.args.disk.now) c.args.space.now c.args.memory.now c.args.levels.now log x others may c.args.mem mem_is
-    (c.in_err-made.ensures.fits.1 (err_of c.from_residual.result _ _ c.from_residual.ensures.1 unfit) room)
+    c.in_err-made.ensures.fits.1 (err_of c.from_residual.result _ _ c.from_residual.ensures.1 unfit) room x log others may mem_is (ap (λ (k : Manifest). k.next_array) old_is)
 
 pub returns-in_err-manifest-clause-err : goal.returns-in_err-manifest-clause-err
 returns-in_err-manifest-clause-err g c = λ unfit room x log others may old_is mem_is.

@@ -3,5 +3,5 @@ use Rattle.strat_publish.proofs.publishing_laws.the_next_manifest_makes_the_next
 
 pub returns : goal.returns
 returns c = record {
-  ok = λ old m target made levels first size blocks of sound few lawful. after_next old m target made levels first size blocks of sound few (numbers_rise old.chained.manifest lawful);
+  ok = λ old m target made levels first size blocks of sound lawful. after_next old m target made levels first size blocks of sound (numbers_rise old.chained.manifest lawful);
 }

@@ -1,4 +1,4 @@
-use Rattle.strat_serve.proofs.BatchedLemmas.{continued_few, continued_none, either_end}
+use Rattle.strat_serve.proofs.ContinuedLemmas.{continued_few, continued_none, either_end}
 use Rattle.strat_serve.proofs.laws.a_run_may_be_continued_over_the_rest_of_a_batch.Goals as goal
 
 pub returns-clause-none : goal.returns-clause-none

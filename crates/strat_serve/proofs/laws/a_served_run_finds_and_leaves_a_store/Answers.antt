@@ -17,9 +17,10 @@ returns-clause-left g c = λ x y d e budget how f served exposed device sink.
     (found.0, found.1, found.2)
 
 pub returns-clause-journal : goal.returns-clause-journal
-returns-clause-journal g c = λ x y d e budget how f t served exposed shows device sink image left.
+returns-clause-journal g c = λ x y d e budget how f t shows served exposed device sink image left.
     let found = served.left (no_device_at_end how budget served.session y.left served.ends device sink) f exposed in
-    (head_held found.0, found.3 t shows image left, found.1.log.few)
+    let there = found.3 t shows in
+    (head_held found.0, there.0 image left, there.1)
 
 pub returns-clause-still : goal.returns-clause-still
 returns-clause-still g c = λ x y d e budget how f served calm exposed.

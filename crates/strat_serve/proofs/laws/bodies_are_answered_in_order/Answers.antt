@@ -3,7 +3,7 @@ use Rattle.std.specs.Prelude.{IfSome, IsSome}
 use Rattle.strat_model.specs.Faults.{fault_told}
 use Rattle.strat_model.specs.Run.{Response}
 use Rattle.strat_serve.proofs.TableLemmas.{calm_at, fits_at, fits_few}
-use Rattle.strat_serve.specs.Session.{all_responses}
+use Rattle.strat_serve.specs.Serving.{all_responses}
 use Rattle.strat_serve.proofs.laws.bodies_are_answered_in_order.Goals as goal
 
 pub returns-clause-each : goal.returns-clause-each

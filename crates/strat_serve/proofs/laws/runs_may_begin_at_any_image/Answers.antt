@@ -1,6 +1,6 @@
 use Rattle.strat_serve.proofs.SeveralLemmas.{gave_whole, goes_whole}
 use Rattle.strat_serve.proofs.TableLemmas.{answers_as_table}
-use Rattle.strat_serve.specs.World.{beside}
+use Rattle.strat_loop.specs.World.{beside}
 use Rattle.strat_serve.proofs.laws.runs_may_begin_at_any_image.Goals as goal
 
 pub returns-clause-gave_up : goal.returns-clause-gave_up

@@ -74,9 +74,9 @@ returns-clause-images g c =
 pub returns-in_default-clause-disk : goal.returns-in_default-clause-disk
 returns-in_default-clause-disk g c = λ cached.
     logged_leaves (g.D.Disk.view c.args.disk.now) (g.D.Disk.view c.log_change.new.disk) (held_of c.args.held.now cached) (held_of (record c.args.held.now { journal = c.log_change.new.journal }) cached)
-    (c.requires.kept cached) (record { slot = refl; sb = refl; chained = refl; levels = refl }) c.log_change.ensures.images c.log_change.ensures.time
+    (c.requires.kept cached) (record { slot = refl; sb = refl; chained = refl; levels = refl; filters = refl }) c.log_change.ensures.images c.log_change.ensures.time
 
 pub returns-clause-disk : goal.returns-clause-disk
 returns-clause-disk g c = λ cached.
     logged_leaves (g.D.Disk.view c.args.disk.now) (g.D.Disk.view c.log_change.new.disk) (held_of c.args.held.now cached) (held_of (record c.args.held.now { journal = c.log_change.new.journal; memory = c.take.new.self }) cached)
-    (c.requires.kept cached) (record { slot = refl; sb = refl; chained = refl; levels = refl }) c.log_change.ensures.images c.log_change.ensures.time
+    (c.requires.kept cached) (record { slot = refl; sb = refl; chained = refl; levels = refl; filters = refl }) c.log_change.ensures.images c.log_change.ensures.time

@@ -1,5 +1,6 @@
 use Rattle.std.proofs.Common.{◌≡◌, ◌∙◌, length, Err, ap, sym, arith}
 use Rattle.std.specs.Prelude.{Result, IsErrOf}
+use Rattle.std.proofs.lemmas.List.{length-drop}
 use Rattle.strat_model.specs.Answer.{accepts}
 use Rattle.strat_model.specs.declared.replies.Refusal.TheVariants as why
 use Rattle.strat_model.specs.declared.replies.Reply.TheVariants as reply
@@ -20,7 +21,7 @@ handed : {T : Type 0} {t u : Obstacle} → t ≡ u → IsErrOf {T = T} (Err t) u
 handed same = λ i. Err (same i)
 
 pub publish-requires : goal.publish-requires
-publish-requires g c = record { kept = (c.requires.kept, omega (arith, c.requires.room, (c.requires.kept (empty_cache 0)).lawful.mem_least)) }
+publish-requires g c = record { kept = (c.requires.kept, c.requires.room) }
 
 pub returns-in-Err-clause-ok : goal.returns-in-Err-clause-ok
 returns-in-Err-clause-ok g c x cached stands =
@@ -40,20 +41,21 @@ carry_out-requires-clause-kept g c = c.in_default.ensures.kept tt
 
 pub carry_out-requires-clause-room : goal.carry_out-requires-clause-room
 carry_out-requires-clause-room g c =
-    omega (arith, ap length c.in_default.ensures.found.2, c.publish.ensures.same.0, (c.requires.kept (empty_cache 0)).lawful.mem_least)
+    let kept = c.requires.kept (empty_cache 0) in
+    omega (arith, ap length c.in_default.ensures.found.2, length-drop c.args.held.now.sb.mem c.args.held.now.journal.list, c.publish.ensures.same.0, kept.log.few, kept.lawful.mem_least)
 
 pub returns-clause-ok : goal.returns-clause-ok
 returns-clause-ok g c x cached stands =
     let p = (c.in_default.ensures.ok x cached stands).0 in
     renewed c.args.held.now cached (c.requires.kept cached) (g.D.Disk.view c.args.disk.now) x stands _ c.requires.none c.requires.room c.publish.new.held (g.D.Disk.view c.publish.new.disk)
-    (c.in_default.ensures.kept tt cached) c.in_default.ensures.found.2 p c.carry_out.new.held (g.D.Disk.view c.carry_out.new.disk) c.carry_out.result
+    (c.in_default.ensures.kept tt cached) c.publish.ensures.same.0 c.in_default.ensures.found.2 p c.carry_out.new.held (g.D.Disk.view c.carry_out.new.disk) c.carry_out.result
     (c.carry_out.ensures.ok p.after cached p.stands)
 
 pub returns-clause-trail : goal.returns-clause-trail
 returns-clause-trail g c x cached stands =
     let p = (c.in_default.ensures.ok x cached stands).0 in
     renewed_trail c.args.held.now cached (c.requires.kept cached) (g.D.Disk.view c.args.disk.now) x stands _ c.requires.none c.requires.room c.publish.new.held (g.D.Disk.view c.publish.new.disk)
-    (c.in_default.ensures.kept tt cached) c.in_default.ensures.found.2 p (g.D.Disk.view c.carry_out.new.disk) c.carry_out.result c.carry_out.ensures.images.0 (c.publish.ensures.trail x cached stands).0
+    (c.in_default.ensures.kept tt cached) c.publish.ensures.same.0 c.in_default.ensures.found.2 p (g.D.Disk.view c.carry_out.new.disk) c.carry_out.result c.carry_out.ensures.images.0 (c.publish.ensures.trail x cached stands).0
     (c.carry_out.ensures.trail p.after cached p.stands).0
 
 pub returns-in-Err-clause-disk : goal.returns-in-Err-clause-disk
@@ -105,7 +107,7 @@ returns-clause-same g c = (
   c.carry_out.ensures.same.0 ∙ c.publish.ensures.same.0,
   c.carry_out.ensures.same.1,
   c.carry_out.ensures.same.3,
-  rows_renewed c.args.held.now.memory c.publish.new.held.memory c.carry_out.new.held.memory c.publish.ensures.same.1 (opened_after _ _ _ _ _ _ c.in_default.ensures.found.1) c.carry_out.ensures.found.1,
+  rows_renewed c.args.held.now.memory c.publish.new.held.memory c.carry_out.new.held.memory c.publish.ensures.same.1 (opened_after _ _ _ _ _ _ _ _ c.in_default.ensures.found.1) c.carry_out.ensures.found.1,
   λ short cached. absurd (let e : reply.Refused why.NoMemory ≡ reply.Refused why.DeviceFault = sym short ∙ c.carry_out.ensures.same.2 (ap accepts short) in cc),
 )
 

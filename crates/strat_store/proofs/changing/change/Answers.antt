@@ -20,12 +20,12 @@ returns-in-Some-clause-trail g c x cached stands =
 pub carry_out_anew-requires-clause-room : goal.carry_out_anew-requires-clause-room
 carry_out_anew-requires-clause-room g c =
     let kept = c.requires.kept (empty_cache 0) in
-    omega (arith, c.if-room-eq0.true, c.room.ensures, kept.log.mem, kept.log.few)
+    omega (arith, c.if-count-held.true, c.count.ensures.ok, kept.log.mem, kept.log.few)
 
 pub carry_out-requires-clause-room : goal.carry_out-requires-clause-room
 carry_out-requires-clause-room g c =
     let kept = c.requires.kept (empty_cache 0) in
-    omega (arith, c.if-room-eq0.false, c.room.ensures, kept.log.mem, kept.log.few)
+    omega (arith, c.if-count-held.false, c.count.ensures.ok, kept.log.mem, kept.log.few)
 
 pub returns-in-Some-clause-disk : goal.returns-in-Some-clause-disk
 returns-in-Some-clause-disk g c = λ cached.
@@ -41,7 +41,7 @@ returns-clause-disk g c = λ cached.
     let s = held_of c.args.held.now cached in
     let t = held_after c.carry_out.new.held cached c.carry_out.result in (
       leaves_room (g.D.Disk.view c.args.disk.now) (g.D.Disk.view c.carry_out.new.disk) s (held_of c.carry_out.new.held cached) _ c.carry_out.result _
-          (omega (arith, c.if-room-eq0.false, c.room.ensures, kept.log.mem, kept.log.few)) both.0 both.1
+          (omega (arith, c.if-count-held.false, c.count.ensures.ok, kept.log.mem, kept.log.few)) both.0 both.1
           (λ x stands. (c.carry_out.ensures.trail x cached stands).1)
           (λ other. front_keeps (g.D.Disk.view c.args.disk.now) (g.D.Disk.view c.carry_out.new.disk) s kept (c.carry_out.ensures.images.1 other)),
       cursors_left s t _ _ (cursors_same s t c.carry_out.ensures.found.0),
@@ -53,15 +53,15 @@ returns-clause-damaged g c b bad = absurd (c.carry_out.ensures.same.4 b bad)
 pub returns-clause-trail : goal.returns-clause-trail
 returns-clause-trail g c x cached stands = (c.carry_out.ensures.trail x cached stands).0
 
-pub returns-then-room-eq0-clause-damaged : goal.returns-then-room-eq0-clause-damaged
-returns-then-room-eq0-clause-damaged g c b bad =
-    (c.carry_out_anew.ensures.damaged b bad, omega (arith, c.if-room-eq0.true, c.room.ensures, (c.requires.kept (empty_cache 0)).log.mem, (c.requires.kept (empty_cache 0)).log.few))
+pub returns-then-count-held-clause-damaged : goal.returns-then-count-held-clause-damaged
+returns-then-count-held-clause-damaged g c b bad =
+    (c.carry_out_anew.ensures.damaged b bad, omega (arith, c.if-count-held.true, c.count.ensures.ok, (c.requires.kept (empty_cache 0)).log.mem, (c.requires.kept (empty_cache 0)).log.few))
 
-pub returns-then-room-eq0-clause-none : goal.returns-then-room-eq0-clause-none
-returns-then-room-eq0-clause-none g c = (
+pub returns-then-count-held-clause-none : goal.returns-then-count-held-clause-none
+returns-then-count-held-clause-none g c = (
   λ none. c.carry_out_anew.ensures.same.2,
   λ short. (
-    omega (arith, c.if-room-eq0.true, c.room.ensures, (c.requires.kept (empty_cache 0)).log.mem, (c.requires.kept (empty_cache 0)).log.few),
+    omega (arith, c.if-count-held.true, c.count.ensures.ok, (c.requires.kept (empty_cache 0)).log.mem, (c.requires.kept (empty_cache 0)).log.few),
     c.carry_out_anew.ensures.same.4 short,
   ),
 )

@@ -1,4 +1,4 @@
-use Rattle.std.proofs.Common.{Bool, true, false, ap, ◌∙◌}
+use Rattle.std.proofs.Common.{Bool, ap, ◌∙◌}
 use Rattle.std.specs.Prelude.{if◌then◌else◌}
 use Rattle.strat_model.specs.Answer.{plain, refusal}
 use Rattle.strat_model.specs.declared.replies.Refusal.TheVariants as why

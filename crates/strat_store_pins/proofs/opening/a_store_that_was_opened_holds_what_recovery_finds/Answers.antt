@@ -4,5 +4,6 @@ pub returns : goal.returns
 returns g c = record {
   found = λ d e s f opened exposed. (opened.found f exposed, (opened.gate f exposed).newest, opened.chain f exposed);
   none = λ d e s opened. (opened.going, opened.closed);
+  state = λ d e s opened. opened.unfiltered;
   images = λ d e s f image opened exposed since. (opened.gate f exposed).images image since;
 }

@@ -7,7 +7,7 @@ abbrev pub invariant-loop-v : goal.invariant-loop-v
 invariant-loop-v l = record {
   len : length l.sizes ≡ length l.fn.sizes;
   some : 0 < length l.fn.sizes → 0 < l.v;
-  sized : IsSized l.tree.parents (length l.fn.sizes) l.v (at_each l.sizes);
+  sized : IsSized l.parents (length l.fn.sizes) l.v (at_each l.sizes);
 }
 
 abbrev pub decreases-loop-v : goal.decreases-loop-v

@@ -1,30 +1,15 @@
-use Rattle.std.proofs.Common.{drop, sym, ◌∙◌}
-use Rattle.std.specs.List.{slice_get}
-use Rattle.strat_promote.specs.LeadRuns.{leads_from}
-use Rattle.strat_promote.proofs.LeadRunLemmas.{advanced, bad_before, seen_misfit, lead_run_is}
-use Rattle.strat_check.specs.Below.{versions_below}
+use Rattle.std.proofs.Common.{ℕ, sym, subst}
+use Rattle.strat_merge.specs.Runs.{Advances}
+use Rattle.strat_check.specs.MarkedRuns.{marked_view, unmarked_seen}
 use Rattle.strat_check.proofs.MarkedSteps.{marked_advances, ok_mapped, some_unmarked}
 use Rattle.strat_check.proofs.marking.MarkedRunRun.advance.Goals as goal
 
-pub invariant_of-self-clause-law : goal.invariant_of-self-clause-law
-invariant_of-self-clause-law g c = lead_run_is _ _ _ _ c.reach_below.ensures.state
+pub pass-requires : goal.pass-requires
+pass-requires g c = some_unmarked c.args.self.now.place (unmarked_seen c.args.self.now).first c.requires
 
 pub returns-clause-ok : goal.returns-clause-ok
 returns-clause-ok g c =
     let r = c.args.self.now in
-    ok_mapped c.reach_below.result c.reach_below.ensures.ok (λ passes.
-    marked_advances (g.D.Disk.view c.args.disk.now) r.place (leads_from (versions_below r.versions) r.versions (drop r.at r.blocks.entries) r.blocks.blocks)
-    (leads_from (versions_below r.versions) r.versions (drop c.reach_below.new.at c.reach_below.new.blocks.entries) c.reach_below.new.blocks.blocks)
-    (advanced (g.D.Disk.view c.args.disk.now) (versions_below r.versions) r.versions r.blocks c.reach_below.new.blocks r.at c.reach_below.new.at
-    (some_unmarked r.place (slice_get (drop r.at r.blocks.entries) 0) c.requires) r.settled c.reach_below.ensures.state passes))
-
-pub returns-clause-err : goal.returns-clause-err
-returns-clause-err g c = λ b torn f exposed.
-    let r = c.args.self.now in seen_misfit (versions_below r.versions) r.blocks r.at r.settled f ∙ (c.reach_below.ensures.damaged b torn).1 f exposed
-
-pub returns-clause-kept : goal.returns-clause-kept
-returns-clause-kept g c = λ f b exposed bad.
-    let r = c.args.self.now in
-    seen_misfit (versions_below r.versions) r.blocks r.at r.settled f
-    ∙ bad_before c.reach_below.result (g.D.Disk.view c.args.disk.now) (versions_below r.versions) r.blocks c.reach_below.new.blocks _ c.reach_below.new.at c.reach_below.ensures.ok c.reach_below.ensures.err f b exposed
-    (sym (seen_misfit (versions_below r.versions) c.reach_below.new.blocks c.reach_below.new.at c.reach_below.ensures.state f) ∙ bad)
+    ok_mapped c.pass.result c.pass.ensures.ok (λ step.
+    subst (λ (i : ℕ). Advances (g.D.Disk.view c.args.disk.now) (marked_view r.place (unmarked_seen r)) (marked_view i (unmarked_seen c.pass.new.self))) (sym c.pass.ensures.found)
+    (marked_advances (g.D.Disk.view c.args.disk.now) r.place (unmarked_seen r) (unmarked_seen c.pass.new.self) step))

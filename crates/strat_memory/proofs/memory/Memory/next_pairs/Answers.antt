@@ -4,7 +4,7 @@ use Rattle.strat_cursor.proofs.HeldLemmas.{held_of_number, held_opened}
 use Rattle.strat_cursor.specs.Cursors.{is_opened}
 use Rattle.strat_cursor.specs.Held.{opened_held}
 use Rattle.strat_cursor.specs.Looking.{ReadsArrays}
-use Rattle.strat_memory.specs.MemoryFields.{memory_held}
+use Rattle.strat_memory.specs.MemoryFields.{lists_beside, memory_held}
 use Rattle.strat_memory.proofs.PageLemmas.{damaged_held, found_held, found_ok, held_looks, held_paged, held_tells}
 use Rattle.strat_memory.proofs.PoolLemmas.{paged_stands}
 use Rattle.strat_memory.proofs.memory.Memory.next_pairs.Goals as goal
@@ -26,9 +26,11 @@ returns-in_err-more-clause-damaged g c =
 
 pub invariant_of-self-2 : goal.invariant_of-self-2
 invariant_of-self-2 g c = record {
-  stand = paged_stands c.self.inside.pool c.self.inside.tree.parents c.self.inside.zero c.self.inside.next c.self.inside.cursors c.next.new.self c.args.number c.in_ok-more.more c.next.new.out
+  stand = paged_stands c.self.inside.pool c.self.inside.tree.parents c.self.inside.zero (lists_beside c.self.inside.sealed c.self.inside.next) c.self.inside.cursors c.next.new.self c.args.number c.in_ok-more.more c.next.new.out
       c.self.invariant.stand c.in_ok-more.ensures.kept c.in_ok-more.ensures.state;
   known = c.self.invariant.known;
+  sealed = c.self.invariant.sealed;
+  fresh = c.self.invariant.fresh;
   changes = c.self.invariant.changes;
   updates = c.self.invariant.updates;
   versions = c.self.invariant.versions;

@@ -5,7 +5,7 @@ use Rattle.strat_store.specs.Cursoring.{IsAppliedAt}
 use Rattle.strat_memory.specs.RecoveredFields.{held_of}
 use Rattle.strat_store.proofs.ApplyLemmas.{old_after, spent_at, spent_consistent, spent_reads, spent_tells}
 use Rattle.strat_memory.proofs.PayingLemmas.{stored_since}
-use Rattle.strat_store.proofs.StagingLemmas.{as_ever, ever_joined, replies_none}
+use Rattle.strat_store.proofs.StagingLemmas.{as_ever, ever_joined, fits_none, replies_none}
 use Rattle.strat_store.proofs.store.Store.apply.Goals as goal
 
 pub answer-told-requires-clause-kept : goal.answer-told-requires-clause-kept
@@ -23,6 +23,7 @@ invariant_of-self g c calm =
       ever_joined c.answer-told.new.held kept,
       old_after _ _ _ _ (ever c.self.inside.cache) whole.1 c.answer-told.ensures.same.0 c.answer-told.ensures.same.1,
       whole.2 ∙ replies_none (held_of c.self.inside.held c.self.inside.cache) going.1 ∙ sym (replies_none (held_of c.answer-told.new.held c.answer-told.new.cache) none),
+      fits_none c.answer-told.new.held.journal none,
     )
 
 pub returns-clause-kept : goal.returns-clause-kept
@@ -63,10 +64,11 @@ returns-clause-found g c =
 pub returns-clause-trail : goal.returns-clause-trail
 returns-clause-trail g c =
     rw (← c.self.view_is) (λ x stands.
-    let trail = c.answer-told.ensures.trail x (record { stands = stands.stands; held = stands.held; cached = stands.cached }) in
+    let trail = c.answer-told.ensures.trail x (record { stands = stands.stands; held = stands.held; cached = stands.cached; filtered = stands.filtered }) in
     (trail, stored_since (g.D.Disk.view c.answer-told.new.disk) (g.D.Disk.view c.args.disk.now).moment _ _ trail))
 
 pub returns-clause-reads : goal.returns-clause-reads
 returns-clause-reads g c =
-    rw (← c.self.view_is)
-    (spent_reads (held_of c.self.inside.held c.self.inside.cache) c.self.inside.spent (request_of c.args.command.now) (g.D.Disk.reads c.args.disk.now) (g.D.Disk.reads c.answer-told.new.disk) c.answer-told.ensures.same.3)
+    let before = g.D.Disk.reads c.args.disk.now in
+    let now = g.D.Disk.reads c.answer-told.new.disk in
+    rw (← c.self.view_is) (spent_reads (held_of c.self.inside.held c.self.inside.cache) c.self.inside.spent (request_of c.args.command.now) before now c.answer-told.ensures.same.3)

@@ -5,7 +5,7 @@ use Rattle.strat_cursor.specs.Looking.{AreOfOldArrays}
 use Rattle.strat_memory.specs.Admitting.{chained_of}
 use Rattle.strat_memory.specs.RecoveredFields.{held_of}
 use Rattle.def_crash.proofs.MomentLemmas.{since_now}
-use Rattle.strat_store.proofs.StagingLemmas.{ever_joined, replies_none}
+use Rattle.strat_store.proofs.StagingLemmas.{ever_joined, fits_none, replies_none}
 use Rattle.strat_store.proofs.store.Store.attach.Goals as goal
 
 pub returns-in-Ok-clause-ok : goal.returns-in-Ok-clause-ok
@@ -26,4 +26,5 @@ invariant_of-result g c calm = (
   ever_joined c.in-Ok.held c.in-Ok.ensures.kept,
   subst (λ (cached : Blocks). AreOfOldArrays (chained_of c.in-Ok.held.published).manifest.next_array cached) (sym c.in_ok-cache.ensures.ok) (λ k x there. absurd (omega (arith, there.1))),
   c.new.ensures.ok ∙ sym (replies_none (held_of c.in-Ok.held c.in_ok-cache.cache) (c.in-Ok.ensures.kept c.in_ok-cache.cache).log.batch),
+  fits_none c.in-Ok.held.journal (c.in-Ok.ensures.kept c.in_ok-cache.cache).log.batch,
 )

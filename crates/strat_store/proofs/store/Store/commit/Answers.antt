@@ -8,7 +8,7 @@ use Rattle.strat_model.specs.declared.replies.Reply.TheVariants as reply
 use Rattle.strat_publish.specs.Settling.{LeavesPublished}
 use Rattle.strat_store.proofs.ApplyLemmas.{spent_at}
 use Rattle.strat_store.proofs.LoggingLemmas.{batch_stored}
-use Rattle.strat_store.proofs.StagingLemmas.{ever_joined, joins_whole, replies_none}
+use Rattle.strat_store.proofs.StagingLemmas.{ever_joined, fits_none, joins_whole, replies_none}
 use Rattle.strat_store.proofs.store.Store.commit.Goals as goal
 
 pub append_staged-requires-clause-kept : goal.append_staged-requires-clause-kept
@@ -16,10 +16,15 @@ append_staged-requires-clause-kept g c =
     let going = rw (← c.self.view_is) at c.requires.kept in
     (c.self.invariant going).0
 
+pub append_staged-requires-clause-room : goal.append_staged-requires-clause-room
+append_staged-requires-clause-room g c =
+    let going = rw (← c.self.view_is) at c.requires.kept in
+    (c.self.invariant going).3
+
 pub returns-in_default-clause-trail : goal.returns-in_default-clause-trail
 returns-in_default-clause-trail g c =
     rw (← c.self.view_is) (λ x stands.
-    let trail = c.in_default.ensures.trail x c.self.inside.cache (record { stands = stands.stands; held = stands.held; cached = stands.cached }) in
+    let trail = c.in_default.ensures.trail x c.self.inside.cache (record { stands = stands.stands; held = stands.held; cached = stands.cached; filtered = stands.filtered }) in
     (trail, batch_stored (g.D.Disk.view c.append_staged.new.disk) (g.D.Disk.view c.args.disk.now).moment _ _ trail))
 
 pub returns-in_default-clause-same : goal.returns-in_default-clause-same
@@ -39,6 +44,7 @@ invariant_of-self-2 g c calm =
       ever_joined c.append_staged.new.held kept,
       subst (λ (o : OpenStore). AreOfOldArrays (chained_of o.published).manifest.next_array c.self.inside.cache) (sym c.in-Ok.ensures.ok) whole.1,
       c.clear.ensures.ok ∙ sym (replies_none (held_of c.append_staged.new.held c.self.inside.cache) (kept c.self.inside.cache).log.batch),
+      fits_none c.append_staged.new.held.journal (kept c.self.inside.cache).log.batch,
     )
 
 pub returns-clause-kept : goal.returns-clause-kept
@@ -57,7 +63,7 @@ returns-clause-state g c =
 pub returns-clause-trail : goal.returns-clause-trail
 returns-clause-trail g c =
     rw (← c.self.view_is) (λ x stands.
-    let trail = c.in-Ok.ensures.trail x c.self.inside.cache (record { stands = stands.stands; held = stands.held; cached = stands.cached }) in
+    let trail = c.in-Ok.ensures.trail x c.self.inside.cache (record { stands = stands.stands; held = stands.held; cached = stands.cached; filtered = stands.filtered }) in
     (trail, batch_stored (g.D.Disk.view c.append_staged.new.disk) (g.D.Disk.view c.args.disk.now).moment _ _ trail))
 
 pub returns-clause-same : goal.returns-clause-same

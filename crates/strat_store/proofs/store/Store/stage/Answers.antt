@@ -4,7 +4,7 @@ use Rattle.strat_cursor.specs.Looking.{AreOfOldArrays}
 use Rattle.strat_memory.specs.Admitting.{chained_of}
 use Rattle.strat_memory.specs.RecoveredFields.{held_of}
 use Rattle.strat_memory.specs.declared.open_store.OpenStore.{OpenStore}
-use Rattle.strat_store.specs.Staging.{IsStaged, replies_staged, takes_staged}
+use Rattle.strat_store.specs.Staging.{HasRoomForStaged, IsStaged, replies_staged, takes_staged}
 use Rattle.strat_store.proofs.StagingLemmas.{place_free, place_room, replies_counted, replies_pushed, staged_of}
 use Rattle.strat_store.proofs.store.Store.stage.Goals as goal
 use Rattle.strat_store.proofs.store.Store.stage.Goals.{After-len-staged}
@@ -14,7 +14,7 @@ given : (c : After-len-staged) → IsStaged (record (held_of c.self.inside.held 
 given c =
     let going = rw (← c.self.view_is) at c.requires.kept in
     let whole = c.self.invariant going in
-    staged_of c.self.inside.held c.self.inside.cache c.self.inside.spent c.self.inside.replies whole.0 whole.1 whole.2 (omega (arith, c.len-staged.ensures.ok, c.len-staged.ensures.fits))
+    staged_of c.self.inside.held c.self.inside.cache c.self.inside.spent c.self.inside.replies whole.0 whole.1 whole.2 (omega (arith, c.len-staged.ensures.ok, c.len-staged.ensures.fits)) whole.3
 
 pub returns-in_default-clause-kept : goal.returns-in_default-clause-kept
 returns-in_default-clause-kept c =
@@ -38,6 +38,7 @@ invariant_of-self c calm =
       c.in_default-stage_change.ensures.kept,
       subst (λ (o : OpenStore). AreOfOldArrays (chained_of o.published).manifest.next_array c.self.inside.cache) same whole.1,
       subst (λ (o : OpenStore). c.self.inside.replies ≡ replies_staged (held_of o c.self.inside.cache)) same whole.2,
+      subst (λ (o : OpenStore). HasRoomForStaged o.journal) same whole.3,
     )
 
 pub returns-in_default-stage_change-clause-ok : goal.returns-in_default-stage_change-clause-ok
@@ -70,6 +71,7 @@ invariant_of-self-2 c calm =
       subst (λ (o : OpenStore). AreOfOldArrays (chained_of o.published).manifest.next_array c.self.inside.cache) (sym is) whole.1,
       replies_pushed c.self.inside.held c.stage_change.new.held c.self.inside.cache (change_of c.in-Some.asked) c.self.inside.replies c.push.new.self c.in-Some-stage_change.told (whole.0 c.self.inside.cache) whole.2 is
           c.in-Some-stage_change.ensures.found c.push.ensures.ok,
+      c.in-Some-stage_change.ensures.room refl,
     )
 
 pub returns-clause-ok : goal.returns-clause-ok
@@ -92,6 +94,6 @@ returns-clause-kept c =
     let old = subst (λ (o : OpenStore). AreOfOldArrays (chained_of o.published).manifest.next_array c.self.inside.cache) (sym is) whole.1 in
     rw (← c.self.view_is) (
       all,
-      staged_of c.stage_change.new.held c.self.inside.cache c.self.inside.spent c.push.new.self c.in-Some-stage_change.ensures.kept old replies (omega (arith, longer, counted, few)),
+      staged_of c.stage_change.new.held c.self.inside.cache c.self.inside.spent c.push.new.self c.in-Some-stage_change.ensures.kept old replies (omega (arith, longer, counted, few)) (c.in-Some-stage_change.ensures.room refl),
       c.in-Some-stage_change.ensures.same,
     )

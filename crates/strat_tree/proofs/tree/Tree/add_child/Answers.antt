@@ -6,6 +6,7 @@ use Rattle.strat_base.proofs.TreeLemmas.{tree_grown}
 use Rattle.strat_tree.specs.TreeView.{TreeView}
 use Rattle.strat_tree.specs.Jumps.{IsChildRow}
 use Rattle.strat_tree.proofs.GrownLemmas.{index_grown, depth_fits}
+use Rattle.strat_tree.proofs.OrderLemmas.{order_grown}
 use Rattle.strat_tree.proofs.PrunedLemmas.{pruned_grown}
 use Rattle.strat_tree.proofs.LivingLemmas.{living_few, counted_grown}
 use Rattle.strat_tree.proofs.tree.Tree.add_child.Goals as goal
@@ -53,6 +54,9 @@ invariant_of-self c =
       jumps_room = omega (arith, kept.jumps_room, c.push_reserved-4.ensures.capacity);
       dropped_room = omega (arith, kept.dropped_room, c.push_reserved-5.ensures.capacity);
       living_room = omega (arith, kept.living_room, c.push_reserved-6.ensures.capacity);
+      numbered_fits = rw c.push_reserved.ensures.items (omega (arith, kept.numbered_fits, length_push a.parents.items (Some c.args.p)));
+      order_room = kept.order_room;
+      ordered = rw c.push_reserved.ensures.items (order_grown a.parents.items kept.tree c.args.p known a.numbered a.order kept.numbered_fits kept.ordered);
     }
 
 pub returns-clause-kept : goal.returns-clause-kept

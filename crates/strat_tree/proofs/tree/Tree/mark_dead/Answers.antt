@@ -45,6 +45,9 @@ invariant_of-self c =
       jumps_room = kept.jumps_room;
       dropped_room = kept.dropped_room;
       living_room = kept.living_room;
+      numbered_fits = kept.numbered_fits;
+      order_room = kept.order_room;
+      ordered = kept.ordered;
     }
 
 pub returns-clause-kept : goal.returns-clause-kept

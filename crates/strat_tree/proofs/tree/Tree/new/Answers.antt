@@ -1,4 +1,4 @@
-use Rattle.std.proofs.Common.{rules}
+use Rattle.std.proofs.Common.{rules, arith}
 use Rattle.strat_tree.proofs.GrownLemmas.{tree_root, index_root}
 use Rattle.strat_tree.proofs.PrunedLemmas.{pruned_root}
 use Rattle.strat_tree.proofs.LivingLemmas.{counted_root}
@@ -35,4 +35,7 @@ invariant_of-result c =
       jumps_room = search rules;
       dropped_room = search rules;
       living_room = search rules;
+      numbered_fits = search rules;
+      order_room = search rules;
+      ordered = λ u v few within. absurd (omega arith);
     }

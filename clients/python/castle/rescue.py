@@ -1,0 +1,93 @@
+"""Backups and salvages: new stores that are made out of a store's file, under a name that they take at their end alone."""
+
+from __future__ import annotations
+
+from typing import Callable, NamedTuple, Optional
+
+from . import errors
+from .lock import unchanged
+from .process import find_program
+from .salvaging import Kit, Salvage
+from .salvaging import salvage as salvaged
+from .store import Path, Store, check_file, checked, located
+from .storecopy import Place, Progress, copy_bytes, copy_names, silent, told
+
+
+class Source(NamedTuple):
+    """A store's file that is read."""
+
+    file: str
+    """What errors call it."""
+    real: str
+    """Its path, beside which its names are."""
+    program: str
+    at_rest: Callable[[Callable[[int], None]], None]
+    """Does something with the open file while no program writes it."""
+
+
+def backup(path: Path, to: Path, program: Optional[str] = None, *, overwrite: bool = False, progress: Progress = silent) -> None:
+    """Copies a store's file, which nobody has open, with its names; see `Store.backup`."""
+    make_backup(_closed(path, program), to, overwrite, progress)
+
+
+def salvage(path: Path, to: Path, program: Optional[str] = None, *, overwrite: bool = False, doubtful: bool = False,
+            progress: Progress = silent) -> Salvage:
+    """Makes a new store of what a damaged store's file still gives, which nobody has open, and tells what is lost.
+
+    The file is never written. The new store has the same versions, by their numbers, and the same names. A child is a
+    clone of its parent, with what differs applied. A pair that the file has at a version is there, or it lies in one of the ranges
+    of `Salvage.lost`; a pair that is there was read from blocks that are not damaged.
+
+    `Unreadable` tells that nothing can be read, and `Doubtful` that the file breaks a rule of a sound store: any pair
+    may be wrong then. With `doubtful` what it shows is salvaged none the less, and `Salvage.doubt` has the rule. `overwrite` is to
+    take the place of a file at `to`, and `progress` is called as the work goes on. `StoreLocked` tells that the store is open.
+    """
+    return make_salvage(_closed(path, program), to, overwrite, doubtful, progress)
+
+
+def _closed(path: Path, program: Optional[str]) -> Source:
+    file, real = located(path)
+    check_file(real, file)
+
+    def at_rest(act: Callable[[int], None]) -> None:
+        with unchanged(real, file) as opened:
+            act(opened)
+
+    return Source(file, real, find_program(program), at_rest)
+
+
+def make_backup(source: Source, to: Path, overwrite: bool, progress: Progress) -> None:
+    """Copies a file under its lock, checks the copy, and has it take its name."""
+    target = located(to)[0]
+    with told(target, "the backup can't be made"), Place(target, source.real, overwrite) as place:
+        _copy(source, place, place.store, progress)
+        progress("checking the copy", 0, None)
+        verdict = checked(source.program, place.store, source.file)
+        if not verdict:
+            raise errors.NotSound(f"the store's file is not sound, and no backup was made: {verdict}",
+                                  "`check` says what to do; `salvage` makes a new store of what can be read.", file=source.file)
+        place.take()
+
+
+def _copy(source: Source, place: Place, path: str, progress: Progress) -> None:
+    """Copies a file under its lock to a path, and its names into the place."""
+
+    def act(opened: int) -> None:
+        copy_bytes(opened, path, progress)
+        copy_names(source.real, place)
+
+    source.at_rest(act)
+
+
+def make_salvage(source: Source, to: Path, overwrite: bool, doubtful: bool, progress: Progress) -> Salvage:
+    """Copies a file under its lock, makes a new store out of the copy, and has that take its name."""
+    program = source.program
+    kit = Kit(source.file, lambda path: checked(program, path, source.file), lambda path: Store(path, program),
+              lambda path, *limits: Store.format(path, *limits, program=program))
+    target = located(to)[0]
+    with told(target, "the new store can't be made"), Place(target, source.real, overwrite) as place:
+        copy = place.file("damaged.store")
+        _copy(source, place, copy, progress)
+        found = salvaged(copy, place, kit, doubtful, progress)
+        place.take()
+        return found

@@ -1,0 +1,4 @@
+pub mod DiskLemmas
+pub mod FollowLemmas
+pub mod LogLemmas
+pub mod ReceiptLemmas

@@ -1,0 +1,4 @@
+pub mod Framing
+pub mod Density
+pub mod Ending
+pub mod Runs

@@ -1,0 +1,57 @@
+//! Changes with their numbers, as bodies of frames.
+
+ghost use Rattle.std.specs.Prelude.{◌≡◌, ℕ, IfSome, IfNone, IsTrue, true};
+ghost use Rattle.strat_base.specs.Change.{DropVersion, is_lawful};
+ghost use Rattle.strat_base.specs.ChangeView.{change_of};
+ghost use Rattle.strat_model.specs.Command.{request_of};
+ghost use Rattle.strat_model.specs.Spelling.{has_lawful_sizes, tag_of};
+ghost use Rattle.def_meaning.specs.StateTable.{request_for};
+ghost use Rattle.def_follow.specs.Numbered.{Numbered, SpellsNumbered};
+
+use strat_base::{Change, get_change, get_u32};
+use strat_model::Command;
+
+/// The number that a body is answered under: its first four bytes, or 0 if it has fewer.
+pub(crate) fn number_of(body: &[u8]) -> u32
+    ensures { result ≡ tag_of body.now }
+{
+    get_u32(body, 0).unwrap_or(0)
+}
+
+/// The number and the change of a body, if it has just these. Copies none of it.
+pub(crate) fn read_numbered(body: &[u8]) -> Option<(u32, Change<'_>)>
+    ensures ok { IfSome result (λ r. SpellsNumbered body.now
+        (record { number = r.0; change = change_of r.1 })) }
+    ensures none { IfNone result ((n : Numbered) → SpellsNumbered body.now n → ⊥) }
+{
+    let number = get_u32(body, 0)?;
+    let (change, end) = get_change(body, 4)?;
+    if end != body.len() {
+        return None;
+    }
+    Some((number, change))
+}
+
+/// The command that asks for a change. None asks to drop a version.
+pub(crate) fn command_for<'a>(change: &Change<'a>) -> Option<Command<'a>>
+    requires fits { IsTrue (is_lawful (change_of change.now)) }
+    ensures ok { IfSome result (λ c. request_of c ≡ request_for (change_of change.now)) }
+    ensures fits { IfSome result (λ c. has_lawful_sizes (request_of c) ≡ true) }
+    ensures none { IfNone result ((version : ℕ)
+        × (change_of change.now ≡ DropVersion version)) }
+{
+    match *change {
+        Change::Put {
+            version,
+            key,
+            value,
+        } => Some(Command::Put {
+            version,
+            key,
+            value,
+        }),
+        Change::Delete { version, key } => Some(Command::Delete { version, key }),
+        Change::Clone { version } => Some(Command::Clone { version }),
+        Change::DropVersion { version: _ } => None,
+    }
+}

@@ -1,0 +1,17 @@
+pub mod AnswerLemmas
+pub mod BareLemmas
+pub mod BeginLemmas
+pub mod GiveUpLemmas
+pub mod BatchedLemmas
+pub mod ProgressLemmas
+pub mod PublishedLemmas
+pub mod PendingLemmas
+pub mod KeptLemmas
+pub mod SaidLemmas
+pub mod SendLemmas
+pub mod SessionLemmas
+pub mod StreamLemmas
+pub mod StagedLemmas
+pub mod GroupLemmas
+pub mod CommittedLemmas
+pub mod TurnLemmas
