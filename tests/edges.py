@@ -3,7 +3,7 @@
 
 An edge of code is a `use` line of src/, one of definitions a `use` line of specs/. One that follows from others is left
 out, and so are crates of tests. In the picture of code no edge to strat_base is drawn, nor one to def_crash, of which
-code uses laws alone. Prints what a picture lacks or has too much, and then both lists of edges.
+code uses laws alone. Prints what a picture lacks or has too much, and with `--all` both lists of edges.
 """
 
 import functools
@@ -59,6 +59,8 @@ def drawn(tree, title):
 
 
 def main():
+    if sys.argv[1:] not in ([], ["--all"]):
+        sys.exit("usage: tests/edges.py [--all]")
     tree, wrong = words.Tree(words.TOP), 0
     for title, (pattern, use, left_out) in PICTURES.items():
         edges, picture = edges_of(tree, pattern, use, left_out), drawn(tree, title)
@@ -67,10 +69,13 @@ def main():
                 for name in sorted(names):
                     wrong += 1
                     print(f"{DOCUMENT}: the picture of {title.lower()} {word} {crate} on {name}")
-        print(f"\n{title}:")
-        for crate, on in edges.items():
-            if on:
-                print(f"  {crate}: {', '.join(sorted(on))}")
+        if sys.argv[1:]:
+            print(f"\n{title}:")
+            for crate, on in edges.items():
+                if on:
+                    print(f"  {crate}: {', '.join(sorted(on))}")
+    if not wrong:
+        print("edges: the pictures are those of the sources")
     return 1 if wrong else 0
 
 
