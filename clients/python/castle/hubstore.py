@@ -22,6 +22,7 @@ from .names import Names
 from .process import CHUNK, LIMIT, poll_of
 from .program import Program
 from .store import Path, Store, abandon
+from .storecopy import Progress, silent
 from .verdict import Verdict
 
 if TYPE_CHECKING:
@@ -184,7 +185,7 @@ class HubStore(Store):
         """A `NotOverHub`: they are read from the store's file."""
         raise errors.NotOverHub("levels can't be had over a hub", file=self.path, command="levels")
 
-    def verdict(self) -> Verdict:
+    def verdict(self, *, progress: Progress = silent) -> Verdict:
         """A `NotOverHub`: it is the store's file that is checked."""
         raise errors.NotOverHub("a check can't be had over a hub", file=self.path, command="check")
 

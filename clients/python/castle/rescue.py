@@ -61,8 +61,7 @@ def make_backup(source: Source, to: Path, overwrite: bool, progress: Progress) -
     target = located(to)[0]
     with told(target, "the backup can't be made"), Place(target, source.real, overwrite) as place:
         _copy(source, place, place.store, progress)
-        progress("checking the copy", 0, None)
-        verdict = checked(source.program, place.store, source.file)
+        verdict = checked(source.program, place.store, source.file, progress=progress, what="checking the copy")
         if not verdict:
             raise errors.NotSound(f"the store's file is not sound, and no backup was made: {verdict}",
                                   "`check` says what to do; `salvage` makes a new store of what can be read.", file=source.file)
@@ -82,8 +81,8 @@ def _copy(source: Source, place: Place, path: str, progress: Progress) -> None:
 def make_salvage(source: Source, to: Path, overwrite: bool, doubtful: bool, progress: Progress) -> Salvage:
     """Copies a file under its lock, makes a new store out of the copy, and has that take its name."""
     program = source.program
-    kit = Kit(source.file, lambda path: checked(program, path, source.file), lambda path: Store(path, program),
-              lambda path, *limits: Store.format(path, *limits, program=program))
+    kit = Kit(source.file, lambda path, what: checked(program, path, source.file, progress=progress, what=what),
+              lambda path: Store(path, program), lambda path, *limits: Store.format(path, *limits, program=program))
     target = located(to)[0]
     with told(target, "the new store can't be made"), Place(target, source.real, overwrite) as place:
         copy = place.file("damaged.store")
