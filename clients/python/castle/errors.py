@@ -495,6 +495,13 @@ class NotSound(CastleError):
     remedy = "`castle-shell FILE check` says what fails, and what to do."
 
 
+class NotAtRest(CastleError):
+    """A store over a hub was changed each time that it was copied. Nothing was made."""
+
+    what = "the store was changed each time that it was copied"
+    remedy = "Try again when fewer clients change it, or copy the file once the hub has ended."
+
+
 class Unreadable(CastleError):
     """Nothing can be salvaged: the program opens no store that has such a superblock, journal or manifest."""
 

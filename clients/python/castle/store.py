@@ -15,13 +15,13 @@ from types import TracebackType
 from typing import TYPE_CHECKING, Callable, List, NoReturn, Optional, Tuple, Type, Union, cast
 from weakref import WeakSet
 
-from . import branches, checking, errors, files, frames, hubsocket, outfile, storetext, verdict
+from . import branches, checking, errors, fileform, files, frames, hubsocket, outfile, storetext, verdict
 from .batch import Batch
 from .branches import Snapshot
 from .commands import Commands, Data, Version, data_of
 from .copies import PrivateCopy
 from .edits import Edits
-from .frames import Info, Page, Stat
+from .frames import Info, Limits, Page, Stat
 from .levels import Levels, read
 from .lock import Lock, unchanged
 from .merge import Merge, merge
@@ -259,6 +259,15 @@ class Store:
     def stat(self) -> Stat:
         """How many versions, updates and changes the store has, and how many cursors are open."""
         return cast(Stat, self._program.call(self._commands.stat))
+
+    def limits(self) -> Limits:
+        """What the store was made for: M, C and V. They are read from its file, where they never change."""
+        self._program.check()
+        try:
+            head = fileform.read_head(self._lock.itself)
+        except ValueError as error:
+            raise errors.NotAStore(f"its limits can't be read: {error}", file=self.path, command="limits") from None
+        return Limits(head.mem, head.changes_max, head.versions_max)
 
     def scan(self, version: Version, lower: Data = b"", upper: Data = b"", *, prefix: Data = b"") -> Scan:
         """The pairs of a version as they are at this call, in the order of their keys' bytes, whatever is changed meanwhile.
