@@ -5,7 +5,7 @@ from __future__ import annotations
 import os
 from typing import Callable, NamedTuple, Optional
 
-from . import errors, hubsocket
+from . import errors, hubsocket, levels
 from .lock import unchanged
 from .process import find_program
 from .salvaging import Kit, Salvage
@@ -94,6 +94,20 @@ def make_tree_backup(store: Store, to: Path, overwrite: bool, progress: Progress
         else:
             raise errors.NotAtRest(file=store.path, command="backup")
         _check_copy(program, place, store.path, progress)
+        place.take()
+
+
+def make_log_backup(leader: Path, to: Path, given: Optional[str], overwrite: bool, fill: Callable[[str], None], progress: Progress) -> None:
+    """Makes a new store with the limits and the names of a leader's, has it filled, checks it, and has it take its name."""
+    program, (file, real) = find_program(given), located(leader)
+    check_file(real, file)
+    limits = levels.of_file(program, real, file)
+    target = located(to)[0]
+    with told(target, "the backup can't be made"), Place(target, real, overwrite) as place:
+        Store.format(place.store, limits.mem, limits.changes_max, limits.versions_max, program=program)
+        fill(place.store)
+        copy_names(real, place)
+        _check_copy(program, place, file, progress)
         place.take()
 
 

@@ -15,18 +15,18 @@ from types import TracebackType
 from typing import TYPE_CHECKING, Callable, List, NoReturn, Optional, Tuple, Type, Union, cast
 from weakref import WeakSet
 
-from . import branches, checking, errors, fileform, files, frames, hubsocket, outfile, storetext, verdict
+from . import branches, checking, errors, fileform, files, frames, hubsocket, levels, outfile, storetext, verdict
 from .batch import Batch
 from .branches import Snapshot
 from .commands import Commands, Data, Version, data_of
 from .copies import PrivateCopy
 from .edits import Edits
 from .frames import Info, Limits, Page, Stat
-from .levels import Levels, read
+from .levels import Levels
 from .lock import Lock, unchanged
 from .merge import Merge, merge
 from .names import Names, remove_names
-from .process import LIMIT, Process, find_program, printed
+from .process import LIMIT, Process, find_program
 from .program import Program
 from .scan import Difference, Differences, Scan, differences
 from .storecopy import Progress, silent
@@ -305,13 +305,7 @@ class Store:
             self._program.settle()
             if not self._lock.is_of(self._served):
                 raise errors.StoreMoved(file=self.path, command="levels")
-            text, status = printed(self._found, ["levels", self._served], self.path, self._lock)
-        if status != 0:
-            raise errors.ended(status, self.path, "levels", text)
-        try:
-            return read(text)
-        except ValueError as error:
-            raise errors.WrongProtocol(f"its levels can't be read: {error}", file=self.path, command="levels") from error
+            return levels.of_file(self._found, self._served, self.path, self._lock)
 
     def verdict(self, *, progress: Progress = silent) -> Verdict:
         """What a check says of the store's file as it is now; see `check`.
