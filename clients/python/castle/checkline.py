@@ -9,7 +9,7 @@ from typing import List, Optional
 
 from .checking import Course, blocks_read, course_of
 from .fileform import BLOCK
-from .progress import told
+from .progress import columns, told
 
 EVERY = 1.0  # seconds between two lines
 
@@ -30,7 +30,8 @@ def main(words: List[str]) -> int:
         read = blocks_read(pid)
         if read is None:
             return 0
-        sys.stdout.write(f"\n\033[Kcastle: {line_of(read, path, course)}\r\033[A")
+        line = f"castle: {line_of(read, path, course)}"[:columns(sys.stdout) - 1]
+        sys.stdout.write(f"\n\033[K{line}\r\033[A")
         sys.stdout.flush()
         time.sleep(EVERY)
 
