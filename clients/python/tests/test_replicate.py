@@ -384,6 +384,29 @@ class LogBackupTest(ReplicaCase):
         self.assertFalse(os.path.exists(self.copy + "2"))
 
 
+class LevelsTest(StoreCase):
+    """A program that only pretends, for a file that somebody changes while it is read."""
+
+    # the first runs say so: what they read was of different times
+    DAMAGED = '#!/bin/sh\necho x >>"$0.runs"\n[ $(wc -l <"$0.runs") -gt %d ] || { echo "damaged block 7"; exit %d; }\nexec "%s" "$@"\n'
+
+    def program(self, runs: int, status: int) -> str:
+        path = self.written(f"program{runs}.{status}", self.DAMAGED % (runs, status, find_program()))
+        os.chmod(path, 0o755)
+        return path
+
+    def test_levels_of_a_file_that_somebody_changes_are_read_again(self) -> None:
+        self.made().close()
+        self.assertEqual(replicate.changes_in(self.path, self.program(4, 9)), 0)
+        with self.assertRaisesRegex(errors.StoreDamaged, "levels: block 7 of the file is damaged"):
+            replicate.changes_in(self.path, self.program(5, 9))
+        with self.assertRaises(errors.DeviceFailed):
+            replicate.changes_in(self.path, self.program(1, 5))
+        with Store(self.path, self.program(0, 9)) as store:  # its own file nobody changes
+            store._found = self.program(1, 9)
+            self.assertRaises(errors.StoreDamaged, store.levels)
+
+
 class RefusalTest(StoreCase):
     """Followers that only pretend, for what the real one can't be brought to."""
 
