@@ -18,6 +18,7 @@ from support import Threads
 
 import castle
 from castle import Limits, Store, errors, frames, treecopy
+from castle.program import Program
 
 Contents = Tuple[List[Optional[int]], List[Dict[bytes, bytes]]]
 
@@ -123,6 +124,39 @@ class TreeCopyTest(CopyCase):
 
         store.backup(self.to, progress=tell)
         self.assertEqual(self.copied(), before)
+
+    def test_scans_between_which_something_changed_are_opened_again(self) -> None:
+        self.served()
+        store, other = self.client(), self.client()
+        for _ in range(3):
+            store.put(store.clone(0), "a", "1")
+        opened, calls = Program.open_all, iter(range(1000))
+
+        def changed(program: Program, *words: Any) -> Any:
+            first, cursors, last = opened(program, *words)
+            return first, cursors, last._replace(changes=last.changes + (next(calls) < 3))
+
+        with mock.patch.object(Program, "open_all", changed):
+            store.backup(self.to)
+        self.assertEqual(next(calls), 4)
+        self.assertEqual((store.stat().cursors, self.copied()), (0, self.contents(store)))
+        store.stat()
+        told, grows = store.versions, iter((True, False))
+
+        def grown() -> Any:
+            infos = told()
+            if next(grows, False):
+                other.put(other.clone(0), "b", "1")
+            return infos
+
+        with mock.patch.object(store, "versions", grown):
+            store.backup(self.to, overwrite=True)
+        self.assertEqual(len(self.copied()[0]), 5)
+        calls = iter([0] * 1000)
+        with mock.patch.object(Program, "open_all", changed), self.assertRaises(errors.NotAtRest):
+            store.backup(self.to + "2")
+        self.assertEqual(store.stat().cursors, 0)
+        self.expect_left("to.store")
 
     def test_many_tips_are_copied_while_nobody_writes(self) -> None:
         self.served(limits=(64, 10 ** 6, 200))
