@@ -12,7 +12,7 @@ import unittest
 from typing import Any, Callable, Dict, List, Optional, Tuple
 from unittest import mock
 
-from hubs import HubCase, Reply
+from hubs import PATIENCE, HubCase, Reply
 from session import carried_out
 from support import Threads
 
@@ -253,7 +253,7 @@ class TreeCopyTest(CopyCase):
 
         done: List[int] = []
         threads = Threads(write), Threads(copy)
-        deadline = time.monotonic() + chance.choice((0.02, 0.2, 3))
+        deadline = time.monotonic() + (PATIENCE if turn % 3 == 0 else chance.choice((0.02, 0.1, 0.4)))
         while time.monotonic() < deadline and not done:
             time.sleep(0.005)
         self.hub.kill()
