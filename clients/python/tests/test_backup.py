@@ -165,7 +165,7 @@ class BackupTest(BackupCase):
             store.backup(self.to)
         with self.assertRaises(errors.StoreMissing):
             castle.backup(self.path, self.to)
-        with self.assertRaises(errors.NotOverHub):
+        with self.assertRaises(errors.NoHub):
             castle.backup("unix:none", self.to)
         self.expect_left()
 
