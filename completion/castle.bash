@@ -35,11 +35,11 @@ _castle() {
     fi
     if [ "${COMP_WORDS[0]##*/}" = castle-replicate ]; then
         if [ "$at" -eq 1 ]; then
-            COMPREPLY=($(compgen -W "record feed read status commands show --help --version" -- "$word"))
+            COMPREPLY=($(compgen -W "record feed backup read status commands show --help --version" -- "$word"))
         elif [ "${COMP_WORDS[1]}" = show ]; then
             COMPREPLY=($(compgen -W "changes receipts" -- "$word"))
         elif [[ $word == -* ]]; then
-            COMPREPLY=($(compgen -W "--pass --until --stay --retries --command --help" -- "$word"))
+            COMPREPLY=($(compgen -W "--pass --until --stay --retries --command --overwrite --help" -- "$word"))
         else
             compopt -o filenames 2>/dev/null
             local IFS=$'\n'

@@ -1,8 +1,8 @@
 # What the launcher of a checkout and an installed `castle` share: words, refusals, locks, and the run itself.
 #
-# The script that reads this file sets `program`, the path of the proved program, and `documents`, the folder of the
-# documents. It has the functions show_version and make_ready; the latter ends with a status other than 0 where
-# there is no program to run. Then it calls `run` with its words.
+# The script that reads this file sets `program`, the path of the proved program, `documents`, the folder of the
+# documents, and `client`, that of the client's package. It has the functions show_version and make_ready; the latter
+# ends with a status other than 0 where there is no program to run. Then it calls `run` with its words.
 #
 # Exit status 125: the store is open already, or something would be overwritten. 1, 2 and 5 are as the program's own:
 # wrong words, no store, and a file that can't be opened.
@@ -200,12 +200,23 @@ show_growth() {
     done
 }
 
-# Shows once a second how much of a file a check has read, as the system counts it, and the most that it may read: a block
-# of an array three times. The line is below the cursor, so that what the program prints stands above it.
+# Shows once a second how many blocks a check has read, as the system counts it for its process, and how many it reads at
+# most: a block of an array three times. The line is below the cursor, so that what the program prints stands above it.
 show_reads() {
-    while sleep 1 && reads=$(sed -n 's/^rchar: //p' "/proc/$1/io" 2>/dev/null) && [ -n "$reads" ]; do
-        printf '\n\033[Kcastle: %s MB read, of %s MB at most\r\033[A' "$((reads / 1000000))" "$(($(wc -c <"$2") * 3 / 1000000))" >&2
+    while reads=$(sed -n 's/^rchar: //p' "/proc/$1/io" 2>/dev/null) && [ -n "$reads" ]; do
+        blocks=$((($(wc -c <"$2") + 4095) / 4096))
+        printf '\n\033[Kcastle: blocks read: %s of %s at most\r\033[A' "$((reads / 4096))" "$((blocks * 3))" >&2
+        sleep 1
     done
+}
+
+# Shows the same with the level that is read, where python3 is there to look for it. Who ends this shell ends that too.
+show_check() {
+    sleep 1
+    if [ -r "$client/castle/checkline.py" ] && python3 -c 'import sys; sys.exit(sys.version_info < (3, 9))' 2>/dev/null; then
+        exec env PYTHONPATH="$client" python3 -B -m castle.checkline "$1" "$2" >&2 2>/dev/null
+    fi
+    show_reads "$1" "$2"
 }
 
 # Ends what was started and waits for its end. A shell that is just forked may lose a weaker signal, and then go on for ever.
@@ -239,7 +250,7 @@ check_store() {
     give_up_by_signals
     "$program" "$@" &
     child=$!
-    (show_reads "$child" "$real") 9>&- </dev/null >/dev/null &
+    (show_check "$child" "$real") 9>&- </dev/null >/dev/null &
     shows_progress J
     wait "$child"
     exit "$?"

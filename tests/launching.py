@@ -181,7 +181,7 @@ class Checkout:
 # At a terminal
 
 # What is shown of a workload, and of a check below the cursor, and how it is taken away
-PROGRESS = rb"\r\x1b\[K(?:castle: \d+ MB\r)?|\r\n\x1b\[Kcastle: \d+ MB read, of \d+ MB at most\r\x1b\[A|\r\x1b\[J"
+PROGRESS = rb"\r\x1b\[K(?:castle: \d+ MB\r)?|\r\n\x1b\[Kcastle: [^\r\n]*blocks read: [\d,]+ of [\d,]+[^\r\n]*\r\x1b\[A|\r\x1b\[J"
 
 class Terminal:
     """A run in a shell with a terminal of its own, so that Ctrl-C there is a signal to all that it started."""

@@ -14,8 +14,8 @@ from checks.calls import each_call, faults_of, status_of
 from faulty import COMMANDS, EARLIER, Rig, made_over
 from model import bodies_of, frame, put
 from program import (
-    DEADLINE, GET_A, PIPES, PROGRAM, PUT_A, StoreFile, bytes_of, close, complaint, expect, expect_alike, expect_told, fed, hexed,
-    in_memory, run)
+    DEADLINE, GET_A, PIPES, PROGRAM, PUT_A, StoreFile, bytes_of, close, complaint, expect, expect_alike, expect_sound, expect_told, fed,
+    hexed, in_memory, run)
 from samples import BATCH_MAX, drawn_changes, drawn_frames
 from tracing import calls_of
 
@@ -192,6 +192,7 @@ class Given:
         least = max([self.least, *(model.tag_of(body[4:]) + 1 for body in known)])
         found, after = formats.opened(data)
         expect(f"{name}, the file", found, model.ENDED)
+        expect_sound(name, data)
         expect(f"{name}, changes", least <= after.counts()[2] <= self.least + self.made, True)
         expect_alike(name, after, self.stores[after.counts()[2]])
 
@@ -253,8 +254,10 @@ class Copies:
         frames = drawn_changes(self.chance, self.chance.randrange(1, 50), len(self.store.parents), 12, 0.1)
         sent, is_killed = ran("lead", self.leader.path, b"".join(frames), self.stop(15 * len(frames)) if stops else None)
         self.note(sent)
-        status, after = formats.opened(bytes_of(self.leader.path))
+        data = bytes_of(self.leader.path)
+        status, after = formats.opened(data)
         expect("the leader's file", status, model.ENDED)
+        expect_sound("the leader's file", data)
         expect("the leader has what it sent", after.counts()[2] >= len(self.log), True)
         return is_killed
 
@@ -283,8 +286,10 @@ class Copies:
 
     def expect_prefix(self, follower):
         """A follower's table is the leader's after a prefix. The number of its changes."""
-        status, got = formats.opened(bytes_of(follower.path))
+        data = bytes_of(follower.path)
+        status, got = formats.opened(data)
         expect("the follower's file", status, model.ENDED)
+        expect_sound("the follower's file", data)
         number = got.counts()[2]
         expect("no more changes than the leader sent", number <= len(self.log), True)
         expect_alike(f"a follower after {number} changes", got, self.after(number))

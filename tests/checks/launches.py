@@ -1,6 +1,7 @@
 """Launches: what the launcher passes on, what it does not overwrite, and what it shows at a terminal."""
 
 import os
+import shutil
 import signal
 import subprocess
 import sys
@@ -9,7 +10,8 @@ import formats
 import model
 from launching import MAKING, REFUSED, Checkout, Terminal, expect_files, launch, limited
 from model import BLOCK, Store, put, reply
-from program import DEADLINE, GET_A, LAUNCHER, PUT_A, StoreFile, bytes_of, complaint, expect, fed, hexed, wants_check
+from program import DEADLINE, GET_A, LAUNCHER, PUT_A, TOP, StoreFile, bytes_of, complaint, expect, fed, hexed, wants_check
+from unsound import Part, Stratum, laid_out
 
 
 def the_launcher_passes_words_input_and_status_on(folder):
@@ -212,13 +214,37 @@ for _ in range(2):
 print("sound")
 """
 
+# Another one: it reads what a recovery reads, less what Python has read for itself, and then so many blocks in each step
+READS_BLOCKS = f"""#!{sys.executable}
+import os, sys, time
+file = os.open(sys.argv[2], os.O_RDONLY)
+with open("/proc/self/io") as counts:
+    before = int(counts.readline().split()[1])
+os.pread(file, BEFORE * 4096 + 2048 - before, 0)  # amid a block, since to look costs some bytes as well
+for blocks in STEPS:
+    os.pread(file, blocks * 4096, 0)
+    time.sleep(2.5)
+print("sound")
+"""
+JOURNAL = 3000  # changes
+
+
+def two_levels():
+    """The bytes of a store with a long journal and two blocks in each of the levels 1 and 3, and how many blocks a recovery reads."""
+    entries = [[formats.Entry(key, 0, b"1")] for key in (b"a", b"b", b"c", b"d")]
+    strata = [Stratum(1, 1, [Part(1, (0,), entries[:2])]), Stratum(3, 1, [Part(2, (0,), entries[2:])])]
+    change = (model.PUT, 0, b"k", bytes(model.VALUE_MAX))
+    head = formats.new_head(4096, 10000, 1000)._replace(generation=2, region=1)
+    data = laid_out(strata, (), JOURNAL * [change], head=head)
+    return data, 1 + JOURNAL * len(formats.record_of(change)) // BLOCK + 1
+
 
 def a_check_at_a_terminal_shows_how_much_it_has_read(folder):
     made = Checkout(folder)
     made.write("program", READS_TWICE)
     made.build()
     made.write("a.store", "\xa7STRATBT1".ljust(5_000_000, "\0"))
-    shown = rb"\ncastle: \d+ MB read, of 15 MB at most\r\x1b\[A".replace(rb"\n", rb"\n\x1b\[K")
+    shown = rb"\ncastle: blocks read: \d+ of 3663 at most\r\x1b\[A".replace(rb"\n", rb"\n\x1b\[K")
     with Terminal([made.launcher, "check", made.store]) as run:
         run.read_until(shown)
         expect("its end", run.end(), (0, b"sound\n", []))
@@ -233,10 +259,32 @@ def a_check_at_a_terminal_shows_how_much_it_has_read(folder):
             expect(f"{name}, its end", run.end(), (status, b"", []))
 
 
+def a_check_at_a_terminal_shows_the_level_that_it_reads(folder):
+    made = Checkout(folder)
+    shutil.copytree(TOP / "clients" / "python" / "castle", os.path.join(made.top, "clients", "python", "castle"))
+    data, before = two_levels()
+    with open(made.store, "wb") as file:
+        file.write(data)
+    steps = {"the manifest and the journal are read": 0, "level 1 is scanned": 1, "level 1 is merged": 5, "level 3 is counted": 11}
+    blocks = [place - earlier for earlier, place in zip([0, *steps.values()], steps.values())]
+    made.write("program", READS_BLOCKS.replace("BEFORE", str(before)).replace("STEPS", str(blocks)))
+    made.build()
+    with Terminal([made.launcher, "check", made.store]) as run:
+        for what, place in steps.items():
+            run.read_until(rb"\x1b\[Kcastle: %b, blocks read: %d of 12\r\x1b\[A" % (what.encode(), place))
+        expect("its end", run.end(), (0, b"sound\n", []))
+    with Terminal([made.launcher, "check", made.store]) as run:
+        run.read_until(rb"level 1 is scanned")
+        run.type(b"\x03")
+        expect("Ctrl-C, its end", run.end(), (130, b"", []))
+    expect("no terminal", made.launch(["check", made.store]), (b"sound\n", 0, b""))
+
+
 CHECKS = [
     the_launcher_passes_words_input_and_status_on,
     a_check_is_passed_on_and_makes_nothing,
     a_check_at_a_terminal_shows_how_much_it_has_read,
+    a_check_at_a_terminal_shows_the_level_that_it_reads,
     files_may_have_any_name,
     a_file_that_is_a_standard_stream_is_refused,
     a_file_at_its_largest_size_is_told,

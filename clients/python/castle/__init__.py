@@ -15,7 +15,7 @@ from .batch import Batch
 from .branches import Snapshot
 from .errors import CastleError, Ended, Refused
 from .exporting import Imported, export
-from .frames import Info, Page, Stat
+from .frames import Info, Limits, Page, Stat
 from .levels import Array, Level, Levels
 from .merge import Merge, ThreeWay
 from .names import Name, Names
@@ -28,6 +28,6 @@ from .verdict import Damaged, Sound, Unsound, Verdict
 from .view import VersionView
 
 __all__ = ["Array", "Batch", "CastleError", "Counts", "Damaged", "Difference", "Differences", "Ended", "Imported", "Info", "Level", "Levels",
-           "Lost", "Merge", "Name", "Names", "Page", "Refused", "Salvage", "Scan", "Snapshot", "Sound", "Stat", "Store", "ThreeWay",
+           "Limits", "Lost", "Merge", "Name", "Names", "Page", "Refused", "Salvage", "Scan", "Snapshot", "Sound", "Stat", "Store", "ThreeWay",
            "Unsound", "Verdict", "VersionView", "backup", "export", "salvage"]
 __version__ = "0.1.0"

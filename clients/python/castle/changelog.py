@@ -69,6 +69,8 @@ class Run:
         size = os.path.getsize(self.path)
         if size == self._size:
             return
+        if size < self.end:  # it was put back as it was earlier
+            self.__init__(self.path)  # type: ignore[misc]
         with open(self.path, "rb") as file:
             file.seek(self.end)
             for found in frames_in(file, self.path):

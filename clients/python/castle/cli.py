@@ -89,7 +89,8 @@ def opened(path: str) -> Store:
 
 def checked(arguments: Arguments) -> int:
     """Carries out the one command `check`. It opens no store, so that a file which can't be opened is checked too."""
-    found = Store.check(arguments.file)
+    with terminal.Interrupts() as interrupts, keeping.progress(interrupts, "stopped") as tell:
+        found = Store.check(arguments.file, progress=tell)
     for line in verdict.told(found, arguments.json):
         print(line)
     return 0 if found else ABSENT
@@ -118,6 +119,9 @@ def carry_out(arguments: Arguments) -> int:
         sys.stdout.flush()
         print(f"castle-shell: {error}", file=sys.stderr)
         return arguments.failed
+    except terminal.Stopped as stopped:
+        print(f"castle-shell: {stopped}", file=sys.stderr)
+        return INTERRUPTED
 
 
 def main(given: Optional[List[str]] = None) -> int:

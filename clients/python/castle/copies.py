@@ -29,7 +29,7 @@ class PrivateCopy:
                 _lock(source.fileno(), file)
                 folder = tempfile.mkdtemp(prefix="castle-")
                 self._removal = weakref.finalize(self, _remove, folder, os.getpid())
-                self.path = os.path.join(folder, os.path.basename(path))
+                self.path = os.path.join(folder, "copy.store")  # the file's own name may be none that the program takes
                 with open(self.path, "wb") as target:
                     shutil.copyfileobj(source, target, 1 << 20)
         except OSError as error:

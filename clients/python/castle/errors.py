@@ -250,7 +250,7 @@ class OutOfMemory(Ended):
     status = 8
     text = "no memory"
     what = "there was too little memory to open the store, which is as it was"
-    remedy = "Make room and try again: it takes 1.7 MB, 3.9 KB for each of M and 75 bytes for each of V."
+    remedy = "Make room and try again: it takes 1.7 MB, 3.9 KB for each of M and 83 bytes for each of V."
 
 
 class StoreDamaged(Ended):
@@ -344,6 +344,17 @@ def ended(status: int, file: str, command: str, printed: str = "") -> Ended:
         error.block = int(found[1])
         error.what = f"block {error.block} of the file is damaged"
     return error
+
+
+def unknown_word(end: Ended, path: str) -> Ended:
+    """The same end of a run, where the program refused the word of its command, with what that means."""
+    if isinstance(end, WrongUsage):
+        if any("\udc80" <= letter <= "\udcff" for letter in path):
+            end.what = "the path of the file is no UTF-8"
+            end.remedy = "The program takes no other one: rename the file, or its folders."
+        elif end.command:
+            end.what, end.remedy = f"the program has no {end.command.split()[0]}", Malformed.remedy
+    return end
 
 
 def again(end: CastleError) -> CastleError:
@@ -482,6 +493,13 @@ class NotSound(CastleError):
 
     what = "the store's file is not sound"
     remedy = "`castle-shell FILE check` says what fails, and what to do."
+
+
+class NotAtRest(CastleError):
+    """A store over a hub was changed each time that it was copied. Nothing was made."""
+
+    what = "the store was changed each time that it was copied"
+    remedy = "Try again when fewer clients change it, or copy the file once the hub has ended."
 
 
 class Unreadable(CastleError):

@@ -78,10 +78,7 @@ def _written(process: Process, file: str, command: str, progress: Progress) -> I
 def _check_end(process: Process, file: str, command: str) -> None:
     status = process.finish(LIMIT)
     if status != 0:
-        error = errors.ended(status, file, command)
-        if isinstance(error, errors.WrongUsage):
-            error.what, error.remedy = "the program has no export", errors.Malformed.remedy
-        raise error
+        raise errors.unknown_word(errors.ended(status, file, command), file)
 
 
 def export_open(store: "Store", version: int, to: "Path", progress: Progress) -> None:

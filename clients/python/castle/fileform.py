@@ -114,7 +114,7 @@ def read_manifest(file: int, head: Head) -> Manifest:
         block = NUMBER.unpack_from(piece)[0]
     try:
         return _manifest_of(b"".join(pieces)[:head.length])
-    except struct.error:
+    except (struct.error, IndexError):
         raise ValueError("the manifest ends amid a field") from None
 
 

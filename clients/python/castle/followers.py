@@ -209,15 +209,17 @@ class Replica:
         error.refusal = refusal
         raise error
 
-    def stay(self, log: Changes, stop: Callable[[], bool], progress: Progress = silent, wait: float = 1.0) -> None:
-        """Feeds it whatever the log gets, until `stop` is true, which is asked about once in so many seconds.
+    def stay(self, log: Changes, stop: Callable[[], bool], progress: Progress = silent, wait: float = 1.0,
+             until: Optional[int] = None) -> None:
+        """Feeds it whatever the log gets, up to this number, until `stop` is true, which is asked about once in so many seconds.
 
         While somebody has the store open it waits, so the store may be read in turns. It waits for a log, too, that is not there yet.
         """
         while not stop():
             try:
-                self.catch_up(log, None, progress)
-                log.wait(self.next or 0, wait)
+                self.catch_up(log, until, progress)
+                if until is None or (self.next or 0) < until:
+                    log.wait(self.next or 0, wait)
             except (errors.StoreLocked, errors.LogMissing) as error:
                 is_open = isinstance(error, errors.StoreLocked)
                 progress("waiting, since the store is open" if is_open else "waiting for the log", 0, None)

@@ -9,6 +9,7 @@ from . import text
 
 PUT, DELETE, GET, CLONE, SCAN, INFO, OPEN_CURSOR, NEXT_PAIRS, CLOSE_CURSOR, STAT = 1, 2, 3, 4, 5, 6, 7, 8, 9, 10
 DONE, FOUND, ABSENT, PAIRS, MADE, PLACE, OPENED, COUNTS = 0, 1, 2, 3, 4, 5, 6, 7
+ASK_LIMITS, LIMITS = 64, 8  # a hub's own command, and its reply
 DAMAGED = 34
 LEAST_REFUSAL = 16
 
@@ -32,6 +33,7 @@ CURSOR = struct.Struct(">Q")
 CURSOR_HEAD = struct.Struct(">IIBQ")
 PLACE_FIELDS = struct.Struct(">IIB")
 COUNT_FIELDS = struct.Struct(">IIII")
+LIMIT_FIELDS = struct.Struct(">III")
 PAGE_FIELDS = struct.Struct(">BH")
 SIZES = [SIZE.pack(size) for size in range(BODY_MAX)]
 DONE_SIZE = 9  # bytes of a reply that has nothing but its status
@@ -59,6 +61,17 @@ class Stat(NamedTuple):
     cursors: int
 
 
+class Limits(NamedTuple):
+    """What a store was made for."""
+
+    mem: int
+    """M."""
+    changes: int
+    """C."""
+    versions: int
+    """V."""
+
+
 class Page(NamedTuple):
     """The first pairs of a range, or the next ones of a cursor, in the order of their keys."""
 
@@ -67,7 +80,7 @@ class Page(NamedTuple):
     """Whether other pairs of the range follow."""
 
 
-Answer = Union[None, bytes, int, Info, Stat, Page]
+Answer = Union[None, bytes, int, Info, Stat, Limits, Page]
 
 
 # Commands. Each is a whole frame.
@@ -132,17 +145,23 @@ def stat(tag: int) -> bytes:
     return HEAD.pack(5, tag, STAT)
 
 
+def limits(tag: int) -> bytes:
+    """Asks a hub for what the store was made for."""
+    return HEAD.pack(5, tag, ASK_LIMITS)
+
+
 NAMES = {PUT: "put", DELETE: "delete", GET: "get", CLONE: "clone version", SCAN: "page of version", INFO: "info version",
-         OPEN_CURSOR: "scan of version", NEXT_PAIRS: "next pairs of cursor", CLOSE_CURSOR: "close cursor", STAT: "stat"}
+         OPEN_CURSOR: "scan of version", NEXT_PAIRS: "next pairs of cursor", CLOSE_CURSOR: "close cursor", STAT: "stat",
+         ASK_LIMITS: "limits"}
 
 
 def describe(frame: bytes) -> str:
     """A command in words, as `put user/1 at version 0`. A long key is cut short."""
     opcode = frame[8] if len(frame) > 8 else 0
     name, number = NAMES.get(opcode), CURSOR if opcode in (NEXT_PAIRS, CLOSE_CURSOR) else NUMBER
-    if name is None or (opcode != STAT and len(frame) < HEAD.size + number.size):
+    if name is None or (opcode not in (STAT, ASK_LIMITS) and len(frame) < HEAD.size + number.size):
         return "a frame that is no command"
-    if opcode == STAT:
+    if opcode in (STAT, ASK_LIMITS):
         return name
     version = number.unpack_from(frame, HEAD.size)[0]  # or the number of a cursor
     if opcode not in (PUT, DELETE, GET):
@@ -169,6 +188,8 @@ def answer(status: int, fields: bytes) -> Answer:
         return Info(None if parent == NO_PARENT else parent, depth, bool(frozen))
     if status == COUNTS:
         return Stat(*COUNT_FIELDS.unpack(fields))
+    if status == LIMITS:
+        return Limits(*LIMIT_FIELDS.unpack(fields))
     if status == PAIRS:
         return page(fields)
     raise ValueError(f"a reply of status {status}")

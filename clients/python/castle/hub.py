@@ -19,6 +19,7 @@ from typing import Dict, List, Optional
 
 from . import __version__, errors, hubsocket, terminal
 from .errors import CastleError, Ended
+from .frames import Limits
 from .hubclient import Client
 from .hubexchange import NO_TAG, SIZE, Exchange
 from .process import LIMIT, Process
@@ -37,6 +38,9 @@ class Hub:
 
     def __init__(self, store: Store, listening: hubsocket.Listening, clients_max: int) -> None:
         self._path = store.path
+        self._limits: Optional[Limits] = None
+        with contextlib.suppress(errors.NotAStore):  # of a program that only pretends
+            self._limits = store.limits()
         process = store._program.process  # with which the store itself speaks no more before its end
         assert isinstance(process, Process)
         self._process = process
@@ -49,7 +53,7 @@ class Hub:
 
         What was passed on to the program before a signal is answered. A second signal kills the program.
         """
-        self._exchange = Exchange(self._process)
+        self._exchange = Exchange(self._process, self._limits)
         self._stopping = asyncio.Event()
         for number in SIGNALS:
             if signal.getsignal(number) is not signal.SIG_IGN:

@@ -17,6 +17,7 @@ TAG = struct.Struct(">I")
 CAUSE = struct.Struct(">H")
 NO_TAG = TAG.pack(0)
 NO_CURSOR = frames.CURSOR.pack(0)  # the program counts them from 1
+ASK_LIMITS, STAT = bytes([frames.ASK_LIMITS]), bytes([frames.STAT])
 
 
 class Sender(Protocol):
@@ -60,9 +61,10 @@ class Exchange:
     the program gets 0, which is none's.
     """
 
-    def __init__(self, process: Process) -> None:
-        """Begins within a running loop. Nothing may be under way."""
+    def __init__(self, process: Process, limits: Optional[frames.Limits] = None) -> None:
+        """Begins within a running loop. Nothing may be under way. The limits are those of the store, for clients that ask for them."""
         self._process = process
+        self._limits = bytes([frames.LIMITS]) + frames.LIMIT_FIELDS.pack(*limits) if limits else b""
         self._loop = asyncio.get_running_loop()
         self._waiting: Deque[Waiting] = deque()
         self._tag = 0
@@ -100,10 +102,15 @@ class Exchange:
     # To the program
 
     def post(self, sender: Optional[Sender], body: bytes, share: int) -> None:
-        """Passes a command on, for which the client is given this share until the reply comes."""
+        """Passes a command on, for which the client is given this share until the reply comes.
+
+        The program is asked for its counts where a client asks the hub itself, so that its reply comes in its turn.
+        """
         if self.ended.done():
             return
         opcode, cursor = body[4] if len(body) > 4 else 0, b""
+        if body[4:] == ASK_LIMITS and self._limits:
+            body = body[:4] + STAT
         if opcode in (frames.NEXT_PAIRS, frames.CLOSE_CURSOR) and len(body) >= 5 + frames.CURSOR.size:
             cursor = body[5:5 + frames.CURSOR.size]
             if sender is not None and cursor not in sender.cursors:
@@ -166,7 +173,8 @@ class Exchange:
             it.sender.cursors.add(body[5:])
         elif it.sender is not None and body[4] == frames.DONE and it.opcode == frames.CLOSE_CURSOR:
             it.sender.cursors.discard(it.cursor)
-        it.give(body[4:])
+        asked_limits = it.opcode == frames.ASK_LIMITS and body[4] == frames.COUNTS
+        it.give(self._limits if asked_limits else body[4:])
         return True
 
     def _read_errors(self) -> None:

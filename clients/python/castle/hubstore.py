@@ -16,12 +16,13 @@ from typing import TYPE_CHECKING, Callable, List, NoReturn, Optional, cast
 from . import errors, forks, frames, hubsocket
 from .commands import Commands
 from .edits import Edits
-from .frames import Stat
+from .frames import Limits, Stat
 from .levels import Levels
 from .names import Names
 from .process import CHUNK, LIMIT, poll_of
 from .program import Program
 from .store import Path, Store, abandon
+from .storecopy import Progress, silent
 from .verdict import Verdict
 
 if TYPE_CHECKING:
@@ -138,7 +139,7 @@ class HubStore(Store):
     """A store over a hub, as `Store("unix:SOCKET")` gives it.
 
     What is said of a `Store` holds of it, but that others change the store meanwhile: what two commands give may be of
-    different times. Names, levels, copies, `format`, `read_only` and the choice of a program raise `NotOverHub`. An address in place of
+    different times. Names, levels, checks, salvage, `format`, `read_only` and the choice of a program raise `NotOverHub`. An address in place of
     a path, as text or bytes, means a hub; a file whose name begins so is `./unix:..`.
     """
 
@@ -180,14 +181,28 @@ class HubStore(Store):
         self._closing.detach()
         return status
 
+    def limits(self) -> Limits:
+        """What the store was made for: M, C and V. The hub tells them."""
+        return cast(Limits, self._program.call(lambda: frames.limits(self._program.tag)))
+
     def levels(self) -> Levels:
         """A `NotOverHub`: they are read from the store's file."""
         raise errors.NotOverHub("levels can't be had over a hub", file=self.path, command="levels")
 
-    def verdict(self) -> Verdict:
+    def verdict(self, *, progress: Progress = silent) -> Verdict:
         """A `NotOverHub`: it is the store's file that is checked."""
         raise errors.NotOverHub("a check can't be had over a hub", file=self.path, command="check")
 
+    def backup(self, to: Path, *, overwrite: bool = False, progress: Progress = silent) -> None:
+        """Makes a new store with the same versions, as they are at one time, while others go on to change this one.
+
+        It is copied version by version, in the order of the tree: what differs from the parent. The new store has the same M, C and
+        V, and no names. It is checked before it takes its name. `NotAtRest` tells that the store was changed each time it was copied. That
+        comes only if it has more than 48 versions without a child, or if other clients have most of its 64 cursors open.
+        """
+        from .rescue import make_tree_backup  # which is made of this class
+        make_tree_backup(self, to, overwrite, progress)
+
     def _source(self) -> "Source":
-        """A `NotOverHub`: it is the store's file that is copied."""
-        raise errors.NotOverHub("a copy can't be had over a hub", file=self.path, command="copy")
+        """A `NotOverHub`: it is the store's file that is salvaged."""
+        raise errors.NotOverHub("a salvage can't be had over a hub", file=self.path, command="salvage")

@@ -14,7 +14,7 @@ from . import changes, errors, frames, levels
 from .changelog import Frames, Log
 from .commands import Data, data_of
 from .lock import Lock
-from .process import CHUNK, LIMIT, Process, find_program, printed
+from .process import CHUNK, LIMIT, Process, find_program
 from .redislog import RedisLog
 from .store import Path, check_file, located
 from .storecopy import Progress, silent
@@ -119,10 +119,7 @@ class Leader:
 
     def _counted(self, program: str, real: str) -> Tuple[int, int]:
         """How many changes and versions the store has."""
-        text, status = printed(program, ["levels", real], self.name, self._lock)
-        if status != 0:
-            raise errors.ended(status, self.name, "lead", text)
-        told = levels.read(text)
+        told = levels.of_file(program, real, self.name, self._lock, "lead")
         return told.changes, told.versions
 
     # Commands

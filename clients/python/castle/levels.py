@@ -3,9 +3,14 @@
 from __future__ import annotations
 
 import re
-from typing import Iterator, List, NamedTuple, Sequence, Tuple
+from typing import Iterator, List, NamedTuple, Optional, Sequence, Tuple
 
+from . import errors
+from .lock import Lock
+from .process import printed
 from .text import counted
+
+TRIES = 5  # times that a file is read which somebody else may have open
 
 
 class Array(NamedTuple):
@@ -93,6 +98,24 @@ class Levels(NamedTuple):
 
 
 # Reading
+
+def of_file(program: str, real: str, file: str, lock: Optional[Lock] = None, command: str = "levels") -> Levels:
+    """What the program says of a file, which errors call `file`. Without its locks somebody else may have it open.
+
+    Then what is read may be of different times, where a journal was emptied in between, and look damaged. So it is read again.
+    """
+    for left in range(TRIES if lock is None else 1, 0, -1):
+        text, status = printed(program, ["levels", real], file, lock)
+        if status == 0:
+            break
+        end = errors.ended(status, file, command, text)
+        if left == 1 or not isinstance(end, errors.StoreDamaged):
+            raise errors.unknown_word(end, real)
+    try:
+        return read(text)
+    except ValueError as error:
+        raise errors.WrongProtocol(f"its levels can't be read: {error}", file=file, command=command) from error
+
 
 STORE = re.compile(r"store generation (\d+) mem (\d+) changes (\d+) of (\d+) versions (\d+) of (\d+)")
 JOURNAL = re.compile(r"journal changes (\d+) updates (\d+)")

@@ -9,13 +9,14 @@ import signal
 import subprocess
 import sys
 import time
-from typing import Any, Dict, Iterable, List, Optional, Sequence, Tuple
+from typing import Any, Callable, Dict, Iterable, List, Optional, Sequence, Tuple
 
 from . import errors, forks
 from .lock import Lock
 
 CHUNK = 1 << 16  # bytes: as many as a pipe takes on Linux
 LIMIT = 5.0  # seconds that the program may take to end, once it has nothing to answer
+LOOK = 0.5  # seconds between two looks at how far it is
 
 
 def find_program(given: Optional[str] = None) -> str:
@@ -156,16 +157,22 @@ class Process:
                     left.discard(pipe)
         return True
 
-    def output(self) -> Tuple[str, int]:
-        """What it prints up to its end, and its status, where it reads no input. Where an exception comes it is ended."""
+    def output(self, look: Optional[Callable[[], None]] = None) -> Tuple[str, int]:
+        """What it prints up to its end, and its status, where it reads no input. Where an exception comes it is ended.
+
+        `look` is called twice a second meanwhile, and may raise one.
+        """
         try:
             pieces: List[bytes] = []
             while not pieces or pieces[-1]:
-                for pipe in self.ready(False):
+                found = self._reads.poll(None if look is None else LOOK * 1000)
+                for pipe, _ in found:
                     if pipe == self.out:
                         pieces.append(os.read(pipe, CHUNK))
                     else:
                         self.read_errors()
+                if look is not None and not found:
+                    look()
             return b"".join(pieces).decode("utf-8", "replace"), self.finish()
         except BaseException:
             self.kill(signal.SIGTERM)

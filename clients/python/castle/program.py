@@ -156,6 +156,27 @@ class Program:
             raise cursor[0]
         return cursor
 
+    def open_all(self, before: Callable[[], bytes], openings: Sequence[Callable[[], bytes]]) -> Tuple[Result, List[Cursor], Result]:
+        """The cursors of these commands, asked for at once, and the answers to another one in front of them and behind them.
+
+        A refusal is raised, and then none is open.
+        """
+        sink = Cursor(self._dropped)  # so that none is left open where an exception comes
+        with self.lock:
+            for make in (before, *openings, before):
+                self.send(sink, make)
+            self.settle(sink)
+            refused = next((answer for answer in sink if isinstance(answer, errors.CastleError)), None)
+            if refused is not None:
+                sink.close()
+                raise refused
+            first, *numbers, last = sink
+            sink.clear()
+            found = [Cursor(self._dropped) for _ in numbers]
+            for cursor, number in zip(found, numbers):
+                cursor.append(number)
+            return first, found, last
+
     def _ask(self, sink: List[Result], make: Callable[..., bytes], words: Sequence[object]) -> None:
         """Has the answer to one command in a list of its own."""
         with self.lock:

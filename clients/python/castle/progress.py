@@ -2,6 +2,8 @@
 
 from __future__ import annotations
 
+import contextlib
+import os
 import sys
 import time
 from typing import Callable, Optional, TextIO
@@ -31,7 +33,7 @@ class Line:
         now = self._clock()
         if now - self._last < self.EVERY or not self._out.isatty():
             return
-        line = text()
+        line = text()[:columns(self._out) - 1]  # one that goes on in the next row could not be taken away
         self._out.write(f"\r{line:{self._width}}")
         self._out.flush()
         self._last, self._width = now, max(self._width, len(line))
@@ -41,6 +43,13 @@ class Line:
         if self.is_shown:
             self._out.write("\r" + " " * self._width + "\r")
             self._out.flush()
+
+
+def columns(out: TextIO) -> int:
+    """How many columns a terminal has; 80 where it does not tell."""
+    with contextlib.suppress(OSError, ValueError):
+        return os.get_terminal_size(out.fileno()).columns or 80
+    return 80
 
 
 def teller(interrupts: Interrupts, line: Line) -> Progress:

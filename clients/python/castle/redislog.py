@@ -9,7 +9,7 @@ import contextlib
 import os
 import socket
 import time
-from typing import Any, BinaryIO, Iterator, List, Optional, Tuple, Union
+from typing import Any, BinaryIO, Iterator, List, Optional, Sequence, Tuple, Union
 from urllib.parse import parse_qs, unquote, urlsplit
 
 from . import changes, forks
@@ -27,35 +27,47 @@ Word = Union[str, bytes, int]
 
 
 class Connection:
-    """A connection to a server of Redis, which speaks its protocol. It belongs to the process that made it."""
+    """A connection to a server of Redis, which speaks its protocol. It belongs to the process that made it.
+
+    Behind a fault, or an exception amid an answer, the next command makes the connection anew: no answer is taken for another one's.
+    """
 
     def __init__(self, url: str) -> None:
         """Connects to a server: `redis://:PASSWORD@HOST:PORT/DATABASE`, or `redis+unix:SOCKET?db=DATABASE` with the path of a socket."""
         self._url = url
         self._owner = os.getpid()
-        parts = urlsplit(url)
-        with self._told(), forks.starting:
-            if parts.scheme == "redis+unix":
-                self._socket = socket.socket(socket.AF_UNIX)
-                self._socket.settimeout(LIMIT)
-                self._socket.connect(unquote(parts.path))
-                database = parse_qs(parts.query).get("db", ["0"])[0]
-            else:
-                self._socket = socket.create_connection((parts.hostname or "localhost", parts.port or PORT), LIMIT)
-                database = parts.path.strip("/") or "0"
-            self._input: BinaryIO = self._socket.makefile("rb")
-            forks.own(self)
-        if parts.password is not None:
-            self.execute_command("AUTH", *filter(None, [unquote(parts.username or "")]), unquote(parts.password))
-        if database != "0":
-            self.execute_command("SELECT", database)
+        self._socket: Optional[socket.socket] = None
+        self._connect()
+
+    def _connect(self) -> None:
+        try:
+            with self._told(), forks.starting:
+                parts = urlsplit(self._url)
+                if parts.scheme == "redis+unix":
+                    self._socket = socket.socket(socket.AF_UNIX)
+                    self._socket.settimeout(LIMIT)
+                    self._socket.connect(unquote(parts.path))
+                    database = parse_qs(parts.query).get("db", ["0"])[0]
+                else:
+                    self._socket = socket.create_connection((parts.hostname or "localhost", parts.port or PORT), LIMIT)
+                    database = parts.path.strip("/") or "0"
+                self._input: BinaryIO = self._socket.makefile("rb")
+                forks.own(self)
+            if parts.password is not None:
+                self._exchange(["AUTH", *filter(None, [unquote(parts.username or "")]), unquote(parts.password)])
+            if database != "0":
+                self._exchange(["SELECT", database])
+        except BaseException:
+            self.forget()
+            raise
 
     def forget(self) -> None:
         """Closes it; in a child of the process that made it, its copy."""
-        with contextlib.suppress(OSError, AttributeError):
-            self._socket.close()
-        with contextlib.suppress(OSError, AttributeError):
-            self._input.close()
+        for made in (self._socket, getattr(self, "_input", None)):
+            if made is not None:
+                with contextlib.suppress(OSError):
+                    made.close()
+        self._socket = None
 
     def __del__(self) -> None:
         self.forget()
@@ -64,10 +76,20 @@ class Connection:
         """What the server answers to a command: bytes, a number, a list or None. A `NoRedis` tells of an error."""
         if self._owner != os.getpid():
             raise Forked(file=self._url)
+        if self._socket is None:
+            self._connect()
+        return self._exchange(words)
+
+    def _exchange(self, words: Sequence[Word]) -> Any:
+        assert self._socket is not None
         data = [word if isinstance(word, bytes) else str(word).encode() for word in words]
-        with self._told():
-            self._socket.sendall(b"*%d\r\n" % len(data) + b"".join(b"$%d\r\n%b\r\n" % (len(word), word) for word in data))
-            answer = self._answer()
+        try:
+            with self._told():
+                self._socket.sendall(b"*%d\r\n" % len(data) + b"".join(b"$%d\r\n%b\r\n" % (len(word), word) for word in data))
+                answer = self._answer()
+        except BaseException:
+            self.forget()  # what comes later would be the answer to this one
+            raise
         if isinstance(answer, NoRedis):
             raise answer
         return answer
@@ -98,8 +120,8 @@ class Connection:
         """Has a fault of the connection say which server it is."""
         try:
             yield
-        except OSError as error:
-            raise NoRedis(f"the server can't be reached: {error.strerror or error}", file=self._url) from error
+        except (OSError, ValueError) as error:  # or the address has no such port
+            raise NoRedis(f"the server can't be reached: {getattr(error, 'strerror', None) or error}", file=self._url) from error
 
 
 class RedisLog:

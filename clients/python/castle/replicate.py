@@ -25,12 +25,15 @@ from .changes import Change, Receipt
 from .errors import CastleError
 from .followers import RETRIES, Follower, Replica
 from .leaders import Leader, Led, record
-from .process import find_program, printed
+from .process import find_program
 from .progress import Line, told
 from .redislog import SCHEMES, Connection, RedisLog
-from .store import check_file, located
+from .rescue import make_log_backup
+from .store import Path, check_file, located
+from .storecopy import Progress, silent
 
-__all__ = ["Change", "Connection", "Follower", "Leader", "Led", "Log", "Receipt", "RedisLog", "Replica", "Writer", "log_at", "main", "record"]
+__all__ = ["Change", "Connection", "Follower", "Leader", "Led", "Log", "Receipt", "RedisLog", "Replica", "Writer", "backup", "changes_in", "log_at",
+           "main", "record"]
 
 FAILED, WRONG_USAGE = 1, 2
 WAIT = 1.0  # seconds between two looks for a signal
@@ -39,6 +42,23 @@ WAIT = 1.0  # seconds between two looks for a signal
 def log_at(place: str) -> Union[Log, RedisLog]:
     """The log at a place: a folder, or an address such as `redis://localhost?stream=NAME`."""
     return RedisLog(place) if place.partition(":")[0] in SCHEMES else Log(place)
+
+
+def backup(log: Union[Log, RedisLog], leader: Path, to: Path, program: Optional[str] = None, *, overwrite: bool = False,
+           progress: Progress = silent) -> int:
+    """Makes a copy of a leader's store by the changes in its log, and tells how many these are. The leader may run meanwhile.
+
+    The copy is the leader after that many changes: those that the log has at this call. It has the leader's M, C and V, and its
+    names. It is checked and synced before it takes its name, so at `to` is a whole store or what was there. `LogGap` tells of a log that
+    does not begin with the first change. The rest is as of `castle.backup`.
+    """
+    made: List[int] = []
+
+    def fill(path: str) -> None:
+        made.append(Replica(path, program).catch_up(log, log.next, progress))
+
+    make_log_backup(leader, to, program, overwrite, fill, progress)
+    return made[0]
 
 
 # Commands and what they give, as lines
@@ -75,10 +95,7 @@ def changes_in(path: str, program: Optional[str] = None) -> int:
     """How many changes the store of a file has, whether somebody has it open or not: the number that it waits for as a follower."""
     name, real = located(path)
     check_file(real, name)
-    told_of, status = printed(find_program(program), ["levels", real], name)
-    if status != 0:
-        raise errors.ended(status, name, "levels", told_of)
-    return levels.read(told_of).changes
+    return levels.of_file(find_program(program), real, name).changes
 
 
 # The subcommands
@@ -108,9 +125,14 @@ def _feed(options: argparse.Namespace) -> None:
     log = log_at(options.log)
     replica = Replica(options.copy, command=options.command, retries=options.retries)
     if options.stay:
-        replica.stay(log, lambda: False, options.tell, WAIT)
+        replica.stay(log, lambda: options.until is not None and (replica.next or 0) >= options.until, options.tell, WAIT, options.until)
     number = replica.catch_up(log, options.until, options.tell)
     print(f"{options.copy or ' '.join(options.command)}: next {number}, lag {log.next - number}")
+
+
+def _backup(options: argparse.Namespace) -> None:
+    number = backup(log_at(options.log), options.leader, options.copy, overwrite=options.overwrite, progress=options.tell)
+    print(f"{options.copy}: next {number}")
 
 
 def _status(options: argparse.Namespace) -> None:
@@ -169,6 +191,10 @@ def parser() -> argparse.ArgumentParser:
     with_end(feed)
     feed.add_argument("--retries", type=number_of, default=RETRIES, metavar="N", help="how often a copy is tried that takes nothing")
     feed.add_argument("--command", nargs=argparse.REMAINDER, default=[], metavar="WORD", help="what runs the follower, as ssh does")
+    copy = with_log(job("backup", _backup, "make a checked copy of a leader's store by its changes, also while it runs"))
+    copy.add_argument("leader", metavar="LEADER", help="the leader's file, of which the copy has the limits and the names")
+    copy.add_argument("copy", metavar="COPY", help="the file that is made")
+    copy.add_argument("--overwrite", action="store_true", help="take the place of a file that is there")
     read = with_log(job("read", _read, "write the changes from a number on to standard output"))
     read.add_argument("number", nargs="?", type=number_of, default=0, metavar="NUMBER")
     with_end(read)

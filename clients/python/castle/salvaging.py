@@ -40,7 +40,8 @@ class Kit(NamedTuple):
     """The program, for private copies. Errors are about `file`."""
 
     file: str
-    check: Callable[[str], Verdict]
+    check: Callable[[str, str], Verdict]
+    """Checks the store at a path, and tells how far it is by these words."""
     open: Callable[[str], "Store"]
     format: Callable[[str, int, int, int], None]
     """Makes a store at a path, with its M, C and V."""
@@ -167,7 +168,6 @@ def look(path: str, folder: str, kit: Kit, progress: Progress) -> Damage:
 
     It raises `Unreadable` where the program can't open the file.
     """
-    progress("checking the store", 0, None)
     seen = _first_verdict(path, kit)
     try:
         damage = Damage(path, progress)
@@ -184,10 +184,10 @@ def look(path: str, folder: str, kit: Kit, progress: Progress) -> Damage:
         told.add(seen.block)
         damage.search(told)
         damage.around = damage.reduced(os.path.join(folder, f"around{len(told)}.store"), lambda _: True)
-        progress("checking what is left", 0, None)
-        seen = kit.check(damage.around)
+        seen = kit.check(damage.around, "checking what is left")
     if damage.doubt is None:
-        others = kit.check(damage.reduced(os.path.join(folder, "others.store"), lambda number: number not in damage.levels))
+        left = damage.reduced(os.path.join(folder, "others.store"), lambda number: number not in damage.levels)
+        others = kit.check(left, "checking the other levels")
         damage.doubt = others if isinstance(others, Unsound) else None
     return damage
 
@@ -195,7 +195,7 @@ def look(path: str, folder: str, kit: Kit, progress: Progress) -> Damage:
 def _first_verdict(path: str, kit: Kit) -> Verdict:
     """What a check says of the copy, which the program opens."""
     try:
-        verdict = kit.check(path)
+        verdict = kit.check(path, "checking the store")
         if isinstance(verdict, Damaged):
             kit.open(path).close()
         return verdict
@@ -328,8 +328,7 @@ def salvage(path: str, place: Place, kit: Kit, doubtful: bool, progress: Progres
                 raise
             os.remove(place.store)
             made = _filled(views, place, kit, CHANGES_MOST, progress)
-    progress("checking the new store", 0, None)
-    verdict = kit.check(place.store)
+    verdict = kit.check(place.store, "checking the new store")
     if not verdict:
         raise errors.NotSound(f"the new store is not sound: {verdict}", "This is a mistake of the program; nothing was made.",
                               file=kit.file)

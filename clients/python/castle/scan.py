@@ -11,7 +11,7 @@ from typing import Any, Deque, Generic, Iterator, List, NamedTuple, Optional, Se
 from . import errors, frames
 from .commands import Commands, Data, Version
 from .frames import Pair
-from .program import Program, Result
+from .program import Cursor, Program, Result
 
 Item = TypeVar("Item", covariant=True)
 Self = TypeVar("Self", bound="Reading[Any]")
@@ -56,7 +56,8 @@ class Scan(Reading[Pair]):
     """The pairs of a range as they were when the scan began, read piece by piece as they are asked for. See `Store.scan`."""
 
     def __init__(self, program: Program, commands: Commands, version: Version, lower: Data = b"", upper: Data = b"",
-                 prefix: Data = b"") -> None:
+                 prefix: Data = b"", cursor: Optional[Cursor] = None) -> None:
+        """Opens a cursor, unless one is given that was opened so."""
         self._program = program
         self._commands = commands
         self._piece: Iterator[Pair] = iter(())
@@ -64,7 +65,7 @@ class Scan(Reading[Pair]):
         self._reading = threading.RLock()  # around the reading of a piece
         self._asked: List[Result] = []  # has the next piece, once it was asked for and answered
         self.began = Moment(program, commands)
-        self._cursor = program.open(commands.open_cursor, version, lower, upper, prefix)
+        self._cursor = program.open(commands.open_cursor, version, lower, upper, prefix) if cursor is None else cursor
 
     def __next__(self) -> Pair:
         while True:

@@ -489,9 +489,13 @@ class Shell:
         self._save(rest[1], picture_levels.svg(found, self.name))
 
     def check(self, rest: List[Word]) -> None:
-        found = self.store.verdict()
-        for line in verdict.told(found, self.json):
-            self.out.write(f"{line}\n")
+        line = Line()
+        try:
+            found = self.store.verdict(progress=teller(self.interrupts, line))
+        finally:
+            line.clear()
+        for told in verdict.told(found, self.json):
+            self.out.write(f"{told}\n")
         self._is_absent = not found
         if not (found or self._is_single or self.is_typed):
             raise NotSound(file=self.store.path, command="check")

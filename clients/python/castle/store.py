@@ -15,22 +15,23 @@ from types import TracebackType
 from typing import TYPE_CHECKING, Callable, List, NoReturn, Optional, Tuple, Type, Union, cast
 from weakref import WeakSet
 
-from . import branches, errors, files, frames, hubsocket, outfile, storetext, verdict
+from . import branches, checking, errors, fileform, files, frames, hubsocket, levels, outfile, storetext, verdict
 from .batch import Batch
 from .branches import Snapshot
 from .commands import Commands, Data, Version, data_of
 from .copies import PrivateCopy
 from .edits import Edits
-from .frames import Info, Page, Stat
-from .levels import Levels, read
+from .frames import Info, Limits, Page, Stat
+from .levels import Levels
 from .lock import Lock, unchanged
 from .merge import Merge, merge
 from .names import Names, remove_names
-from .process import LIMIT, Process, find_program, printed
+from .process import LIMIT, Process, find_program
 from .program import Program
 from .scan import Difference, Differences, Scan, differences
 from .storecopy import Progress, silent
 from .storetext import Counts, Loading
+from .text import is_text
 from .verdict import Verdict
 from .view import VersionView
 
@@ -156,22 +157,23 @@ class Store:
         lock.release()
 
     @staticmethod
-    def check(path: Path, program: Optional[str] = None) -> Verdict:
+    def check(path: Path, program: Optional[str] = None, *, progress: Progress = silent) -> Verdict:
         """What a check says of a store's file, which nobody has open: a `Sound`, an `Unsound` or a `Damaged`.
 
         The program reads all of the file, and changes nothing; nothing is made in its folder either. A file that may not be
         written is checked as a private copy. `StoreLocked` tells that the store is open: a store of one's own has `verdict`.
-        What is no store is a `NotAStore`, and every other end of the program an exception too.
+        What is no store is a `NotAStore`, and every other end of the program an exception too. `progress` is called as the work
+        goes on, with the level and the blocks where the system tells them, and an exception of it ends the check.
         """
         file, real = located(path)
         check_file(real, file)
         found = find_program(program)
         if _is_writable(real, file):
             with unchanged(real, file):
-                return checked(found, real, file)
+                return checked(found, real, file, progress=progress)
         copy = PrivateCopy(real, file)
         try:
-            return checked(found, copy.path, file)
+            return checked(found, copy.path, file, progress=progress)
         finally:
             copy.remove()
 
@@ -258,6 +260,15 @@ class Store:
         """How many versions, updates and changes the store has, and how many cursors are open."""
         return cast(Stat, self._program.call(self._commands.stat))
 
+    def limits(self) -> Limits:
+        """What the store was made for: M, C and V. They are read from its file, where they never change."""
+        self._program.check()
+        try:
+            head = fileform.read_head(self._lock.itself)
+        except ValueError as error:
+            raise errors.NotAStore(f"its limits can't be read: {error}", file=self.path, command="limits") from None
+        return Limits(head.mem, head.changes_max, head.versions_max)
+
     def scan(self, version: Version, lower: Data = b"", upper: Data = b"", *, prefix: Data = b"") -> Scan:
         """The pairs of a version as they are at this call, in the order of their keys' bytes, whatever is changed meanwhile.
 
@@ -294,15 +305,9 @@ class Store:
             self._program.settle()
             if not self._lock.is_of(self._served):
                 raise errors.StoreMoved(file=self.path, command="levels")
-            text, status = printed(self._found, ["levels", self._served], self.path, self._lock)
-        if status != 0:
-            raise errors.ended(status, self.path, "levels", text)
-        try:
-            return read(text)
-        except ValueError as error:
-            raise errors.WrongProtocol(f"its levels can't be read: {error}", file=self.path, command="levels") from error
+            return levels.of_file(self._found, self._served, self.path, self._lock)
 
-    def verdict(self) -> Verdict:
+    def verdict(self, *, progress: Progress = silent) -> Verdict:
         """What a check says of the store's file as it is now; see `check`.
 
         Another run of the program reads all of the file while this one waits, which may take long.
@@ -311,7 +316,7 @@ class Store:
             self._program.settle()
             if not self._lock.is_of(self._served):
                 raise errors.StoreMoved(file=self.path, command="check")
-            return checked(self._found, self._served, self.path, self._lock)
+            return checked(self._found, self._served, self.path, self._lock, progress)
 
     # Copies
 
@@ -540,17 +545,19 @@ def _explained(error: errors.Ended, command: str, real: str) -> errors.Ended:
         error.what, error.remedy = "the file is empty, and no store", errors.StoreMissing.remedy
     elif isinstance(error, errors.DeviceFailed):
         error.what = files.fault(real) or error.what
+    elif not is_text(real):
+        return errors.unknown_word(error, real)
     return error
 
 
-def checked(program: str, real: str, file: str, lock: Optional[Lock] = None) -> Verdict:
-    """The verdict of a run of the program on a file, which errors call `file`."""
-    text, status = Process(program, ["check", real], file, lock).output()
+def checked(program: str, real: str, file: str, lock: Optional[Lock] = None, progress: Progress = silent,
+            what: str = "checking") -> Verdict:
+    """The verdict of a run of the program on a file, which errors call `file`, and progress by these words."""
+    progress(what, 0, None)
+    process = Process(program, ["check", real], file, lock)
+    text, status = process.output(checking.watch(process.pid, real, what, progress))
     if status not in verdict.STATUSES:
-        end = _explained(errors.ended(status, file, "check"), "check", real)
-        if isinstance(end, errors.WrongUsage):
-            end.what, end.remedy = "the program has no check", errors.Malformed.remedy
-        raise end
+        raise errors.unknown_word(_explained(errors.ended(status, file, "check"), "check", real), real)
     try:
         return verdict.read(text, status)
     except ValueError as error:

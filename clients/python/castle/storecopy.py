@@ -123,10 +123,19 @@ class Place:
             raise
         return self
 
-    def __exit__(self, *_: object) -> None:
+    def __exit__(self, kind: object, error: object, trace: object) -> None:
         if self._owner == os.getpid():
             shutil.rmtree(self.folder, ignore_errors=True)
         self._lock.release(forgets=True)
+        if isinstance(error, errors.CastleError) and error.file.startswith(self.folder + os.sep):
+            self._explain(error)
+
+    def _explain(self, error: errors.CastleError) -> None:
+        """Has an error that is about a file of the folder be about the path, where nothing is there to be mended."""
+        error.file = self.path
+        if isinstance(error, (errors.DeviceFault, errors.DeviceFailed)):
+            error.what = f"the device failed while the new store was made: {error.what}"
+            error.remedy = "Make room, or mend the device, and do it again; nothing was made."
 
     def file(self, name: str) -> str:
         """The path of a file in the folder."""

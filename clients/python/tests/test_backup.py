@@ -7,8 +7,11 @@ import errno
 import fcntl
 import io
 import os
+import pty
 import signal
+import struct
 import tempfile
+import termios
 import threading
 import unittest
 from typing import Dict, List, Optional
@@ -18,7 +21,7 @@ from session import Session, carried_out
 from support import NOBODY, StoreCase, Threads, on_signal, unprivileged
 
 import castle
-from castle import Store, errors, keeping, progress
+from castle import Store, errors, keeping, progress, rescue, storecopy
 from castle.progress import Line
 from castle.shell import COMMANDS, Shell
 
@@ -162,7 +165,7 @@ class BackupTest(BackupCase):
             store.backup(self.to)
         with self.assertRaises(errors.StoreMissing):
             castle.backup(self.path, self.to)
-        with self.assertRaises(errors.NotOverHub):
+        with self.assertRaises(errors.NoHub):
             castle.backup("unix:none", self.to)
         self.expect_left()
 
@@ -227,6 +230,17 @@ class BackupTest(BackupCase):
                 castle.backup(self.path, self.to)
             self.expect_left()
         self.opened()
+
+    def test_a_device_that_fails_the_new_store_is_told_of_its_path(self) -> None:
+        self.filled().close()
+
+        def failing(program: str, place: storecopy.Place, *_: object) -> None:
+            raise errors.DeviceFault(file=place.store, command="put")
+
+        with mock.patch.object(rescue, "_check_copy", failing), self.assertRaisesRegex(
+                errors.DeviceFault, f"^{self.to}: put: the device failed while the new store was made: .*do it again; nothing was made.$"):
+            castle.backup(self.path, self.to)
+        self.expect_left()
 
     def test_a_new_name_is_synced(self) -> None:
         self.filled().close()
@@ -353,6 +367,16 @@ class ProgressTest(unittest.TestCase):
         self.assertEqual(out.getvalue(), "\rhalf\rone ")
         line.clear()
         self.assertEqual(out.getvalue(), "\rhalf\rone \r    \r")
+
+    def test_a_line_stays_within_one_row_of_the_terminal(self) -> None:
+        own, other = pty.openpty()
+        self.addCleanup(os.close, own)
+        with open(other, "w", encoding="utf-8") as out:
+            fcntl.ioctl(other, termios.TIOCSWINSZ, struct.pack("HHHH", 24, 30, 0, 0))
+            line = Line(out, iter((0.0, 1.0, 2.0)).__next__)
+            line.show(lambda: "checking the copy, level 12 is counted, blocks read: 1,234 of 5,678")
+            self.assertEqual(os.read(own, 4096), b"\rchecking the copy, level 12 i")
+            self.assertEqual((progress.columns(out), progress.columns(self.Terminal())), (30, 80))
 
     def test_nothing_is_shown_where_there_is_no_terminal(self) -> None:
         out, now = io.StringIO(), [0.0]

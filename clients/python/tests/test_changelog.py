@@ -144,6 +144,25 @@ class LogTest(StoreCase):
             self.assertEqual(told(log, start), [change(number) for number in range(start, kept)])
             self.log = Log(self.log.name)
 
+    def test_a_file_that_is_put_back_as_it_was_earlier_is_looked_at_anew(self) -> None:
+        self.add(range(0, 5), range(5, 3000))
+        log = Log(self.log.name)
+        self.assertEqual(log.next, 3000)
+        path = os.path.join(self.log.name, self.files()[1])
+        data = self.bytes_of(os.path.join("log", self.files()[1]))
+        with open(path, "r+b") as file:
+            file.truncate(len(data) * 2 // 3)
+        kept = log.next
+        self.assertIn(kept, range(1500, 2500))
+        self.assertEqual(told(log, 2), [change(number) for number in range(2, kept)])
+        self.assertEqual(told(log, kept), [])
+        with open(path, "wb") as file:
+            file.write(data)
+        self.assertEqual(told(log, 2), [change(number) for number in range(2, 3000)])
+        with open(path, "wb"):
+            pass
+        self.assertEqual((log.next, told(log, 0)), (5, [change(number) for number in range(5)]))
+
     def test_an_altered_file_is_told(self) -> None:
         self.add(range(0, 50))
         path = os.path.join(self.log.name, self.files()[0])

@@ -45,9 +45,9 @@ class PageTest(unittest.TestCase):
             self.assertIn(what, kind.remedy)
 
     def test_the_memory_that_an_opening_takes_is_that_of_the_page(self) -> None:
-        takes = re.search(r"`serve` takes ([\d.]+ MB, [\d.]+ KB for each of M),", ERRORS)
+        takes = re.search(r"`serve` takes ([\d.]+ MB, [\d.]+ KB for each of M), (\d+ bytes for each of V)", ERRORS)
         assert takes
-        self.assertIn(takes[1], errors.OutOfMemory.remedy)
+        self.assertIn(f"{takes[1]} and {takes[2]}", errors.OutOfMemory.remedy)
 
 
 class RefusalsTest(StoreCase):

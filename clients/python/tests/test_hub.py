@@ -21,7 +21,7 @@ from hubs import PATIENCE, HubCase, OverHub, Raw, Reply, child_of, has_come, put
 from support import in_child, quiet, stop
 from test_interrupts import interrupted
 
-from castle import Stat, Store, backup, errors, frames
+from castle import Stat, Store, backup, errors, frames, salvage
 from castle.hubclient import BUDGET, SHARE, UNREAD
 from castle.process import find_program
 
@@ -267,7 +267,8 @@ class InterfaceTest(HubCase):
                  lambda: Store(self.address, read_only=True), lambda: Store(self.address, "castle"),
                  lambda: store.snapshot("a", "b"), lambda: store.release("a", "b"),
                  lambda: store.dump_all(os.path.join(self.folder, "dump")), lambda: store.load_all(__file__),
-                 lambda: store.backup("b.store"), lambda: store.salvage("b.store"), lambda: backup(self.address, "b.store"))
+                 store.verdict, lambda: store.salvage("b.store"), lambda: salvage(self.address, "b.store"),
+                 lambda: store.backup(self.address), lambda: backup(self.path, self.address))
         for call in calls:
             with self.assertRaisesRegex(errors.NotOverHub, f"^{self.address}: .*can't be had over a hub. [A-Z]"):
                 call()

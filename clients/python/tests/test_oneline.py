@@ -108,7 +108,7 @@ class SingleTest(StoreCase):
             for _ in range(10):
                 shell.send_signal(signal.SIGINT)
                 try:
-                    shell.wait(1)
+                    shell.wait(5)
                     break
                 except subprocess.TimeoutExpired:
                     pass

@@ -13,8 +13,9 @@ from typing import Any, Dict, List, Optional, Tuple
 from unittest import mock
 
 from redises import RedisCase
-from support import DEADLINE, TOP, StoreCase, Threads, in_child, is_gone, needs
+from support import DEADLINE, TOP, StoreCase, Threads, in_child, is_gone, needs, stop
 
+import castle
 from castle import Store, changes, errors, frames, replicate
 from castle.process import find_program
 from test_changelog import change
@@ -321,6 +322,91 @@ class BackupTest(ReplicaCase):
                     leader.delete(version, f"key/{chance.randrange(40)}")
 
 
+class LogBackupTest(ReplicaCase):
+    """One call that makes a checked copy by the leader's changes, beside the leader that goes on."""
+
+    def test_a_backup_beside_a_leader_is_its_table_after_a_prefix(self) -> None:
+        chance, sizes = random.Random(12), []
+        Store.format(self.path, 8, 5000, 300)
+        with Store(self.path) as store:
+            store.names["base"] = 0
+        told: List[str] = []
+        with replicate.Leader(self.path, self.log) as leader:
+            for turn in range(4):
+                for number in range(chance.randrange(20, 60)):
+                    leader.put(leader.versions - 1, f"k{chance.randrange(9)}", f"{turn} {number}")
+                leader.clone(leader.versions - 1)
+                leader.wait()
+                with self.assertRaises(errors.StoreLocked):
+                    castle.backup(self.path, self.copy, overwrite=True)
+                number = replicate.backup(self.log, self.path, self.copy, overwrite=turn > 0, progress=lambda what, *_: told.append(what))
+                kept = [frame for found in self.log.read(0) for frame in found]
+                self.assertEqual((number, tables(self.copy)), (self.log.next, replayed(kept[:number])))
+                sizes.append(number)
+                with Store(self.copy) as copy:
+                    self.assertEqual((copy.limits(), dict(copy.names)), (castle.Limits(8, 5000, 300), {"base": 0}))
+        self.assertEqual(sizes, sorted(set(sizes)))
+        self.assertLessEqual({"changes", "checking the copy"}, set(told))
+        self.assertEqual(sorted(name for name in os.listdir(self.folder) if name.startswith(".castle-")), [])
+
+    def test_a_backup_is_whole_or_none(self) -> None:
+        self.stores()
+        self.led(random.Random(13), 60)
+        os.remove(self.copy)
+        steps: List[str] = []
+        replicate.backup(self.log, self.path, self.copy, progress=lambda what, *_: steps.append(what))
+        os.remove(self.copy)
+        for end in range(len(steps)):
+            left = iter(range(end))
+
+            def tell(*_: Any) -> None:
+                if next(left, None) is None:
+                    raise KeyboardInterrupt
+
+            self.assertRaises(KeyboardInterrupt, replicate.backup, self.log, self.path, self.copy, progress=tell)
+            self.assertFalse(os.path.exists(self.copy))
+        self.written("copy.store", "mine")
+        self.assertRaises(errors.StoreExists, replicate.backup, self.log, self.path, self.copy)
+        self.assertEqual(self.bytes_of("copy.store"), b"mine")
+        self.assertRaises(errors.StoreExists, replicate.backup, self.log, self.path, self.path, overwrite=True)
+        self.assertRaises(errors.StoreMissing, replicate.backup, self.log, self.path + "2", self.copy + "2")
+        self.assertRaises(errors.LogMissing, replicate.backup, replicate.Log(self.path + "2"), self.path, self.copy + "2")
+        self.assertEqual([name for name in os.listdir(self.folder) if name.startswith((".castle-", "copy.store2"))], [])
+
+    def test_a_log_that_lacks_its_beginning_is_told(self) -> None:
+        self.stores()
+        log = replicate.Log(os.path.join(self.folder, "late"))
+        with log.writer() as keeper:
+            keeper.add([change(number) for number in range(7, 20)])
+        with self.assertRaises(errors.LogGap) as caught:
+            replicate.backup(log, self.path, self.copy + "2")
+        self.assertEqual((caught.exception.wanted, caught.exception.found), (0, 7))
+        self.assertFalse(os.path.exists(self.copy + "2"))
+
+
+class LevelsTest(StoreCase):
+    """A program that only pretends, for a file that somebody changes while it is read."""
+
+    # the first runs say so: what they read was of different times
+    DAMAGED = '#!/bin/sh\necho x >>"$0.runs"\n[ $(wc -l <"$0.runs") -gt %d ] || { echo "damaged block 7"; exit %d; }\nexec "%s" "$@"\n'
+
+    def program(self, runs: int, status: int) -> str:
+        path = self.written(f"program{runs}.{status}", self.DAMAGED % (runs, status, find_program()))
+        os.chmod(path, 0o755)
+        return path
+
+    def test_levels_of_a_file_that_somebody_changes_are_read_again(self) -> None:
+        self.made().close()
+        self.assertEqual(replicate.changes_in(self.path, self.program(4, 9)), 0)
+        with self.assertRaisesRegex(errors.StoreDamaged, "levels: block 7 of the file is damaged"):
+            replicate.changes_in(self.path, self.program(5, 9))
+        with self.assertRaises(errors.DeviceFailed):
+            replicate.changes_in(self.path, self.program(1, 5))
+        with Store(self.path, self.program(0, 9)) as store:  # its own file nobody changes
+            store._found = self.program(1, 9)
+            self.assertRaises(errors.StoreDamaged, store.levels)
+
+
 class RefusalTest(StoreCase):
     """Followers that only pretend, for what the real one can't be brought to."""
 
@@ -416,6 +502,29 @@ class RedisTest(RedisCase, ReplicaCase):
             log.ask("XADD", log._stream, "9999-1", "frame", "noise")
             self.assertRaises(errors.LogFault, list, log.read(1513))
 
+    def test_no_answer_is_taken_for_that_to_another_command(self) -> None:
+        log = next(iter(self.logs()))
+        with log.writer() as keeper:
+            keeper.add([change(number) for number in range(20)])
+        with mock.patch("castle.redislog.LIMIT", 0.3):
+            hasty = replicate.RedisLog(log.name)
+            stop(self.server.pid)
+            with self.assertRaisesRegex(errors.NoRedis, "timed out"):
+                hasty.ask("XLEN", "own")
+            with self.assertRaises(errors.NoRedis):  # and none is got from a new connection either
+                hasty.ask("XLEN", "own")
+            self.server.send_signal(signal.SIGCONT)
+            self.assertEqual((hasty.first, hasty.next), (0, 20))
+
+            def interrupted(*_: object) -> None:
+                raise KeyboardInterrupt
+
+            with mock.patch.object(hasty._client, "_answer", interrupted):
+                self.assertRaises(KeyboardInterrupt, hasty.ask, "XLEN", "own")
+            self.assertEqual((hasty.ask("XLEN", "own"), hasty.next), (20, 20))
+        for wrong in ("redis://localhost:x?stream=a", "redis://localhost:99999?stream=a", "redis+unix:absent"):
+            self.assertRaises(errors.NoRedis, replicate.RedisLog, wrong)
+
     def test_a_server_that_is_not_there_or_goes_away_is_told(self) -> None:
         log = next(iter(self.logs()))
         self.stop()
@@ -447,6 +556,18 @@ class CommandTest(ReplicaCase):
         follow = [find_program(), "follow", "copy.store"]
         self.assertEqual(self.run_command("feed", "log", "--command", *follow), (f"{' '.join(follow)}: next 4, lag 0\n", "", 0))
         self.assertEqual(tables(self.copy), tables(self.path))
+        self.assertEqual(self.run_command("backup", "log", "a.store", "b.store"), ("b.store: next 4\n", "", 0))
+        self.assertEqual(tables(os.path.join(self.folder, "b.store")), tables(self.path))
+        out, said, status = self.run_command("backup", "log", "a.store", "b.store")
+        self.assertEqual((out, status), ("", 1))
+        self.assertIn("b.store: a castle store is there already", said)
+        self.assertEqual(self.run_command("backup", "--overwrite", "log", "a.store", "b.store")[2], 0)
+
+    def test_feeding_stays_up_to_a_number(self) -> None:
+        self.stores()
+        self.led(random.Random(14), 30)
+        self.assertEqual(self.run_command("feed", "log", "copy.store", "--stay", "--until", "9"), (f"copy.store: next 9, lag {self.log.next - 9}\n", "", 0))
+        self.assertEqual(replicate.changes_in(self.copy), 9)
 
     def test_what_goes_wrong(self) -> None:
         self.stores()

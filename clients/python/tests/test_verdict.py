@@ -92,7 +92,7 @@ class PretendedCheckTest(StoreCase):
     def test_a_file_that_is_checked_is_not_opened(self) -> None:
         path = self.says("sound\n", 0)
         with mock.patch("castle.store.Process") as process:
-            def output() -> object:
+            def output(_: object) -> object:
                 with self.assertRaisesRegex(errors.StoreLocked, "is being copied"):
                     Store(path, PRETENDER)
                 return "sound\n", 0
@@ -105,7 +105,7 @@ class PretendedCheckTest(StoreCase):
         os.chmod(self.folder, 0o755)
         os.chmod(path, 0o444)
         with unprivileged(), mock.patch("castle.store.Process") as process:
-            process.return_value.output = lambda: ("sound\n", 0)
+            process.return_value.output = lambda _: ("sound\n", 0)
             self.assertEqual(Store.check(path, PRETENDER), Sound())
             word, copy = process.call_args[0][1]
         self.assertEqual((word, copy != path, os.path.exists(copy)), ("check", True, False))
