@@ -45,7 +45,6 @@ use Rattle.def_publish.proofs.PartsLemmas.{reads_head, reads_state}
 use Rattle.def_publish.specs.Contents.{Contents, contents_head, contents_state}
 use Rattle.def_publish.specs.Standing.{LeavesContent, ShowsTable}
 use Rattle.strat_memory.proofs.MemoryLawLemmas.{version_told, store_told_with, version_unknown}
-use Rattle.def_slice.proofs.FillingLemmas.{empties_nothing}
 use Rattle.strat_store.proofs.AppliedLemmas.{next_later}
 use Rattle.strat_store.proofs.CursoringLemmas.{looks_wider, stands_now, stands_still, still_going}
 use Rattle.strat_store.specs.Applying.{IsLookedUp, IsUntouched, FailsAsTold, FollowsStep, TellsTroubleOf, change_wanted, refusal_of_look, is_fault, ran_short, table_left}
@@ -381,7 +380,6 @@ told_at now s new x rows r answer other none log memory spent told stands =
       place = stays s.log.mem (position_at s x rows) (position_at new x rows) r off
           ((λ i. record (table_of (contents_state x)) { cursors = rows; next_cursor = (memory i).cursors.next }) ∙ sym (look_kept t r other none))
           (ap (λ (l : Log). length l.list) log);
-      fill = empties_nothing s.log.mem (position_at s x rows) (position_at new x rows) r off;
     })
 
 -- without a look at the disk

@@ -1,10 +1,8 @@
 -- Staged changes that become durable: what the disk then has, and that the store stands on it.
-use Rattle.std.proofs.Common.{◌≡◌, ◌<◌, ◌≤◌, ◌+◌, ℕ, Bool, true, false, cond, List, length, refl, ap, subst, arith}
-use Rattle.std.proofs.lemmas.Bool.{lt-ltb}
+use Rattle.std.proofs.Common.{◌≡◌, ◌<◌, ◌≤◌, ◌+◌, ℕ, Bool, true, false, List, length, refl, ap, subst, arith}
 use Rattle.def_crash.specs.Blocks.{AgreeOn, KeepsTaken}
 use Rattle.def_crash.specs.Image.{Image}
-use Rattle.def_crash.specs.Moments.{DiskView, Exposes, TearsOnly}
-use Rattle.def_bytes.specs.Layout.{other_region, region_at, region_size}
+use Rattle.def_crash.specs.Moments.{DiskView, Exposes}
 use Rattle.strat_journal.specs.Log.{HoldsBatch, Log, Stands, batch_joined, batch_region}
 use Rattle.strat_model.specs.Table.{Cursor}
 use Rattle.strat_model.specs.declared.replies.Refusal.TheVariants as why
@@ -25,7 +23,7 @@ use Rattle.strat_store.specs.Staging.{FollowsBatch, held_joined}
 use Rattle.strat_store.proofs.AppliedLemmas.{going_kept, rows_kept}
 use Rattle.strat_store.proofs.ChangingLemmas.{cached_behind}
 use Rattle.strat_store.proofs.LeavingLemmas.{front_keeps, leaves_room, logged_leaves}
-use Rattle.strat_store.proofs.LoggingLemmas.{appended_behind, batch_paid}
+use Rattle.strat_store.proofs.LoggingLemmas.{appended_behind, batch_low, batch_paid, taking_here}
 use Rattle.strat_store.proofs.StagingLemmas.{staged_log, takes_batch}
 
 -- a store whose staged changes were appended, or were to be
@@ -33,18 +31,15 @@ module _ (old new : DiskView) (s : Held) (whole : IsConsistent (held_joined s)) 
   room : length s.log.list < s.log.mem
   room = omega (arith, some, fits)
 
-  here : batch_region s.log ≡ s.log.active
-  here = ap (λ (b : Bool). cond b s.log.active (other_region s.log.active)) (lt-ltb (length s.log.list) s.log.mem room)
-
-  torn : TearsOnly old new (region_at s.log.mem s.log.active) (region_size s.log.mem)
-  torn = subst (λ (r : ℕ). TearsOnly old new (region_at s.log.mem r) (region_size s.log.mem)) here appends.images
+  active : s.log.active ≤ 1
+  active = omega (arith, whole.log.active, whole.lawful.region_most)
 
   -- superblock and manifest are on the disk as they were
   commit_on : (t : Held) → KeepsPublished s t → IsOnDisk old s → IsOnDisk new t
   commit_on t same on =
       let then : KeepsPublished (held_joined s) t = record { slot = same.slot; sb = same.sb; chained = same.chained; levels = same.levels; filters = same.filters } in
       let first : IsOnDisk old (held_joined s) = record { content = on.content; exposed = on.exposed; newest = on.newest; chain = on.chain } in
-      (logged_leaves old new (held_joined s) t whole then torn appends.time).1 first
+      (logged_leaves old new (held_joined s) t (batch_region s.log) whole (batch_low s.log active) then appends.images appends.time).1 first
 
   module _ (x : Contents) (stands : StandsWith old s x) where
     sound : IsSound (contents_state (with_batch x s.log.batch))
@@ -77,7 +72,7 @@ module _ (old new : DiskView) (s : Held) (whole : IsConsistent (held_joined s)) 
     behind : (f g : Image) → Exposes old f → Exposes new g → KeepsTaken (is_in_front s.sb.mem) f g
     behind f g told now =
         subst (λ (n : ℕ). KeepsTaken (is_in_front n) f g) whole.log.mem
-        (appended_behind old new s.log whole.log.lawful some fits (omega (arith, whole.log.active, whole.lawful.region_most)) holds f g told now)
+        (appended_behind old new s.log whole.log.lawful (taking_here s.log (length s.log.batch) some fits) active holds f g told now)
 
     agree : (f g : Image) → Exposes old f → Exposes new g → AgreeOn (blocks_listed (arrays_held s.memory s.levels)) f g
     agree = front_keeps old new (held_joined s) whole behind

@@ -256,7 +256,6 @@ module _ (v : DiskView) (s : Held) (x : Contents) (rows : List Cursor) (whole : 
         left = rows;
         stands = stands_still s.memory false rows at.rows_are at.going;
         place = place_of s.log.mem (position_at s x rows) (OpenCursor n lo hi) (refuses t why.UnknownVersion) o refl;
-        fill = λ done. absurd (true≢false (sym done));
       })
 
   known_opened : (n : ℕ) (lo hi : List ℕ) (r : Result ℕ CursorFault) (m : Memory) → is_known s.memory.parents n ≡ true
@@ -274,7 +273,6 @@ module _ (v : DiskView) (s : Held) (x : Contents) (rows : List Cursor) (whole : 
         stands = stands_still (one_more n lo hi) false (started n lo hi)
             (table_started f s.memory.parents opened rows (cursor_from s.memory s.levels n lo hi) lo (pairs_at t n) at.rows_are refl (reads_map n lo hi is)) (all_go_on n lo hi);
         place = place_of s.log.mem (position_at s x rows) (OpenCursor n lo hi) (outcome_of_start n lo hi) o refl;
-        fill = λ done. absurd (true≢false (sym done));
       }))
   known_opened n lo hi (Err start_fault.CursorLimit) m is opens same limit =
       let o = refused_of_limit n lo hi is (limit.0 refl) in
@@ -286,7 +284,6 @@ module _ (v : DiskView) (s : Held) (x : Contents) (rows : List Cursor) (whole : 
         left = rows;
         stands = stands_still s.memory false rows at.rows_are at.going;
         place = place_of s.log.mem (position_at s x rows) (OpenCursor n lo hi) (refuses t why.CursorLimit) o refl;
-        fill = λ done. absurd (true≢false (sym done));
       }))
   known_opened n lo hi (Err start_fault.NoMemory) m is opens same limit =
       let room : length opened ≢ 64 = λ full. (let e : ◌≡◌ {A = Result ℕ CursorFault} (Err start_fault.NoMemory) (Err start_fault.CursorLimit) = limit.1 full in cc) in
@@ -314,7 +311,6 @@ module _ (v : DiskView) (s : Held) (x : Contents) (rows : List Cursor) (whole : 
         left = rows;
         stands = stands_still s.memory false rows at.rows_are at.going;
         place = place_of s.log.mem (position_at s x rows) (CloseCursor n) (refuses t why.UnknownCursor) o refl;
-        fill = λ done. absurd (true≢false (sym done));
       })
 
   closed_done : (n : ℕ) → is_opened n opened ≡ true → IsAppliedAt v s x rows (CloseCursor n) (plain reply.Done) (record s { memory = record s.memory { cursors = closed_at n s.memory.cursors }; spent = false })
@@ -329,7 +325,6 @@ module _ (v : DiskView) (s : Held) (x : Contents) (rows : List Cursor) (whole : 
         stands = stands_still (record s.memory { cursors = closed_at n s.memory.cursors }) false (filter (λ (c : Cursor). not (eqb c.number n)) rows)
             (rows_less f s.memory.parents n opened rows at.rows_are) (goes_on_without f next s.cached n opened at.going);
         place = place_of s.log.mem (position_at s x rows) (CloseCursor n) (record { answer = plain reply.Done; table = record t { cursors = filter (λ (c : Cursor). not (eqb c.number n)) rows } }) o refl;
-        fill = λ done. absurd (true≢false (sym done));
       })
 
   -- so the answers say which of these it was
@@ -418,7 +413,6 @@ module _ (v : DiskView) (s : Held) (x : Contents) (rows : List Cursor) (whole : 
               (goes_on_moved f next d n more out opened (still_going now d looks leaves));
           place = place_of s.log.mem (position_at s x rows) (NextPairs n limit)
               (record { answer = as_told (reply.Pairs more) out; table = record t { cursors = advanced rows n limit } }) told.0 refl;
-          fill = λ done. absurd (true≢false (sym done));
         }))
       where
         by_open : (b : Bool) → (b ≡ false → IsErrOf (Ok more) next_fault.UnknownCursor) → b ≡ true
@@ -434,7 +428,6 @@ module _ (v : DiskView) (s : Held) (x : Contents) (rows : List Cursor) (whole : 
           left = rows;
           stands = stands_now now d looks leaves s.memory false rows at.rows_are (still_going now d looks leaves);
           place = place_of s.log.mem (position_at s x rows) (NextPairs n limit) (refuses t why.UnknownCursor) o refl;
-          fill = λ done. absurd (true≢false (sym done));
         }))
     page_applied n limit out (Err next_fault.Device) m tells moves unknown same names =
         let on : is_opened n opened ≡ true = by_open (is_opened n opened) unknown.1 in

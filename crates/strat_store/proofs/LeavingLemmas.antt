@@ -1,5 +1,5 @@
 -- What a command leaves of the superblock and the manifest of a store.
-use Rattle.std.proofs.Common.{◌≡◌, ◌≢◌, ◌≤◌, ◌<◌, ◌-◌, ◌&&◌, ℕ, Bool, true, false, inl, inr, List, length, Contains, Option, Some, None, refl, sym, ap, ◌∙◌, subst, arith, true≢false}
+use Rattle.std.proofs.Common.{◌≡◌, ◌≢◌, ◌≤◌, ◌<◌, ◌+◌, ◌-◌, ◌*◌, ◌&&◌, ℕ, Bool, true, false, inl, inr, List, length, Contains, Option, Some, None, refl, sym, ap, ◌∙◌, subst, arith, true≢false}
 use Rattle.std.proofs.lemmas.List.Elements.{Contains-append_right}
 use Rattle.strat_array.specs.Kept.{Blocks}
 use Rattle.strat_base.specs.Change.{Change}
@@ -17,7 +17,7 @@ use Rattle.strat_cursor.specs.Cursors.{retired_all}
 use Rattle.strat_cursor.specs.Held.{AreRowsOf, HeldCursor, HeldCursors}
 use Rattle.strat_cursor.specs.Looking.{arrays_there}
 use Rattle.def_bytes.specs.Chained.{Chained}
-use Rattle.def_bytes.specs.Layout.{region_at, region_size}
+use Rattle.def_bytes.specs.Layout.{first_free, region_at, region_size}
 use Rattle.def_bytes.specs.Manifest.{Manifest}
 use Rattle.def_bytes.specs.SuperBlock.{Super}
 use Rattle.strat_gate.specs.SuperView.{super_of}
@@ -47,14 +47,22 @@ use Rattle.strat_publish.specs.Settling.{ArePublishedAfter, KeepsCursors, KeepsP
 use Rattle.strat_memory.specs.declared.open_store.OpenStore.{OpenStore}
 use Rattle.strat_publish.proofs.KeptLemmas.{behind_kept, left_held}
 use Rattle.strat_publish.proofs.LaidLemmas.{kept_on}
-use Rattle.strat_memory.proofs.OnDiskLemmas.{read_on, logged_on, some_told, told_some}
+use Rattle.def_publish.proofs.PlaceLemmas.{places}
+use Rattle.strat_memory.proofs.OnDiskLemmas.{read_on, some_told, told_some, torn_on}
 use Rattle.strat_memory.proofs.PayingLemmas.{paid_reads}
 use Rattle.strat_publish.proofs.SettledLemmas.{agree_once}
 
+-- in one of the journal's regions
+logged_in : (v w : DiskView) (s : Held) (region : ℕ) → IsConsistent s → region ≤ 1 → TearsOnly v w (region_at s.log.mem region) (region_size s.log.mem) → Passes v w → IsOnDisk v s → IsOnDisk w s
+logged_in v w s region whole low torn time on =
+    let p = places s.log.mem region low in
+    torn_on v w s (region_at s.log.mem region) (region_size s.log.mem) whole.belonging p.behind_slots
+    (subst (λ (n : ℕ). region_at s.log.mem region + region_size s.log.mem ≤ 4096 * first_free n) whole.log.mem p.in_front) torn time on
+
 -- a change that was logged
-pub logged_leaves : (v w : DiskView) (s t : Held) → IsConsistent s → KeepsPublished s t → TearsOnly v w (region_at s.log.mem s.log.active) (region_size s.log.mem) → Passes v w
+pub logged_leaves : (v w : DiskView) (s t : Held) (region : ℕ) → IsConsistent s → region ≤ 1 → KeepsPublished s t → TearsOnly v w (region_at s.log.mem region) (region_size s.log.mem) → Passes v w
     → KeepsPublished s t × (IsOnDisk v s → IsOnDisk w t)
-logged_leaves v w s t whole same torn time = (same, λ on. kept_on w s t same (logged_on v w s whole torn time on))
+logged_leaves v w s t region whole low same torn time = (same, λ on. kept_on w s t same (logged_in v w s region whole low torn time on))
 
 -- what is told of a change that is accepted is no refusal
 pub taken_well : (m : Memory) (c : Change) (told : Reply) → told ≡ reply_to m c → (accepts told ≡ false → told ≡ reply.Refused why.DeviceFault) × (may_write told ≡ true)

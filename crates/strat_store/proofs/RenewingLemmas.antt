@@ -12,7 +12,7 @@ use Rattle.def_crash.specs.Trail.{Trail}
 use Rattle.def_crash.proofs.MomentLemmas.{since_now}
 use Rattle.def_crash.proofs.TrailLemmas.{trail_of_one, trail_join, trail_more}
 use Rattle.strat_model.specs.Answer.{plain, accepts}
-use Rattle.strat_model.specs.Run.{is_carried_out}
+use Rattle.strat_model.specs.Run.{MayFill, is_carried_out}
 use Rattle.strat_model.proofs.FillLemmas.{carried, refused_not, stays}
 use Rattle.strat_model.specs.Step.{Outcome, step}
 use Rattle.strat_model.specs.Table.{Table}
@@ -31,8 +31,6 @@ use Rattle.strat_memory.specs.Memory.{Memory, refusal_of_change}
 use Rattle.strat_memory.specs.RecoveredFields.{held_of}
 use Rattle.strat_store.specs.Applying.{held_after}
 use Rattle.strat_memory.specs.declared.open_store.OpenStore.{OpenStore}
-use Rattle.def_slice.specs.Filling.{fill_left}
-use Rattle.def_slice.proofs.FillingLemmas.{empties_nothing, left_below, left_full}
 use Rattle.strat_store.proofs.ChangingLemmas.{changes_it, state_held, acceptable, breaks}
 use Rattle.strat_memory.proofs.MemoryLawLemmas.{change_refused}
 
@@ -72,7 +70,6 @@ module _ (r : OpenStore) (cached : Blocks) (kept : IsConsistent (held_of r cache
         after = x;
         stands = record { stands = stands.stands; held = stands.held; cached = stands.cached; filtered = stands.filtered };
         place = stays r.journal.mem at after (request_for c) off (λ i. (sym same i).table) refl;
-        fill = empties_nothing r.journal.mem at after (request_for c) off;
       })
 
   pub refused_trail : FollowsStep v v x (request_for c) (plain (reply.Refused q))
@@ -142,8 +139,9 @@ module _ (r : OpenStore) (cached : Blocks) (kept : IsConsistent (held_of r cache
     under = omega (arith, many, kept.log.few, kept.lawful.mem_least, held.log.mem, size)
 
     -- and the change comes behind that
-    last : (n : ℕ) → n ≡ fill_left mid.journal.mem (length mid.journal.list) → n + r.sb.mem ≡ length r.journal.list + 1
-    last n is = let one : n ≡ length mid.journal.list + 1 = is ∙ left_below mid.journal.mem (length mid.journal.list) under in omega (arith, one, many)
+    last : (n : ℕ) → MayFill mid.journal.mem (length mid.journal.list) n → n + r.sb.mem ≡ length r.journal.list + 1
+    last n (inl more) = omega (arith, more.1, many)
+    last n (inr anew) = absurd (omega (arith, anew.0, under))
 
     -- the change is carried out on these
     pub renewed : (new : OpenStore) (w : DiskView) (told : Reply) → IsAppliedTo w (held_of mid cached) p.after (request_for c) (plain told) (held_after new cached told)
@@ -156,13 +154,10 @@ module _ (r : OpenStore) (cached : Blocks) (kept : IsConsistent (held_of r cache
       place = record {
         table = a.place.table ∙ ap (λ (t : Table). (step t (request_for c)).table) p.table;
         fill = λ done.
-            let sum : length new.journal.list + r.journal.mem ≡ length r.journal.list + 1 = omega (arith, last (length new.journal.list) (a.fill there), kept.log.mem) in
+            let sum : length new.journal.list + r.journal.mem ≡ length r.journal.list + 1 = omega (arith, last (length new.journal.list) (a.place.fill there), kept.log.mem) in
             inr (whole, sum);
         same = λ off. absurd (true≢false (sym here ∙ off));
       };
-      fill = λ done.
-          let rest : length new.journal.list ≡ length r.journal.list + 1 - r.journal.mem = omega (arith, last (length new.journal.list) (a.fill there), kept.log.mem) in
-          rest ∙ sym (left_full r.journal.mem (length r.journal.list) whole);
     })
     renewed new w told (inr (inl short)) = absurd (omega (arith, short.full, under))
     renewed new w told (inr (inr broken)) = inr (inr (record { reached = broken.reached; acceptable = accepted; told = broken.told; spent = broken.spent }))

@@ -41,8 +41,6 @@ use Rattle.strat_memory.proofs.MemoryLawLemmas.{change_answered_with, change_tak
 use Rattle.strat_memory.specs.RecoveredFields.{held_of}
 use Rattle.strat_memory.specs.declared.open_store.OpenStore.{OpenStore}
 use Rattle.strat_store.specs.Applying.{change_wanted}
-use Rattle.def_slice.specs.Filling.{EmptiesFirst}
-use Rattle.def_slice.proofs.FillingLemmas.{left_below}
 use Rattle.strat_store.specs.Staging.{HasRoomForStaged, IsStaged, IsStagedAt, has_place, held_joined, may_stage, position_staged, replies_over, replies_staged, reply_over, takes_staged, with_staged}
 use Rattle.strat_store.proofs.AppliedLemmas.{beside, change_beside}
 use Rattle.strat_store.proofs.ApplyLemmas.{spent_consistent, wanted_for}
@@ -247,9 +245,6 @@ module _ (v : DiskView) (s : Held) (x : Contents) (whole : IsConsistent (held_jo
         same = λ off. absurd (true≢false (sym next_carried ∙ off));
       }
 
-      next_empties : EmptiesFirst s.log.mem p (request_for c) q
-      next_empties done = next_fill ∙ sym (left_below s.log.mem p.fill under)
-
     next_kept : slice_get (replies_staged (with_staged s c)) (length s.log.batch) ≡ Some (reply_to s.memory c)
     next_kept =
         ap (λ (n : ℕ). slice_get (replies_staged (with_staged s c)) n) (sym (length_replies s))
@@ -299,5 +294,4 @@ staged_at v s x rows request c staged at wanted may keeps =
       answer = next_answer v s x staged.whole at.stands c free room rows;
       stands = stands_staged v s x rows c keeps at;
       place = next_place v s x staged.whole at.stands c free room rows;
-      fill = next_empties v s x staged.whole at.stands c free room rows;
     })

@@ -29,7 +29,6 @@ use Rattle.strat_memory.specs.Memory.{Memory, IsReadyFrom, refusal_of_change}
 use Rattle.strat_array.specs.Kept.{Blocks}
 use Rattle.strat_memory.specs.declared.open_store.OpenStore.{OpenStore}
 use Rattle.strat_memory.specs.RecoveredFields.{held_of}
-use Rattle.def_slice.specs.Filling.{EmptiesFirst}
 
 -- the change that a command asks for, if it asks for one
 abbrev pub change_wanted : Request → Option Change
@@ -50,8 +49,7 @@ abbrev pub is_fault : Reply → Bool
 is_fault (reply.Refused r) = tells_fault r
 is_fault _ = false
 
--- a command was answered as the table says, and the store stands at a position after it, but for its cursors; a region of
--- its journal that was full is emptied first
+-- a command was answered as the table says, and the store stands at a position after it, but for its cursors
 pub record IsAnsweredBy (now : DiskView) (old : Held) (x : Contents) (request : Request)
     (answer : Answer) (new : Held) : Type 0 where
   pub told : answer ≡ (step (table_of (contents_state x)) request).answer
@@ -59,7 +57,6 @@ pub record IsAnsweredBy (now : DiskView) (old : Held) (x : Contents) (request : 
   pub after : Contents
   pub stands : StandsWith now new after
   pub place : IsAfter old.log.mem (position_with old x) request (position_with new after)
-  pub fill : EmptiesFirst old.log.mem (position_with old x) request (position_with new after)
 
 -- memory ran out for a change that the table accepts, at a full journal, and nothing changed
 pub record IsShortOf (now : DiskView) (old : Held) (x : Contents) (request : Request)

@@ -1,7 +1,7 @@
 //! Changes of a store over levels: each is durable before it is in memory, and before it is answered.
 
 ghost use Rattle.std.specs.List.{list_all};
-ghost use Rattle.std.specs.Prelude.{◌≡◌, ◌≢◌, ◌<◌, ◌≤◌, ℕ, [], ◌∷◌, ◌++◌, length, Some, None, OnOk, IsTrue, true, false};
+ghost use Rattle.std.specs.Prelude.{◌≡◌, ◌≢◌, ◌<◌, ◌≤◌, ◌-◌, ◌*◌, ℕ, [], ◌∷◌, ◌++◌, length, Some, None, OnOk, IsTrue, true, false};
 ghost use Rattle.strat_array.specs.Kept.{Blocks};
 ghost use Rattle.strat_base.specs.Change.{is_lawful};
 ghost use Rattle.strat_base.specs.ChangeView.{change_of};
@@ -11,6 +11,7 @@ ghost use Rattle.def_crash.specs.Image.{Image};
 ghost use Rattle.def_crash.specs.Moments.{Exposes, Passes, TearsOnly};
 ghost use Rattle.def_crash.specs.Trail.{Trail};
 ghost use Rattle.def_bytes.specs.Layout.{region_at, region_size};
+ghost use Rattle.strat_journal.specs.Log.{batch_region};
 ghost use Rattle.strat_model.specs.Answer.{accepts, plain};
 ghost use Rattle.strat_model.specs.declared.replies.Refusal.{Refusal};
 ghost use Rattle.strat_model.specs.declared.replies.Refusal.TheVariants as why;
@@ -43,7 +44,7 @@ use strat_promote::obstacle::Obstacle;
 use strat_publish::publish;
 
 /// Makes a change durable at the end of the journal, which has room for it: two writes and two syncs. It writes in the
-/// active region alone.
+/// active region alone, or, once that is full, in the other one.
 fn log_change<D: Disk>(
     journal: &mut Journal,
     disk: &mut D,
@@ -51,7 +52,7 @@ fn log_change<D: Disk>(
 ) -> Result<(), Failed>
     requires fits { IsTrue (is_lawful (change_of change.now)) }
     requires none { journal.old.batch ≡ [] }
-    requires room { length journal.old.list < journal.old.mem }
+    requires room { length journal.old.list < 2 * journal.old.mem - 2 }
     requires kept { IsTrue (list_all is_lawful journal.old.list) × (journal.old.active ≤ 1) }
     ensures trail { (x : Contents) → ContentsStand (D.view disk.old) x → IsLogOf x journal.old
         → Takes (contents_state x) (change_of change.now)
@@ -68,7 +69,7 @@ fn log_change<D: Disk>(
     ensures same { OnOk result ((f g : Image) → Exposes (D.view disk.old) f
         → Exposes (D.view disk.new) g → KeepsTaken (is_in_front journal.old.mem) f g) }
     ensures images { TearsOnly (D.view disk.old) (D.view disk.new)
-        (region_at journal.old.mem journal.old.active) (region_size journal.old.mem) }
+        (region_at journal.old.mem (batch_region journal.old)) (region_size journal.old.mem) }
     ensures time { Passes (D.view disk.old) (D.view disk.new) }
     ensures cause { CountsFaults (D.faults disk.old) (D.faults disk.new) result }
 {
@@ -77,13 +78,15 @@ fn log_change<D: Disk>(
     Ok(())
 }
 
-/// Carries out a change that is not refused, where the journal has room: it is durable before it is in memory. Two writes
-/// and two syncs, and one insertion into level 0 or O(log versions_max); no memory. DeviceFault: the disk failed.
+/// Carries out a change that is not refused, where the journal has room, and level 0 is sealed once the active region is
+/// full: it is durable before it is in memory. Two writes and two syncs, and one insertion into level 0 or
+/// O(log versions_max); no memory. DeviceFault: the disk failed.
 fn carry_out<D: Disk>(held: &mut OpenStore, disk: &mut D, change: &Change<'_>) -> Reply
     requires kept { (cached : Blocks) → IsConsistent (held_of held.old cached) }
     requires fits { IsTrue (is_lawful (change_of change.now)) }
     requires none { refusal_of_change held.old.memory (change_of change.now) ≡ None }
-    requires room { length held.old.journal.list < held.old.sb.mem }
+    requires room { (length held.old.journal.list < 2 * held.old.sb.mem - 2)
+        × (held.old.memory.sealed ≡ None → length held.old.journal.list < held.old.sb.mem) }
     ensures ok { (x : Contents) (cached : Blocks)
         → StandsWith (D.view disk.old) (held_of held.old cached) x
         → IsAppliedTo (D.view disk.new) (held_of held.old cached) x

@@ -1,7 +1,8 @@
 use Rattle.std.proofs.Common.{refl, ap, ◌∙◌, subst, arith, ℕ}
 use Rattle.def_crash.specs.Blocks.{KeepsTaken}
+use Rattle.strat_journal.specs.Log.{batch_region}
 use Rattle.strat_memory.specs.RecoveredFields.{held_of, empty_cache}
-use Rattle.strat_store.proofs.ChangingLemmas.{cursors_stay, log_of, kept_more, breaks, takes, step_trail, told_trail, carries, finds_none, room_kept}
+use Rattle.strat_store.proofs.ChangingLemmas.{cursors_stay, log_of, region_low, kept_more, breaks, takes, step_trail, told_trail, carries, finds_none, room_kept}
 use Rattle.strat_store.proofs.LeavingLemmas.{logged_leaves, taken_calm, taken_well}
 use Rattle.strat_memory.specs.Memory.{Memory}
 use Rattle.strat_publish.specs.Publishing.{is_in_front}
@@ -11,7 +12,7 @@ pub log_change-requires-clause-none : goal.log_change-requires-clause-none
 log_change-requires-clause-none g c = (c.requires.kept (empty_cache 0)).log.batch
 
 pub log_change-requires-clause-room : goal.log_change-requires-clause-room
-log_change-requires-clause-room g c = omega (arith, c.requires.room, (c.requires.kept (empty_cache 0)).log.mem)
+log_change-requires-clause-room g c = omega (arith, c.requires.room.0, (c.requires.kept (empty_cache 0)).log.mem)
 
 pub log_change-requires-clause-kept : goal.log_change-requires-clause-kept
 log_change-requires-clause-kept g c =
@@ -28,20 +29,20 @@ returns-in_default-clause-trail g c x cached stands =
     let kept = c.requires.kept cached in
     let logged =
     c.log_change.ensures.trail x stands.stands (log_of c.args.held.now cached kept x stands.held)
-    (takes c.args.held.now cached kept (g.D.Disk.view c.args.disk.now) x stands _ c.requires.none c.requires.room) in
-    (step_trail c.args.held.now cached kept (g.D.Disk.view c.args.disk.now) x stands _ c.requires.none c.requires.room (g.D.Disk.view c.log_change.new.disk) 0 logged.0, logged.1)
+    (takes c.args.held.now cached kept (g.D.Disk.view c.args.disk.now) x stands _ c.requires.none c.requires.room.0) in
+    (step_trail c.args.held.now cached kept (g.D.Disk.view c.args.disk.now) x stands _ c.requires.none c.requires.room.0 (g.D.Disk.view c.log_change.new.disk) 0 logged.0, logged.1)
 
 pub take-requires-clause-room : goal.take-requires-clause-room
 take-requires-clause-room g c =
-    room_kept (held_of c.args.held.now (empty_cache 0)) (c.requires.kept (empty_cache 0)) _ c.requires.room
+    room_kept (held_of c.args.held.now (empty_cache 0)) (c.requires.kept (empty_cache 0)) _ c.requires.room.0 c.requires.room.1
 
 pub returns-clause-ok : goal.returns-clause-ok
 returns-clause-ok g c x cached stands =
     let kept = c.requires.kept cached in
     let of = log_of c.args.held.now cached kept x stands.held in
-    carries c.args.held.now cached kept (g.D.Disk.view c.args.disk.now) x stands _ c.requires.none c.requires.room (g.D.Disk.view c.log_change.new.disk) c.log_change.new.journal c.take.new.self c.take.result
+    carries c.args.held.now cached kept (g.D.Disk.view c.args.disk.now) x stands _ c.requires.none c.requires.room.0 (g.D.Disk.view c.log_change.new.disk) c.log_change.new.journal c.take.new.self c.take.result
     c.in-Ok.ensures.ok c.take.ensures.found
-    (c.in-Ok.ensures.kept x stands.stands of (takes c.args.held.now cached kept (g.D.Disk.view c.args.disk.now) x stands _ c.requires.none c.requires.room)).1
+    (c.in-Ok.ensures.kept x stands.stands of (takes c.args.held.now cached kept (g.D.Disk.view c.args.disk.now) x stands _ c.requires.none c.requires.room.0)).1
     c.in-Ok.ensures.same
 
 pub returns-clause-trail : goal.returns-clause-trail
@@ -49,14 +50,14 @@ returns-clause-trail g c x cached stands =
     let kept = c.requires.kept cached in
     let of = log_of c.args.held.now cached kept x stands.held in
     let may = takes c.args.held.now cached kept (g.D.Disk.view c.args.disk.now) x stands _ c.requires.none c.requires.room in (
-      told_trail c.args.held.now cached kept (g.D.Disk.view c.args.disk.now) x stands _ c.requires.none c.requires.room (g.D.Disk.view c.log_change.new.disk) c.take.result c.take.ensures.found
+      told_trail c.args.held.now cached kept (g.D.Disk.view c.args.disk.now) x stands _ c.requires.none c.requires.room.0 (g.D.Disk.view c.log_change.new.disk) c.take.result c.take.ensures.found
           (c.in-Ok.ensures.kept x stands.stands of may).0,
       (c.log_change.ensures.trail x stands.stands of may).1,
     )
 
 pub returns-clause-kept : goal.returns-clause-kept
 returns-clause-kept g c calm cached =
-    kept_more c.args.held.now cached (c.requires.kept cached) _ c.requires.fits c.requires.none c.requires.room c.log_change.new.journal c.take.new.self c.in-Ok.ensures.ok c.take.ensures.ok
+    kept_more c.args.held.now cached (c.requires.kept cached) _ c.requires.fits c.requires.none c.requires.room.0 c.requires.room.1 c.log_change.new.journal c.take.new.self c.in-Ok.ensures.ok c.take.ensures.ok
 
 pub returns-clause-same : goal.returns-clause-same
 returns-clause-same g c =
@@ -74,9 +75,9 @@ returns-clause-images g c =
 pub returns-in_default-clause-disk : goal.returns-in_default-clause-disk
 returns-in_default-clause-disk g c = λ cached.
     logged_leaves (g.D.Disk.view c.args.disk.now) (g.D.Disk.view c.log_change.new.disk) (held_of c.args.held.now cached) (held_of (record c.args.held.now { journal = c.log_change.new.journal }) cached)
-    (c.requires.kept cached) (record { slot = refl; sb = refl; chained = refl; levels = refl; filters = refl }) c.log_change.ensures.images c.log_change.ensures.time
+    (batch_region c.args.held.now.journal) (c.requires.kept cached) (region_low c.args.held.now cached (c.requires.kept cached)) (record { slot = refl; sb = refl; chained = refl; levels = refl; filters = refl }) c.log_change.ensures.images c.log_change.ensures.time
 
 pub returns-clause-disk : goal.returns-clause-disk
 returns-clause-disk g c = λ cached.
     logged_leaves (g.D.Disk.view c.args.disk.now) (g.D.Disk.view c.log_change.new.disk) (held_of c.args.held.now cached) (held_of (record c.args.held.now { journal = c.log_change.new.journal; memory = c.take.new.self }) cached)
-    (c.requires.kept cached) (record { slot = refl; sb = refl; chained = refl; levels = refl; filters = refl }) c.log_change.ensures.images c.log_change.ensures.time
+    (batch_region c.args.held.now.journal) (c.requires.kept cached) (region_low c.args.held.now cached (c.requires.kept cached)) (record { slot = refl; sb = refl; chained = refl; levels = refl; filters = refl }) c.log_change.ensures.images c.log_change.ensures.time

@@ -1,4 +1,4 @@
-use Rattle.std.proofs.Common.{◌≡◌, ◌∙◌, length, Err, ap, sym, arith}
+use Rattle.std.proofs.Common.{◌≡◌, ◌<◌, ◌∙◌, length, Err, ap, sym, arith}
 use Rattle.std.specs.Prelude.{Result, IsErrOf}
 use Rattle.std.proofs.lemmas.List.{length-drop}
 use Rattle.strat_model.specs.Answer.{accepts}
@@ -42,7 +42,9 @@ carry_out-requires-clause-kept g c = c.in_default.ensures.kept tt
 pub carry_out-requires-clause-room : goal.carry_out-requires-clause-room
 carry_out-requires-clause-room g c =
     let kept = c.requires.kept (empty_cache 0) in
-    omega (arith, ap length c.in_default.ensures.found.2, length-drop c.args.held.now.sb.mem c.args.held.now.journal.list, c.publish.ensures.same.0, kept.log.few, kept.lawful.mem_least)
+    let low : length c.publish.new.held.journal.list < c.publish.new.held.sb.mem =
+    omega (arith, ap length c.in_default.ensures.found.2, length-drop c.args.held.now.sb.mem c.args.held.now.journal.list, c.publish.ensures.same.0, kept.log.few, kept.lawful.mem_least) in
+    (omega (arith, low, c.publish.ensures.same.0, kept.lawful.mem_least), λ unsealed. low)
 
 pub returns-clause-ok : goal.returns-clause-ok
 returns-clause-ok g c x cached stands =

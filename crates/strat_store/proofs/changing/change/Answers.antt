@@ -1,4 +1,4 @@
-use Rattle.std.proofs.Common.{◌≡◌, Some, None, refl, sym, ap, ◌∙◌, arith}
+use Rattle.std.proofs.Common.{◌≡◌, ◌<◌, length, Some, None, refl, sym, ap, ◌∙◌, arith}
 use Rattle.strat_model.specs.Answer.{accepts}
 use Rattle.strat_model.specs.declared.replies.Refusal.TheVariants as why
 use Rattle.def_crash.proofs.MomentLemmas.{reads_refl}
@@ -25,7 +25,8 @@ carry_out_anew-requires-clause-room g c =
 pub carry_out-requires-clause-room : goal.carry_out-requires-clause-room
 carry_out-requires-clause-room g c =
     let kept = c.requires.kept (empty_cache 0) in
-    omega (arith, c.if-count-held.false, c.count.ensures.ok, kept.log.mem, kept.log.few)
+    let low : length c.args.held.now.journal.list < c.args.held.now.sb.mem = omega (arith, c.if-count-held.false, c.count.ensures.ok, kept.log.mem, kept.log.few) in
+    (omega (arith, low, kept.lawful.mem_least), λ unsealed. low)
 
 pub returns-in-Some-clause-disk : goal.returns-in-Some-clause-disk
 returns-in-Some-clause-disk g c = λ cached.
