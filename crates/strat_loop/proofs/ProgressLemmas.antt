@@ -45,8 +45,6 @@ use Rattle.strat_loop.specs.Session.{Took, IsAtEnd, FailsAsMet, WaitsForNone}
 use Rattle.strat_loop.specs.Pending.{Pending, ArePending}
 use Rattle.strat_loop.specs.Progress.{ServesSoFar, RunSoFar}
 use Rattle.strat_loop.specs.World.{World}
-use Rattle.def_slice.specs.Filling.{IsFillFrom}
-use Rattle.def_slice.proofs.FillingLemmas.{fill_then}
 use Rattle.strat_loop.proofs.AnswerLemmas.{told_damaged}
 use Rattle.strat_loop.proofs.BeginLemmas.{opens_begins, stands_bare}
 use Rattle.strat_loop.proofs.PendingLemmas.{ahead_more, ahead_within, are_more, sent_then}
@@ -93,18 +91,6 @@ took_none s = record { exposed = λ left e. (left, refl, e); hidden = λ e. e }
 -- nothing was sent
 sent_none : (s : Option (List ℕ)) → Appends s s []
 sent_none s = record { exposed = λ h e. e ∙ ap (λ (x : List ℕ). Some x) (sym (append-nil h)); hidden = λ e. e }
-
--- one more position at which no more changes are in the journal than a region takes, or as many as first
-few_more : (mem first : ℕ) (xs : List Exchange) (x : Exchange) → AllByRecursion (λ (y : Exchange). IsFillFrom mem first y.at.fill) xs → IsFillFrom mem first x.at.fill
-    → AllByRecursion (λ (y : Exchange). IsFillFrom mem first y.at.fill) (xs ++ x ∷ [])
-few_more mem first [] x each few = (few, tt)
-few_more mem first (y ∷ ys) x each few = (each.0, few_more mem first ys x each.1 few)
-
--- and so at all positions of a run
-pub few_all : (mem first : ℕ) (xs : List Exchange) (ps : List Position) → AllByRecursion (λ (x : Exchange). IsFillFrom mem first x.at.fill) xs → AllByRecursion (λ (p : Position). IsFillFrom mem first p.fill) ps
-    → AllByRecursion (λ (p : Position). IsFillFrom mem first p.fill) (map (λ (x : Exchange). x.at) xs ++ ps)
-few_all mem first [] ps each last = last
-few_all mem first (x ∷ xs) ps each last = (each.0, few_all mem first xs ps each.1 last)
 
 -- one more body that fits
 pub each_more : (xs : List (List ℕ)) (x : List ℕ) → AllByRecursion IsBody xs → IsBody x → AllByRecursion IsBody (xs ++ x ∷ [])
@@ -252,8 +238,6 @@ module _ (speech : Speech) where
           rows = [];
           exchanges = [];
           run = refl;
-          region = tt;
-          fill = inr refl;
           bodies_are = refl;
           answers_are = refl;
           stands = stands_bare disk s there.0 opened.closed there.1;
@@ -433,8 +417,6 @@ module _ (speech : Speech) where
           exchanges = so_far.exchanges ++ latest ∷ [];
           run = run_more start.log.mem so_far.from at (position_at new is.after is.left) so_far.exchanges p.answers body response so_far.run
               (subst (λ (m : ℕ). Says speech m at body response (position_at new is.after is.left)) p.mem is.answers);
-          region = few_more start.log.mem so_far.from.fill so_far.exchanges latest so_far.region so_far.fill;
-          fill = fill_then start.log.mem so_far.from.fill (length old.log.list) (length new.log.list) so_far.fill (subst (λ (m : ℕ). IsFillFrom m (length old.log.list) (length new.log.list)) p.mem is.fill);
           bodies_are = map-append (λ (x : Exchange). x.body) so_far.exchanges (latest ∷ []) ∙ ap (λ (l : List (List ℕ)). l ++ body ∷ []) so_far.bodies_are;
           answers_are = map-append response_of p.answers (response ∷ []) ∙ ap (λ (l : List Response). l ++ response_of response ∷ []) so_far.answers_are ∙ sym (map-append (λ (x : Exchange). x.response) so_far.exchanges (latest ∷ []));
           stands = is.stands;

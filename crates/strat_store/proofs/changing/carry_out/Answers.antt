@@ -49,7 +49,7 @@ pub returns-clause-trail : goal.returns-clause-trail
 returns-clause-trail g c x cached stands =
     let kept = c.requires.kept cached in
     let of = log_of c.args.held.now cached kept x stands.held in
-    let may = takes c.args.held.now cached kept (g.D.Disk.view c.args.disk.now) x stands _ c.requires.none c.requires.room in (
+    let may = takes c.args.held.now cached kept (g.D.Disk.view c.args.disk.now) x stands _ c.requires.none c.requires.room.0 in (
       told_trail c.args.held.now cached kept (g.D.Disk.view c.args.disk.now) x stands _ c.requires.none c.requires.room.0 (g.D.Disk.view c.log_change.new.disk) c.take.result c.take.ensures.found
           (c.in-Ok.ensures.kept x stands.stands of may).0,
       (c.log_change.ensures.trail x stands.stands of may).1,
