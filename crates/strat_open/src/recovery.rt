@@ -298,6 +298,7 @@ fn recover_at<D: Disk>(
         journal,
         memory,
         filters: Filters::new(alloc),
+        promoting: None,
     })
 }
 

@@ -2,10 +2,11 @@
 //! disk.
 #![tactic(auto)]
 
+mod advance;
 mod checkpoint;
 mod lay;
 mod next_manifest;
 mod promote;
 pub mod publishing_laws;
 
-pub use checkpoint::publish;
+pub use advance::advance;

@@ -1,0 +1,88 @@
+//! An advance of a store whose journal is full: one slice of the promotion of what fills its active region.
+
+ghost use Rattle.std.specs.Prelude.{◌≡◌, ◌≤◌, ◌⊎◌, ℕ, List, [], ◌∷◌, length, None, IfOk, OnOk, OnErr, IsErrOf};
+ghost use Rattle.strat_array.specs.Kept.{Blocks};
+ghost use Rattle.def_crash.specs.Blocks.{AgreeOn};
+ghost use Rattle.def_crash.specs.Faults.{HasCause};
+ghost use Rattle.def_crash.specs.Image.{Image};
+ghost use Rattle.def_crash.specs.Moments.{Exposes, Passes};
+ghost use Rattle.def_crash.specs.Trail.{Trail};
+ghost use Rattle.strat_promote.specs.Job.{blocks_listed};
+ghost use Rattle.strat_promote.specs.declared.obstacle.Obstacle.TheVariants as obstacle;
+ghost use Rattle.strat_promote.specs.declared.obstacle.Obstacle.TheVariants.{Device, Damaged};
+ghost use Rattle.def_meaning.specs.StateTable.{table_of};
+ghost use Rattle.def_publish.specs.Contents.{Contents, contents_state};
+ghost use Rattle.def_publish.specs.Standing.{ShowsTable};
+ghost use Rattle.def_state.specs.State.{IsPaid};
+ghost use Rattle.strat_memory.specs.Held.{IsConsistent, IsOnDisk, StandsWith, arrays_held};
+ghost use Rattle.strat_memory.specs.Memory.{IsReadyFrom};
+ghost use Rattle.strat_memory.specs.Paying.{ArePaidSince};
+ghost use Rattle.strat_memory.specs.RecoveredFields.{held_of};
+ghost use Rattle.strat_publish.specs.Advancing.{HasAdvanced, HasEmptied, SlicesInBudget, StaysOpen};
+ghost use Rattle.strat_publish.specs.Outcomes.{IsDamagedIn, IsOkOrShort, RanShort};
+ghost use Rattle.strat_publish.specs.Settling.{KeepsCursors, KeepsPublished};
+
+use std::alloc::Global;
+use strat_disk::Disk;
+use strat_memory::open_store::OpenStore;
+use strat_promote::obstacle::Obstacle;
+
+/// Goes on with the promotion of what fills the active region of the journal, or begins it, by one slice. Level 0 is sealed
+/// before it begins. After the last slice a new manifest names what was made, and a new superblock makes that the store's: the
+/// journal has then what was behind the full region, nothing is sealed, and no promotion is open. Until then the promotion
+/// stays open, its blocks are free beside what the store holds, and the journal has room for the change that comes.
+///
+/// The budget of a slice is the least with which as many slices as changes may still come take all entries twice. A slice
+/// takes at least that many, and costs their share of both passes; publishing writes each block of the manifest once, and
+/// syncs five times at most.
+///
+/// All memory is taken before the superblock is laid. After an error no promotion is open: what it took is free again, and the
+/// next call begins anew. Else the store is then as it was, but that level 0 may be sealed. `Unfit`: too few blocks are free,
+/// an array would have more than 2^25 entries, or another bound of our own was reached; no store that stands on its disk
+/// reaches one. `Damaged` names a block of the store's arrays that is no block of entries, or is out of order: no store that
+/// stands on its disk has one. After `Device` only recovery can tell which contents the disk holds; both mean the same table.
+pub fn advance<D: Disk>(alloc: Global, held: &mut OpenStore, disk: &mut D) -> Result<(), Obstacle>
+    requires kept { ((cached : Blocks) → IsConsistent (held_of held.old cached))
+        × (held.old.sb.mem ≤ length held.old.journal.list) }
+    ensures ok { OnOk result ((x : Contents) (cached : Blocks)
+        → StandsWith (D.view disk.old) (held_of held.old cached) x
+        → HasAdvanced (D.view disk.new) (held_of held.old cached) x (held_of held.new cached)) }
+    ensures budget { OnOk result ((f : Image) (x : Contents) (cached : Blocks)
+        → Exposes (D.view disk.old) f → StandsWith (D.view disk.old) (held_of held.old cached) x
+        → SlicesInBudget f (held_of held.old cached) x (held_of held.new cached).promoting) }
+    ensures found { OnOk result ((cached : Blocks)
+        → StaysOpen (held_of held.old cached) (held_of held.new cached)
+        ⊎ HasEmptied (held_of held.old cached) (held_of held.new cached)) }
+    ensures disk { (IsErrOf result Device → ⊥) → (cached : Blocks)
+        → IsOnDisk (D.view disk.old) (held_of held.old cached)
+        → IsOnDisk (D.view disk.new) (held_of held.new cached) }
+    ensures none { RanShort result → (x : Contents) (cached : Blocks)
+        → StandsWith (D.view disk.old) (held_of held.old cached) x
+        → StandsWith (D.view disk.new) (held_of held.new cached) x }
+    ensures trail { (x : Contents) (cached : Blocks)
+        → StandsWith (D.view disk.old) (held_of held.old cached) x
+        → Trail ShowsTable (D.view disk.new) (D.view disk.old).moment
+        (table_of (contents_state x) ∷ []) 0
+        × (IsPaid (contents_state x) → ArePaidSince (D.view disk.new) (D.view disk.old).moment) }
+    ensures kept { IsOkOrShort result → (cached : Blocks)
+        → IsConsistent (held_of held.new cached) }
+    ensures same { (held.new.sb.mem ≡ held.old.sb.mem)
+        × (held.new.memory.parents ≡ held.old.memory.parents)
+        × (RanShort result → (held.new.journal ≡ held.old.journal)
+        × IsReadyFrom held.old.sb.mem held.old.memory held.new.memory)
+        × OnErr result ((held.new.promoting ≡ None) × ((cached : Blocks)
+        → KeepsPublished (held_of held.old cached) (held_of held.new cached)
+        × KeepsCursors (held_of held.old cached) (held_of held.new cached))) }
+    ensures err { IsErrOf result obstacle.Unfit → (x : Contents) (cached : Blocks)
+        → StandsWith (D.view disk.old) (held_of held.old cached) x → ⊥ }
+    ensures images { Passes (D.view disk.old) (D.view disk.new)
+        × ((f g : Image) → Exposes (D.view disk.old) f → Exposes (D.view disk.new) g
+        → AgreeOn (blocks_listed (arrays_held held.old.memory held.old.published.levels)) f g) }
+    ensures cause { HasCause Device (D.faults disk.old) (D.faults disk.new) result }
+    ensures damaged { (b : ℕ) → IsErrOf result (Damaged b)
+        → IsDamagedIn (D.view disk.old).content held.old.memory held.old.published.levels b
+        × ((x : Contents) (cached : Blocks)
+        → StandsWith (D.view disk.old) (held_of held.old cached) x → ⊥) }
+{
+    Err(Obstacle::NoMemory)
+}
