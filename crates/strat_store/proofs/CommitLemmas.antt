@@ -1,5 +1,5 @@
 -- Staged changes that become durable: what the disk then has, and that the store stands on it.
-use Rattle.std.proofs.Common.{◌≡◌, ◌<◌, ◌≤◌, ◌+◌, ℕ, Bool, true, false, List, length, refl, ap, subst, arith}
+use Rattle.std.proofs.Common.{◌≡◌, ◌<◌, ◌≤◌, ◌+◌, ℕ, Bool, true, false, List, length, refl, sym, ap, subst, arith}
 use Rattle.def_crash.specs.Blocks.{AgreeOn, KeepsTaken}
 use Rattle.def_crash.specs.Image.{Image}
 use Rattle.def_crash.specs.Moments.{DiskView, Exposes}
@@ -14,7 +14,7 @@ use Rattle.def_publish.proofs.AppendLemmas.{appended_stands, appended_trail, eit
 use Rattle.def_publish.proofs.BatchLemmas.{batch_sound}
 use Rattle.def_state.specs.Sound.{IsSound}
 use Rattle.def_state.specs.State.{IsPaid}
-use Rattle.strat_memory.specs.Held.{Held, IsConsistent, IsOnDisk, StandsAt, StandsWith, arrays_held}
+use Rattle.strat_memory.specs.Held.{Held, IsConsistent, IsOnDisk, IsOpenAt, StandsAt, StandsWith, arrays_held}
 use Rattle.strat_memory.specs.Paying.{ArePaidSince}
 use Rattle.strat_promote.specs.Job.{blocks_listed}
 use Rattle.strat_publish.specs.Publishing.{is_in_front}
@@ -22,6 +22,7 @@ use Rattle.strat_publish.specs.Settling.{KeepsPublished, LeavesPublished}
 use Rattle.strat_store.specs.Staging.{FollowsBatch, held_joined}
 use Rattle.strat_store.proofs.AppliedLemmas.{going_kept, rows_kept}
 use Rattle.strat_store.proofs.ChangingLemmas.{cached_behind}
+use Rattle.strat_store.proofs.GoingLemmas.{none_open, open_none}
 use Rattle.strat_store.proofs.LeavingLemmas.{front_keeps, leaves_room, logged_leaves}
 use Rattle.strat_store.proofs.LoggingLemmas.{appended_behind, batch_low, batch_paid, taking_here}
 use Rattle.strat_store.proofs.StagingLemmas.{staged_log, takes_batch}
@@ -92,6 +93,8 @@ module _ (old new : DiskView) (s : Held) (whole : IsConsistent (held_joined s)) 
             held = ap (λ (z : Contents). with_batch z s.log.batch) at.stands.held;
             cached = cached_behind f g (held_joined s) whole (behind f g at.stands.stands.exposed now.exposed) at.stands.cached;
             filtered = at.stands.filtered;
+            open_over = open_none s.promoting (IsOpenAt g (held_joined s) (with_batch x s.log.batch) (length (held_joined s).log.list))
+                (none_open f s x (length s.log.list) s.promoting (subst (λ (z : Contents). length z.journal < z.sb.mem) (sym at.stands.held) (omega (arith, room, whole.log.mem))) at.stands.open_over);
           };
           rows_are = rows_kept f g (held_joined s) whole same rows at.rows_are;
           going = λ k of. going_kept f g (held_joined s) whole same k of (at.going k of);

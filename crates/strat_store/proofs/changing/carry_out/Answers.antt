@@ -21,7 +21,7 @@ log_change-requires-clause-kept g c =
 
 pub returns-in_default-clause-ok : goal.returns-in_default-clause-ok
 returns-in_default-clause-ok g c x cached stands =
-    breaks c.args.held.now cached (c.requires.kept cached) (g.D.Disk.view c.args.disk.now) x stands _ c.requires.none
+    breaks c.args.held.now cached (c.requires.kept cached) (g.D.Disk.view c.args.disk.now) x stands.stands _ c.requires.none
     (record c.args.held.now { journal = c.log_change.new.journal }) (g.D.Disk.view c.log_change.new.disk)
 
 pub returns-in_default-clause-trail : goal.returns-in_default-clause-trail
@@ -37,11 +37,12 @@ take-requires-clause-room g c =
     room_kept (held_of c.args.held.now (empty_cache 0)) (c.requires.kept (empty_cache 0)) _ c.requires.room.0 c.requires.room.1
 
 pub returns-clause-ok : goal.returns-clause-ok
-returns-clause-ok g c x cached stands =
+returns-clause-ok g c x cached one =
     let kept = c.requires.kept cached in
+    let stands = one.stands in
     let of = log_of c.args.held.now cached kept x stands.held in
     carries c.args.held.now cached kept (g.D.Disk.view c.args.disk.now) x stands _ c.requires.none c.requires.room.0 (g.D.Disk.view c.log_change.new.disk) c.log_change.new.journal c.take.new.self c.take.result
-    c.in-Ok.ensures.ok c.take.ensures.found
+    one.next c.in-Ok.ensures.ok c.take.ensures.ok c.take.ensures.found
     (c.in-Ok.ensures.kept x stands.stands of (takes c.args.held.now cached kept (g.D.Disk.view c.args.disk.now) x stands _ c.requires.none c.requires.room.0)).1
     c.in-Ok.ensures.same
 
@@ -65,7 +66,7 @@ returns-clause-same g c =
     (refl, finds_none c.args.held.now.memory _ c.take.result c.take.ensures.found, well.0, well.1, taken_calm c.args.held.now.memory _ c.take.result c.take.ensures.found)
 
 pub returns-clause-found : goal.returns-clause-found
-returns-clause-found g c = (ap (λ (m : Memory). m.cursors) c.take.ensures.ok ∙ cursors_stay c.args.held.now.memory _, c.take.ensures.kept)
+returns-clause-found g c = (ap (λ (m : Memory). m.cursors) c.take.ensures.ok ∙ cursors_stay c.args.held.now.memory _, c.take.ensures.kept, λ cached. refl)
 
 pub returns-clause-images : goal.returns-clause-images
 returns-clause-images g c =

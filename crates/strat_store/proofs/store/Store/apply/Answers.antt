@@ -3,6 +3,7 @@ use Rattle.strat_model.specs.Answer.{as_told}
 use Rattle.strat_model.specs.Command.{request_of}
 use Rattle.strat_store.specs.Cursoring.{IsAppliedAt}
 use Rattle.strat_memory.specs.RecoveredFields.{held_of}
+use Rattle.strat_store.proofs.GoingLemmas.{stands_going}
 use Rattle.strat_store.proofs.ApplyLemmas.{old_after, spent_at, spent_consistent, spent_reads, spent_tells}
 use Rattle.strat_memory.proofs.PayingLemmas.{stored_since}
 use Rattle.strat_store.proofs.StagingLemmas.{as_ever, ever_joined, fits_none, replies_none}
@@ -64,7 +65,7 @@ returns-clause-found g c =
 pub returns-clause-trail : goal.returns-clause-trail
 returns-clause-trail g c =
     rw (← c.self.view_is) (λ x stands.
-    let trail = c.answer-told.ensures.trail x (record { stands = stands.stands; held = stands.held; cached = stands.cached; filtered = stands.filtered }) in
+    let trail = c.answer-told.ensures.trail x (stands_going (g.D.Disk.view c.args.disk.now) c.self.inside.held c.self.inside.cache c.self.inside.spent x stands) in
     (trail, stored_since (g.D.Disk.view c.answer-told.new.disk) (g.D.Disk.view c.args.disk.now).moment _ _ trail))
 
 pub returns-clause-reads : goal.returns-clause-reads
