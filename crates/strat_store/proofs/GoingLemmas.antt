@@ -24,7 +24,7 @@ use Rattle.strat_memory.specs.Held.{Held, IsConsistent, IsOpenAt, MayGoOnWith, S
 use Rattle.strat_memory.specs.Memory.{IsReadyFrom, Memory, SealedLevel, memory_after, prepared, refusal_of_change, sealed_off, unsealed}
 use Rattle.strat_memory.specs.RecoveredFields.{held_of, open_of}
 use Rattle.strat_memory.specs.declared.open_store.OpenStore.{OpenStore}
-use Rattle.strat_publish.specs.Advancing.{HasAdvanced, HasEmptied, StandsForMore, StaysOpen}
+use Rattle.strat_publish.specs.Advancing.{HasAdvanced, HasEmptied, SlicesInBudget, StandsForMore, StaysOpen}
 use Rattle.strat_publish.specs.Counting.{CountsWritten}
 use Rattle.strat_publish.specs.Outcomes.{IsPublishedAs}
 use Rattle.strat_publish.specs.Publishing.{is_in_front}
@@ -222,3 +222,7 @@ advanced_open v s mid x stays (inr done) = absurd (none_some stays.promotion mid
 pub advanced_published : (v : DiskView) (s mid : Held) (x : Contents) → HasEmptied s mid → HasAdvanced v s x mid → IsPublishedAs v x mid × CountsWritten s.chained.manifest mid.chained.manifest
 advanced_published v s mid x emptied (inl more) = absurd (none_some more.promotion mid.promoting more.open_is emptied.published.closed)
 advanced_published v s mid x emptied (inr done) = (done.1, done.2)
+
+-- a promotion keeps to its budget whether a store is spent or not
+pub spent_slices : (f : Image) (s : Held) (x : Contents) (b : Bool) (now : Option OpenPromotion) → SlicesInBudget f s x now → SlicesInBudget f (record s { spent = b }) x now
+spent_slices f s x b now slices = slices

@@ -142,10 +142,10 @@ fn carry_out_behind<D: Disk>(
     disk: &mut D,
     change: &Change<'_>,
 ) -> Reply
-    requires kept { (cached : Blocks) → IsConsistent (held_of held.old cached) }
+    requires kept { ((cached : Blocks) → IsConsistent (held_of held.old cached))
+        × (held.old.sb.mem ≤ length held.old.journal.list) }
     requires fits { IsTrue (is_lawful (change_of change.now)) }
     requires none { refusal_of_change held.old.memory (change_of change.now) ≡ None }
-    requires room { held.old.sb.mem ≤ length held.old.journal.list }
     ensures ok { (x : Contents) (cached : Blocks)
         → StandsWith (D.view disk.old) (held_of held.old cached) x
         → IsAppliedTo (D.view disk.new) (held_of held.old cached) x
@@ -222,8 +222,8 @@ pub(crate) fn change<D: Disk>(
         × (held.old.journal.mem ≤ length held.old.journal.list) }
     ensures same { (held.new.sb.mem ≡ held.old.sb.mem) × (result ≢ reply.Found)
         × KeepsRows held.old.memory held.new.memory }
-    ensures time { Passes (D.view disk.old) (D.view disk.new) }
-    ensures cause { FailsAsTold (D.faults disk.old) (D.faults disk.new) result }
+    ensures cause { FailsAsTold (D.faults disk.old) (D.faults disk.new) result
+        × Passes (D.view disk.old) (D.view disk.new) }
 {
     if let Some(refusal) = held.memory.refusal(change) {
         return Reply::Refused(refusal);

@@ -41,6 +41,7 @@ ghost use Rattle.strat_store.specs.Ranging.{HasPairsFor, ReadsForLook, TellsFrom
 ghost use Rattle.strat_store.specs.Staging.{FollowsBatch, IsStaged, held_joined, may_stage, replies_staged, reply_of_commit, with_staged};
 ghost use Rattle.strat_memory.specs.RecoveredFields.{held_of, empty_cache};
 ghost use Rattle.strat_store.specs.Applying.{held_after};
+ghost use Rattle.strat_publish.specs.Advancing.{SlicesInBudget};
 ghost use Rattle.strat_publish.specs.Settling.{LeavesPublished, carries_out};
 ghost use Rattle.strat_open.specs.declared.attach_fault.AttachFault.TheVariants as fault;
 
@@ -232,10 +233,16 @@ fn answer<D: Disk>(
         (as_told result out.new) (held_after held.new cache.new result)
         × ReadsForLook (held_of held.old cache.old) (request_of command.now)
         (D.reads disk.old) (D.reads disk.new) }
-    ensures time { Passes (D.view disk.old) (D.view disk.new) }
+    ensures budget { carries_out (request_of command.now) result ≡ true
+        → held.old.sb.mem ≤ length held.old.journal.list → (f : Image) (x : Contents)
+        → Exposes (D.view disk.old) f
+        → StandsWith (D.view disk.old) (held_of held.old cache.old) x
+        → SlicesInBudget f (held_of held.old cache.old) x
+        (held_of held.new cache.new).promoting }
     ensures cause { FailsAsTold (D.faults disk.old) (D.faults disk.new) result
         × TellsTroubleOf (D.view disk.old) (held_of held.old cache.old)
-        (request_of command.now) result }
+        (request_of command.now) result
+        × Passes (D.view disk.old) (D.view disk.new) }
     ensures damaged { (b : ℕ) → result ≡ reply.Refused (why.Damaged b)
         → IsDamagedIn (D.view disk.old).content held.old.memory held.old.published.levels b }
 {
@@ -366,10 +373,14 @@ impl Store {
     /// Carries out one command. The pairs of its answer are in `out`, which is emptied first.
     ///
     /// A change is durable before it is answered: two writes and two syncs, and in memory one insertion into level 0, or
-    /// O(log versions_max) for a clone. It takes no memory. A change that meets a full journal, one in `mem`, makes a
-    /// checkpoint first. That reads the blocks that it merges twice, writes the new arrays and the manifest once, and syncs
-    /// five times at most. It takes its memory before anything of the store is replaced; without it the answer is
-    /// `NoMemory`, and the store is as it was.
+    /// O(log versions_max) for a clone. It takes no memory.
+    ///
+    /// A change that meets a full journal also does one slice of a promotion, which empties that into the levels; the first
+    /// one begins it. A promotion reads the blocks that it merges twice and writes the new arrays once, and each slice takes
+    /// such a share that the last one comes while the journal has room: up to 2 `mem` - 2 changes. The change of the last slice
+    /// also writes the manifest and syncs five times at most. A slice takes its memory before anything of the store is
+    /// replaced. Without it the answer is `NoMemory`, the promotion is given up and begins anew with the next change, and all
+    /// else is as it was.
     ///
     /// A get asks level 0, and then one array of each level at most, but none whose filter refuses the key. A scan goes through
     /// level 0 and one array of each level, pair by pair. In an array of fewer than 2^n blocks either reads n + 4 at most to
@@ -414,11 +425,15 @@ impl Store {
             (carries_out (request_of command.now) result) result self.new
             × LeavesCursors self.old (request_of command.now) (as_told result out.new)
             self.new }
-        ensures time { Passes (D.view disk.old) (D.view disk.new) }
         ensures cause { FailsAsTold (D.faults disk.old) (D.faults disk.new) result
-            × TellsTroubleOf (D.view disk.old) self.old (request_of command.now) result }
+            × TellsTroubleOf (D.view disk.old) self.old (request_of command.now) result
+            × Passes (D.view disk.old) (D.view disk.new) }
         ensures reads { ReadsForLook self.old (request_of command.now)
             (D.reads disk.old) (D.reads disk.new) }
+        ensures budget { carries_out (request_of command.now) result ≡ true
+            → self.old.sb.mem ≤ length self.old.log.list → (f : Image) (x : Contents)
+            → Exposes (D.view disk.old) f → StandsWith (D.view disk.old) self.old x
+            → SlicesInBudget f self.old x self.new.promoting }
         ensures damaged { (b : ℕ) → result ≡ reply.Refused (why.Damaged b)
             → IsDamagedIn (D.view disk.old).content self.old.memory self.old.levels b }
     {

@@ -27,11 +27,11 @@ handed : {T : Type 0} {t u : Obstacle} → t ≡ u → IsErrOf {T = T} (Err t) u
 handed same = λ i. Err (same i)
 
 pub advance-requires : goal.advance-requires
-advance-requires g c = record { kept = (c.requires.kept, c.requires.room) }
+advance-requires g c = record { kept = c.requires.kept }
 
 pub returns-in-Err-clause-ok : goal.returns-in-Err-clause-ok
 returns-in-Err-clause-ok g c x cached stands =
-    told_up c.args.held.now cached (c.requires.kept cached) (g.D.Disk.view c.args.disk.now) x stands _ c.requires.none c.requires.room c.advance.new.held (g.D.Disk.view c.advance.new.disk)
+    told_up c.args.held.now cached (c.requires.kept.0 cached) (g.D.Disk.view c.args.disk.now) x stands _ c.requires.none c.requires.kept.1 c.advance.new.held (g.D.Disk.view c.advance.new.disk)
     (told_as c.in-Err.obstacle) c.refusal_of.result c.refusal_of.ensures.ok (λ short. c.in-Err.ensures.none short x cached stands) (λ short. (c.in-Err.ensures.same.2 short).0)
     (λ b bad. (c.in-Err.ensures.damaged b (handed (damaged_told c.in-Err.obstacle b bad))).1 x cached stands)
 
@@ -61,7 +61,7 @@ pub carry_out-requires-clause-room : goal.carry_out-requires-clause-room
 carry_out-requires-clause-room g c =
     let s = held_of c.args.held.now (empty_cache 0) in
     let mid = held_of c.advance.new.held (empty_cache 0) in
-    let kept = c.requires.kept (empty_cache 0) in
+    let kept = c.requires.kept.0 (empty_cache 0) in
     elim (c.in_default.ensures.found (empty_cache 0)) [
       | inl stays ↦ (
         omega (arith, ap (λ (l : Log). length l.list) (log_stays s mid stays), c.advance.ensures.same.0, stays.room),
@@ -80,15 +80,15 @@ returns-clause-ok g c x cached stands =
     let w = g.D.Disk.view c.carry_out.new.disk in
     let s = held_of c.args.held.now cached in
     let mid = held_of c.advance.new.held cached in
-    let kept = c.requires.kept cached in
+    let kept = c.requires.kept.0 cached in
     let went = c.in_default.ensures.ok x cached stands in
     elim (c.in_default.ensures.found cached) [
       | inl stays ↦
-          carried_behind c.args.held.now cached kept v x stands _ c.requires.none c.requires.room c.advance.new.held u c.carry_out.new.held w c.carry_out.result (log_stays s mid stays)
+          carried_behind c.args.held.now cached kept v x stands _ c.requires.none c.requires.kept.1 c.advance.new.held u c.carry_out.new.held w c.carry_out.result (log_stays s mid stays)
           (c.carry_out.ensures.ok x cached (one_open u mid x (advanced_open u s mid x stays went)))
       | inr emptied ↦
           let p = (advanced_published u s mid x emptied went).0 in
-          renewed c.args.held.now cached kept v x stands _ c.requires.none c.requires.room c.advance.new.held u (c.in_default.ensures.kept tt cached) c.advance.ensures.same.0 emptied.journal p
+          renewed c.args.held.now cached kept v x stands _ c.requires.none c.requires.kept.1 c.advance.new.held u (c.in_default.ensures.kept tt cached) c.advance.ensures.same.0 emptied.journal p
           c.carry_out.new.held w c.carry_out.result (c.carry_out.ensures.ok p.after cached (one_published u mid p.after emptied.published.closed p.stands))
     ]
 
@@ -99,16 +99,16 @@ returns-clause-trail g c x cached stands =
     let w = g.D.Disk.view c.carry_out.new.disk in
     let s = held_of c.args.held.now cached in
     let mid = held_of c.advance.new.held cached in
-    let kept = c.requires.kept cached in
+    let kept = c.requires.kept.0 cached in
     let went = c.in_default.ensures.ok x cached stands in
     let first = (c.advance.ensures.trail x cached stands).0 in
     elim (c.in_default.ensures.found cached) [
       | inl stays ↦
-          renewed_trail c.args.held.now cached kept v x stands _ c.requires.none c.requires.room c.advance.new.held u x w c.carry_out.result refl c.carry_out.ensures.images.0 first
+          renewed_trail c.args.held.now cached kept v x stands _ c.requires.none c.requires.kept.1 c.advance.new.held u x w c.carry_out.result refl c.carry_out.ensures.images.0 first
           (c.carry_out.ensures.trail x cached (advanced_open u s mid x stays went).stands).0
       | inr emptied ↦
           let p = (advanced_published u s mid x emptied went).0 in
-          renewed_trail c.args.held.now cached kept v x stands _ c.requires.none c.requires.room c.advance.new.held u p.after w c.carry_out.result p.table c.carry_out.ensures.images.0 first
+          renewed_trail c.args.held.now cached kept v x stands _ c.requires.none c.requires.kept.1 c.advance.new.held u p.after w c.carry_out.result p.table c.carry_out.ensures.images.0 first
           (c.carry_out.ensures.trail p.after cached p.stands).0
     ]
 
@@ -127,7 +127,7 @@ returns-in-Err-clause-disk g c = λ cached.
 
 pub returns-clause-disk : goal.returns-clause-disk
 returns-clause-disk g c = λ cached.
-    let kept = c.requires.kept cached in
+    let kept = c.requires.kept.0 cached in
     let v = g.D.Disk.view c.args.disk.now in
     let u = g.D.Disk.view c.advance.new.disk in
     let w = g.D.Disk.view c.carry_out.new.disk in

@@ -18,10 +18,10 @@ pub returns-in-Some-clause-trail : goal.returns-in-Some-clause-trail
 returns-in-Some-clause-trail g c x cached stands =
     refused_trail c.args.held.now cached (c.requires.kept cached) (g.D.Disk.view c.args.disk.now) x stands _ c.in-Some.refusal (sym c.in-Some.ensures.ok)
 
-pub carry_out_behind-requires-clause-room : goal.carry_out_behind-requires-clause-room
-carry_out_behind-requires-clause-room g c =
+pub carry_out_behind-requires-clause-kept : goal.carry_out_behind-requires-clause-kept
+carry_out_behind-requires-clause-kept g c =
     let kept = c.requires.kept (empty_cache 0) in
-    omega (arith, c.if-count-held.true, c.count.ensures.ok, kept.log.mem, kept.log.few)
+    (c.requires.kept, omega (arith, c.if-count-held.true, c.count.ensures.ok, kept.log.mem, kept.log.few))
 
 pub carry_out-requires-clause-room : goal.carry_out-requires-clause-room
 carry_out-requires-clause-room g c =

@@ -3,7 +3,7 @@ use Rattle.strat_model.specs.Answer.{as_told}
 use Rattle.strat_model.specs.Command.{request_of}
 use Rattle.strat_store.specs.Cursoring.{IsAppliedAt}
 use Rattle.strat_memory.specs.RecoveredFields.{held_of}
-use Rattle.strat_store.proofs.GoingLemmas.{stands_going}
+use Rattle.strat_store.proofs.GoingLemmas.{spent_slices, stands_going}
 use Rattle.strat_store.proofs.ApplyLemmas.{old_after, spent_at, spent_consistent, spent_reads, spent_tells}
 use Rattle.strat_memory.proofs.PayingLemmas.{stored_since}
 use Rattle.strat_store.proofs.StagingLemmas.{as_ever, ever_joined, fits_none, replies_none}
@@ -73,3 +73,9 @@ returns-clause-reads g c =
     let before = g.D.Disk.reads c.args.disk.now in
     let now = g.D.Disk.reads c.answer-told.new.disk in
     rw (← c.self.view_is) (spent_reads (held_of c.self.inside.held c.self.inside.cache) c.self.inside.spent (request_of c.args.command.now) before now c.answer-told.ensures.same.3)
+
+pub returns-clause-budget : goal.returns-clause-budget
+returns-clause-budget g c =
+    rw (← c.self.view_is) (λ done full f x exposed stands.
+    spent_slices f (held_of c.self.inside.held c.self.inside.cache) x c.self.inside.spent _
+    (c.answer-told.ensures.budget done full f x exposed (stands_going (g.D.Disk.view c.args.disk.now) c.self.inside.held c.self.inside.cache c.self.inside.spent x stands)))
