@@ -278,7 +278,7 @@ impl Store {
         self.held.memory.counts().0
     }
 
-    /// How many changes its journal has, those since the last checkpoint: in the active region, and behind it in the other
+    /// How many changes its journal has, those that are in no level yet: in the active region, and behind it in the other
     /// one. O(1).
     pub fn journal_counts(&self) -> (u32, u32)
         ensures ok { (result.0 ≡ length (take self.now.log.mem self.now.log.list))
@@ -287,7 +287,7 @@ impl Store {
         self.held.journal.counts()
     }
 
-    /// Whether these are as many as a region takes, so that the next change makes a checkpoint first. O(1).
+    /// Whether these are as many as a region takes or more, so that the next change does a slice of a promotion first. O(1).
     pub fn is_journal_full(&self) -> bool
         ensures ok { IsTrue result ↔ (self.now.sb.mem ≤ length self.now.log.list) }
     {
