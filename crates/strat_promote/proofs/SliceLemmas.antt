@@ -76,7 +76,7 @@ pub agree_back : (blocks : List ℕ) (f g : Image) → AgreeOn blocks f g → Ag
 agree_back blocks f g agree = λ b here. let same = agree b here in record { byte = λ i from to. sym (same.byte i from to) }
 
 -- the arrays of a stage of a job have few blocks
-stage_few : (f : Image) (task : Task) (inputs : Inputs) (job : Job) (s : Stage) → IsReadySource task inputs → IsTaskIn f task inputs job → IsSteady task.horizon s → IsUnderway f job task.first s
+pub stage_few : (f : Image) (task : Task) (inputs : Inputs) (job : Job) (s : Stage) → IsReadySource task inputs → IsTaskIn f task inputs job → IsSteady task.horizon s → IsUnderway f job task.first s
     → length (blocks_of (all_extents (stage_writers s))) ≤ 2 ^ 25
 stage_few f task inputs job stage.Begun ready told steady underway = omega arith
 stage_few f task inputs job (stage.Counting c) ready told steady underway = omega arith

@@ -1,6 +1,6 @@
 //! An advance of a store whose journal is full: one slice of the promotion of what fills its active region.
 
-ghost use Rattle.std.specs.Prelude.{◌≡◌, ◌≤◌, ◌⊎◌, ℕ, List, [], ◌∷◌, length, None, IfOk, OnOk, OnErr, IsErrOf};
+ghost use Rattle.std.specs.Prelude.{◌≡◌, ◌≤◌, ◌⊎◌, ℕ, [], ◌∷◌, length, None, OnOk, OnErr, IsErrOf, Contains};
 ghost use Rattle.strat_array.specs.Kept.{Blocks};
 ghost use Rattle.def_crash.specs.Blocks.{AgreeOn};
 ghost use Rattle.def_crash.specs.Faults.{HasCause};
@@ -14,7 +14,7 @@ ghost use Rattle.def_meaning.specs.StateTable.{table_of};
 ghost use Rattle.def_publish.specs.Contents.{Contents, contents_state};
 ghost use Rattle.def_publish.specs.Standing.{ShowsTable};
 ghost use Rattle.def_state.specs.State.{IsPaid};
-ghost use Rattle.strat_memory.specs.Held.{IsConsistent, IsOnDisk, StandsWith, arrays_held};
+ghost use Rattle.strat_memory.specs.Held.{HasReadFrom, IsConsistent, IsOnDisk, StandsWith, arrays_held};
 ghost use Rattle.strat_memory.specs.Memory.{IsReadyFrom};
 ghost use Rattle.strat_memory.specs.Paying.{ArePaidSince};
 ghost use Rattle.strat_memory.specs.RecoveredFields.{held_of};
@@ -80,7 +80,10 @@ pub fn advance<D: Disk>(alloc: Global, held: &mut OpenStore, disk: &mut D) -> Re
         → AgreeOn (blocks_listed (arrays_held held.old.memory held.old.published.levels)) f g) }
     ensures cause { HasCause Device (D.faults disk.old) (D.faults disk.new) result }
     ensures damaged { (b : ℕ) → IsErrOf result (Damaged b)
-        → IsDamagedIn (D.view disk.old).content held.old.memory held.old.published.levels b
+        → Contains (blocks_listed (arrays_held held.old.memory held.old.published.levels)) b
+        × ((cached : Blocks) → ((f : Image) → Exposes (D.view disk.old) f
+        → HasReadFrom f (held_of held.old cached))
+        → IsDamagedIn (D.view disk.old).content held.old.memory held.old.published.levels b)
         × ((x : Contents) (cached : Blocks)
         → StandsWith (D.view disk.old) (held_of held.old cached) x → ⊥) }
 {
