@@ -154,6 +154,11 @@ impl Promotion {
             → AreUsed space.old (blocks_listed (arrays_to levels.now (target_of self.old)))
             → ReadsOf f (arrays_to levels.now (target_of self.old)) self.old
             → IsBadInput f (arrays_to levels.now (target_of self.old)) b) }
+        ensures found { IfOk result (λ p. MatchProgress p ((f g : Image)
+            → Exposes (D.view disk.old) f → Exposes (D.view disk.new) g
+            → AreUsed space.old (blocks_listed (arrays_to levels.now (target_of self.old)))
+            → ReadsOf f (arrays_to levels.now (target_of self.old)) self.old
+            → ReadsOf g (arrays_to levels.now (target_of self.old)) self.new) (Unit {0})) }
         ensures fits { IsErrOf result Unfit → HasAmpleRoom space.old → (f : Image) (job : Job)
             → Exposes (D.view disk.old) f → IsItsJob f self.old
             (inputs_given zero.now.list pool.now levels.now tree.now.parents) job
