@@ -22,7 +22,8 @@ use Rattle.def_recovery.specs.Head.{Head, descriptors}
 use Rattle.def_recovery.specs.Opened.{parents_in}
 use Rattle.def_recovery.specs.Opening.{belongs}
 use Rattle.def_meaning.specs.StateTable.{table_of}
-use Rattle.strat_promote.specs.Promotions.{extents_taken}
+use Rattle.strat_promote.specs.Job.{arrays_to}
+use Rattle.strat_promote.specs.Promotions.{ReadsOf, extents_taken, target_of}
 use Rattle.def_slice.specs.Opened.{OpenPromotion, MayBeSliced, IsOpenOver}
 use Rattle.def_publish.specs.Contents.{Contents, contents_state}
 use Rattle.def_publish.specs.Occupied.{extents_of}
@@ -156,14 +157,21 @@ pub record StandsWith (v : DiskView) (s : Held) (x : Contents) : Type 0 where
   pub filtered : AreFiltersOf x.levels s.filters
   pub open_over : IfSome s.promoting (IsOpenAt stands.content s x (length s.log.list))
 
+-- what an open promotion of a store has read is what an image has: what is bad for what it is still to read is bad in one of the
+-- arrays that it merges, and these have the blocks that it is still to read
+abbrev pub HasReadFrom : Image → Held → Type 0
+HasReadFrom f s = IfSome s.promoting
+    (λ o. ReadsOf f (arrays_to s.levels (target_of o.promotion)) o.promotion)
+
 -- a disk exposes its content, and each crash leaves the superblock and the manifest that a store holds; so has the content,
--- which is one of the images of a disk
+-- which is one of the images of a disk, and an open promotion has read what it has
 pub record IsOnDisk (v : DiskView) (s : Held) : Type 0 where
   pub content : Image
   pub exposed : Exposes v content
   pub newest : (c : Image) → Images v c → newest_in c ≡ Ok (Some (s.slot, s.sb))
   pub chain : (c : Image) → Images v c
       → manifest_at s.sb.format c s.sb.manifest s.sb.length ≡ Ok s.chained
+  pub read : HasReadFrom content s
 
 -- where a store with these contents stands in a run, but for its cursors: the table that they mean, and
 -- how many changes the journal holds

@@ -156,6 +156,23 @@ pub record ArePublishedAfter (sb : Super) (m : Manifest) (memory : Memory)
       ≡ record (retired_all (arrays_taken target m) memory.cursors) { room = cursors.room }
   pub filters_are : left ≡ filters_after filters target made
 
+-- a store holds what a publication left of another, down to some target
+pub record IsInstalled (old new : Held) : Type 0 where
+  pub target : ℕ
+  pub sb : Super
+  pub chained : Chained
+  pub levels : List (Option LevelDesc)
+  pub made : LevelFilters
+  pub low : 1 ≤ target
+  pub next : new ≡ held_next old target sb chained levels made
+  pub are : ArePublishedTo target old.sb old.chained.manifest old.memory sb chained.manifest
+
+-- a store holds what it held beside an open promotion, and that is its own; its journal has room for a change
+pub record TakesOpen (old new : Held) : Type 0 where
+  pub promotion : OpenPromotion
+  pub held : new ≡ record old { promoting = Some promotion }
+  pub room : length old.log.list < journal_max old.sb.mem
+
 -- a store holds the superblock and the manifest that it held, with their levels and the filters of these
 pub record KeepsPublished (old new : Held) : Type 0 where
   pub slot : new.slot ≡ old.slot

@@ -1,31 +1,127 @@
 //! An advance of a store whose journal is full: one slice of the promotion of what fills its active region.
 
-ghost use Rattle.std.specs.Prelude.{◌≡◌, ◌≤◌, ◌⊎◌, ℕ, List, [], ◌∷◌, length, None, IfOk, OnOk, OnErr, IsErrOf};
+ghost use Rattle.std.specs.Prelude.{◌≡◌, ◌≤◌, ◌<◌, ◌⊎◌, ℕ, ◌+◌, [], ◌∷◌, length, option_map, None, Some, OnOk, OnErr, IsErrOf, Contains};
 ghost use Rattle.strat_array.specs.Kept.{Blocks};
 ghost use Rattle.def_crash.specs.Blocks.{AgreeOn};
 ghost use Rattle.def_crash.specs.Faults.{HasCause};
 ghost use Rattle.def_crash.specs.Image.{Image};
 ghost use Rattle.def_crash.specs.Moments.{Exposes, Passes};
 ghost use Rattle.def_crash.specs.Trail.{Trail};
-ghost use Rattle.strat_promote.specs.Job.{blocks_listed};
+ghost use Rattle.strat_manifest.specs.ManifestView.{manifest_of};
+ghost use Rattle.strat_promote.specs.Job.{IsBadInput, arrays_to, blocks_listed};
+ghost use Rattle.strat_promote.specs.Promotions.{ReadsOf, entries_taken, target_of};
+ghost use Rattle.strat_promote.specs.StateInputs.{job_of_state};
 ghost use Rattle.strat_promote.specs.declared.obstacle.Obstacle.TheVariants as obstacle;
 ghost use Rattle.strat_promote.specs.declared.obstacle.Obstacle.TheVariants.{Device, Damaged};
 ghost use Rattle.def_meaning.specs.StateTable.{table_of};
-ghost use Rattle.def_publish.specs.Contents.{Contents, contents_state};
+ghost use Rattle.def_slice.specs.Budget.{KeepsToBudget};
+ghost use Rattle.def_slice.specs.Opened.{IsMostOfKey, slice_numbers};
+ghost use Rattle.def_publish.specs.Contents.{Contents, contents_state, sealed_state};
+ghost use Rattle.def_publish.specs.Occupied.{arrays_in};
 ghost use Rattle.def_publish.specs.Standing.{ShowsTable};
+ghost use Rattle.def_state.specs.Sound.{journal_max};
 ghost use Rattle.def_state.specs.State.{IsPaid};
-ghost use Rattle.strat_memory.specs.Held.{IsConsistent, IsOnDisk, StandsWith, arrays_held};
+ghost use Rattle.strat_cursor.specs.Looking.{arrays_there};
+ghost use Rattle.strat_memory.specs.Held.{HasReadFrom, IsConsistent, IsOnDisk, MayGoOnWith, StandsWith, arrays_held};
 ghost use Rattle.strat_memory.specs.Memory.{IsReadyFrom};
 ghost use Rattle.strat_memory.specs.Paying.{ArePaidSince};
-ghost use Rattle.strat_memory.specs.RecoveredFields.{held_of};
+ghost use Rattle.strat_memory.specs.RecoveredFields.{held_of, open_of};
 ghost use Rattle.strat_publish.specs.Advancing.{HasAdvanced, HasEmptied, SlicesInBudget, StaysOpen};
 ghost use Rattle.strat_publish.specs.Outcomes.{IsDamagedIn, IsOkOrShort, RanShort};
-ghost use Rattle.strat_publish.specs.Settling.{KeepsCursors, KeepsPublished};
+ghost use Rattle.strat_publish.specs.Promoting.{StandsOpenWith};
+ghost use Rattle.strat_publish.specs.Settling.{IsInstalled, KeepsCursors, KeepsPublished, TakesOpen};
 
+use crate::begin::open_now;
+use crate::checkpoint::{publish_made, seal_for_next};
+use crate::slice::slice_open;
 use std::alloc::Global;
 use strat_disk::Disk;
-use strat_memory::open_store::OpenStore;
-use strat_promote::obstacle::Obstacle;
+use strat_memory::open_store::{OpenStore, Promoting};
+use strat_promote::obstacle::{Obstacle, Unfit};
+use strat_promote::promotion::Progress;
+
+/// Keeps a promotion open until the next change. `Unfit`: the journal has no room for the change that comes; where the store
+/// stands the last slice was done before.
+fn keep_open(held: &mut OpenStore, open: Promoting) -> Result<(), Unfit>
+    requires fits { (1 ≤ held.old.sb.mem) × (held.old.sb.mem ≤ 4096) }
+    ensures ok { OnOk result ((held.new ≡ record held.old { promoting = Some open })
+        × (length held.old.journal.list < journal_max held.old.sb.mem)) }
+    ensures err { OnErr result ((held.new ≡ held.old)
+        × (journal_max held.old.sb.mem ≤ length held.old.journal.list)) }
+{
+    if held.journal.count() >= 2 * held.sb.mem - 2 {
+        return Err(Unfit);
+    }
+    held.promoting = Some(open);
+    Ok(())
+}
+
+/// One slice of a promotion that is open beside what a store holds. It then stays open, or, after the last slice, what it made
+/// is published. After an error no promotion is open. It costs a slice, and what `publish_made` costs after the last one;
+/// errors are those of both.
+fn go_on<D: Disk>(
+    alloc: Global,
+    held: &mut OpenStore,
+    mut open: Promoting,
+    disk: &mut D,
+) -> Result<(), Obstacle>
+    requires kept { ((cached : Blocks) → IsConsistent (held_of held.old cached)
+        × MayGoOnWith (held_of held.old cached) (open_of open))
+        × (held.old.promoting ≡ None) }
+    requires len { held.old.sb.mem ≤ length held.old.journal.list }
+    requires room { length held.old.memory.cursors.retired
+        + length (arrays_in (manifest_of held.old.published.manifest).levels)
+        ≤ held.old.memory.cursors.room }
+    ensures ok { OnOk result ((x : Contents) (cached : Blocks)
+        → StandsOpenWith (D.view disk.old) (held_of held.old cached) x (open_of open)
+        → HasAdvanced (D.view disk.new) (held_of held.old cached) x (held_of held.new cached)) }
+    ensures budget { OnOk result ((f : Image) (x : Contents) (cached : Blocks) (most : ℕ)
+        → Exposes (D.view disk.old) f
+        → StandsOpenWith (D.view disk.old) (held_of held.old cached) x (open_of open)
+        → IsMostOfKey f (job_of_state (sealed_state x) held.old.published.levels
+        (target_of open.promotion)) most
+        → KeepsToBudget (slice_numbers (open_of open)) most
+        (option_map (λ o. entries_taken o.promotion) held.new.promoting)) }
+    ensures found { OnOk result ((cached : Blocks)
+        → TakesOpen (held_of held.old cached) (held_of held.new cached)
+        ⊎ IsInstalled (held_of held.old cached) (held_of held.new cached)) }
+    ensures disk { (IsErrOf result Device → ⊥) → (cached : Blocks)
+        → IsOnDisk (D.view disk.old) (held_of held.old cached)
+        → ((f : Image) → Exposes (D.view disk.old) f
+        → ReadsOf f (arrays_to held.old.published.levels (target_of open.promotion))
+        open.promotion)
+        → IsOnDisk (D.view disk.new) (held_of held.new cached) }
+    ensures none { RanShort result → (x : Contents) (cached : Blocks)
+        → StandsWith (D.view disk.old) (held_of held.old cached) x
+        → StandsWith (D.view disk.new) (held_of held.new cached) x }
+    ensures trail { (x : Contents) (cached : Blocks)
+        → StandsOpenWith (D.view disk.old) (held_of held.old cached) x (open_of open)
+        → Trail ShowsTable (D.view disk.new) (D.view disk.old).moment
+        (table_of (contents_state x) ∷ []) 0
+        × (IsPaid (contents_state x) → ArePaidSince (D.view disk.new) (D.view disk.old).moment) }
+    ensures kept { OnOk result ((cached : Blocks) → IsConsistent (held_of held.new cached)) }
+    ensures same { (held.new.sb.mem ≡ held.old.sb.mem)
+        × (RanShort result → held.new ≡ held.old)
+        × OnErr result ((held.new.memory ≡ held.old.memory) × (held.new.promoting ≡ None)
+        × ((cached : Blocks) → KeepsPublished (held_of held.old cached) (held_of held.new cached))) }
+    ensures err { IsErrOf result obstacle.Unfit → (x : Contents) (cached : Blocks)
+        → StandsOpenWith (D.view disk.old) (held_of held.old cached) x (open_of open) → ⊥ }
+    ensures images { Passes (D.view disk.old) (D.view disk.new)
+        × ((f g : Image) → Exposes (D.view disk.old) f → Exposes (D.view disk.new) g
+        → AgreeOn (blocks_listed (arrays_held held.old.memory held.old.published.levels)) f g) }
+    ensures cause { HasCause Device (D.faults disk.old) (D.faults disk.new) result }
+    ensures damaged { (b : ℕ) → IsErrOf result (Damaged b)
+        → Contains (blocks_listed (arrays_there held.old.published.levels)) b
+        × ((f : Image) → Exposes (D.view disk.old) f
+        → ReadsOf f (arrays_to held.old.published.levels (target_of open.promotion))
+        open.promotion
+        → IsBadInput f (arrays_there held.old.published.levels) b) }
+{
+    match slice_open(held, &mut open, disk)? {
+        Progress::More => Ok(keep_open(held, open)?),
+        Progress::Done => publish_made(alloc, held, open, disk),
+    }
+}
 
 /// Goes on with the promotion of what fills the active region of the journal, or begins it, by one slice. Level 0 is sealed
 /// before it begins. After the last slice a new manifest names what was made, and a new superblock makes that the store's: the
@@ -80,9 +176,20 @@ pub fn advance<D: Disk>(alloc: Global, held: &mut OpenStore, disk: &mut D) -> Re
         → AgreeOn (blocks_listed (arrays_held held.old.memory held.old.published.levels)) f g) }
     ensures cause { HasCause Device (D.faults disk.old) (D.faults disk.new) result }
     ensures damaged { (b : ℕ) → IsErrOf result (Damaged b)
-        → IsDamagedIn (D.view disk.old).content held.old.memory held.old.published.levels b
+        → Contains (blocks_listed (arrays_held held.old.memory held.old.published.levels)) b
+        × ((cached : Blocks) → ((f : Image) → Exposes (D.view disk.old) f
+        → HasReadFrom f (held_of held.old cached))
+        → IsDamagedIn (D.view disk.old).content held.old.memory held.old.published.levels b)
         × ((x : Contents) (cached : Blocks)
         → StandsWith (D.view disk.old) (held_of held.old cached) x → ⊥) }
 {
-    Err(Obstacle::NoMemory)
+    let taken = held.promoting.take();
+    seal_for_next(
+        alloc,
+        &mut held.memory,
+        held.sb.mem,
+        held.published.manifest.levels.as_slice(),
+    )?;
+    let open = open_now(alloc, held, taken)?;
+    go_on(alloc, held, open, disk)
 }
