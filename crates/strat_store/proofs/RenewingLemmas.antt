@@ -91,6 +91,15 @@ short_of trouble.NoMemory told is short = refl
 short_of trouble.Device told is short = absurd (let e : reply.Refused why.DeviceFault ≡ reply.Refused why.NoMemory = sym (ap reply.Refused is) ∙ short in cc)
 short_of (trouble.Damaged b) told is short = absurd (let e : reply.Refused (why.Damaged b) ≡ reply.Refused why.NoMemory = sym (ap reply.Refused is) ∙ short in cc)
 
+-- and one that is told as a damaged block is that
+pub damage_of : (t : Trouble) (told : Refusal) (b : ℕ) → told ≡ refusal_of_trouble t → reply.Refused told ≡ reply.Refused (why.Damaged b) → t ≡ trouble.Damaged b
+damage_of trouble.NoMemory told b is bad = absurd (let e : reply.Refused why.NoMemory ≡ reply.Refused (why.Damaged b) = sym (ap reply.Refused is) ∙ bad in cc)
+damage_of trouble.Device told b is bad = absurd (let e : reply.Refused why.DeviceFault ≡ reply.Refused (why.Damaged b) = sym (ap reply.Refused is) ∙ bad in cc)
+damage_of (trouble.Damaged a) told b is bad =
+    let e : reply.Refused (why.Damaged a) ≡ reply.Refused (why.Damaged b) = sym (ap reply.Refused is) ∙ bad in
+    let same : a ≡ b = cc in
+    ap trouble.Damaged same
+
 module _ (r : OpenStore) (cached : Blocks) (kept : IsConsistent (held_of r cached)) (v : DiskView) (x : Contents) (stands : StandsWith v (held_of r cached) x)
     (c : Change) (free : refusal_of_change r.memory c ≡ None) (full : r.sb.mem ≤ length r.journal.list) where
   accepted : accepts (step (table_of (contents_state x)) (request_for c)).answer.reply ≡ true

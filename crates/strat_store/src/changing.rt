@@ -1,7 +1,7 @@
 //! Changes of a store over levels: each is durable before it is in memory, and before it is answered.
 
 ghost use Rattle.std.specs.List.{list_all};
-ghost use Rattle.std.specs.Prelude.{◌≡◌, ◌≢◌, ◌<◌, ◌≤◌, ◌-◌, ◌*◌, ℕ, [], ◌∷◌, ◌++◌, length, Some, None, OnOk, IsTrue, true, false};
+ghost use Rattle.std.specs.Prelude.{◌≡◌, ◌≢◌, ◌<◌, ◌≤◌, ◌-◌, ◌*◌, ℕ, [], ◌∷◌, ◌++◌, length, Some, None, OnOk, IsTrue, Contains, true, false};
 ghost use Rattle.strat_array.specs.Kept.{Blocks};
 ghost use Rattle.strat_base.specs.Change.{is_lawful};
 ghost use Rattle.strat_base.specs.ChangeView.{change_of};
@@ -16,6 +16,7 @@ ghost use Rattle.strat_model.specs.Answer.{accepts, plain};
 ghost use Rattle.strat_model.specs.declared.replies.Refusal.{Refusal};
 ghost use Rattle.strat_model.specs.declared.replies.Refusal.TheVariants as why;
 ghost use Rattle.strat_model.specs.declared.replies.Reply.TheVariants as reply;
+ghost use Rattle.strat_promote.specs.Job.{blocks_listed};
 ghost use Rattle.strat_promote.specs.Obstacles.{told_as};
 ghost use Rattle.def_meaning.specs.StateTable.{table_of, request_for};
 ghost use Rattle.def_publish.specs.Appending.{IsLogOf, with_batch};
@@ -27,7 +28,7 @@ ghost use Rattle.strat_publish.specs.Advancing.{SlicesInBudget};
 ghost use Rattle.strat_store.specs.Applying.{IsAppliedTo, FollowsStep, FailsAsTold, HoldsTheSame, StandsForOne, is_fault, may_write, refusal_of_trouble};
 ghost use Rattle.strat_publish.specs.Outcomes.{IsDamagedIn};
 ghost use Rattle.strat_store.specs.Cursoring.{LeavesCursors};
-ghost use Rattle.strat_memory.specs.Held.{IsConsistent, IsOnDisk, StandsWith};
+ghost use Rattle.strat_memory.specs.Held.{IsConsistent, IsOnDisk, StandsWith, arrays_held};
 ghost use Rattle.strat_memory.specs.Memory.{KeepsRows, refusal_of_change};
 ghost use Rattle.strat_memory.specs.Paying.{ArePaidSince};
 ghost use Rattle.strat_publish.specs.Publishing.{is_in_front};
@@ -101,7 +102,8 @@ fn carry_out<D: Disk>(held: &mut OpenStore, disk: &mut D, change: &Change<'_>) -
         → IsConsistent (held_of held.new cached) }
     ensures disk { (cached : Blocks)
         → KeepsPublished (held_of held.old cached) (held_of held.new cached)
-        × (IsOnDisk (D.view disk.old) (held_of held.old cached)
+        × (result ≢ reply.Refused why.DeviceFault
+        → IsOnDisk (D.view disk.old) (held_of held.old cached)
         → IsOnDisk (D.view disk.new) (held_of held.new cached)) }
     ensures found { (held.new.memory.cursors ≡ held.old.memory.cursors)
         × KeepsRows held.old.memory held.new.memory
@@ -164,7 +166,9 @@ fn carry_out_behind<D: Disk>(
         × LeavesCursors (held_of held.old cached) (request_for (change_of change.now))
         (plain result) (held_after held.new cached result) }
     ensures damaged { (b : ℕ) → result ≡ reply.Refused (why.Damaged b)
-        → IsDamagedIn (D.view disk.old).content held.old.memory held.old.published.levels b }
+        → Contains (blocks_listed (arrays_held held.old.memory held.old.published.levels)) b
+        × ((cached : Blocks) → IsOnDisk (D.view disk.old) (held_of held.old cached)
+        → IsDamagedIn (D.view disk.old).content held.old.memory held.old.published.levels b) }
     ensures same { (held.new.sb.mem ≡ held.old.sb.mem) × (result ≢ reply.Found)
         × (may_write result ≡ true) × KeepsRows held.old.memory held.new.memory
         × (result ≡ reply.Refused why.NoMemory → (cached : Blocks)
@@ -218,7 +222,9 @@ pub(crate) fn change<D: Disk>(
         → (held.old.journal.mem ≤ length held.old.journal.list) × ((cached : Blocks)
         → HoldsTheSame (held_of held.old cached) (held_after held.new cached result))) }
     ensures damaged { (b : ℕ) → result ≡ reply.Refused (why.Damaged b)
-        → IsDamagedIn (D.view disk.old).content held.old.memory held.old.published.levels b
+        → (Contains (blocks_listed (arrays_held held.old.memory held.old.published.levels)) b
+        × ((cached : Blocks) → IsOnDisk (D.view disk.old) (held_of held.old cached)
+        → IsDamagedIn (D.view disk.old).content held.old.memory held.old.published.levels b))
         × (held.old.journal.mem ≤ length held.old.journal.list) }
     ensures same { (held.new.sb.mem ≡ held.old.sb.mem) × (result ≢ reply.Found)
         × KeepsRows held.old.memory held.new.memory }

@@ -1,6 +1,6 @@
 //! An open store: what it holds in memory of a disk, and how it carries out commands.
 
-ghost use Rattle.std.specs.Prelude.{◌≡◌, ◌≢◌, ◌<◌, ◌≤◌, ◌+◌, ◌*◌, ℕ, List, [], length, take, drop, Some, None, Ok, Err, IfOk, IfErr, IsErrOf, OnErr, OnOk, is_ok, true, false, slice_get, option_map, IsTrue, ◌↔◌};
+ghost use Rattle.std.specs.Prelude.{◌≡◌, ◌≢◌, ◌<◌, ◌≤◌, ◌+◌, ◌*◌, ℕ, List, [], length, take, drop, Some, None, Ok, Err, IfOk, IfErr, IsErrOf, OnErr, OnOk, is_ok, true, false, slice_get, option_map, IsTrue, Contains, ◌↔◌};
 ghost use Rattle.std.specs.Option.{option_to_list};
 ghost use Rattle.strat_array.specs.Kept.{Blocks};
 ghost use Rattle.strat_base.specs.Change.{Change as TheChange};
@@ -19,6 +19,7 @@ ghost use Rattle.strat_model.specs.Spelling.{has_lawful_sizes};
 ghost use Rattle.strat_model.specs.Table.{Cursor, Table};
 ghost use Rattle.strat_model.specs.declared.replies.Refusal.TheVariants as why;
 ghost use Rattle.strat_model.specs.declared.replies.Reply.TheVariants as reply;
+ghost use Rattle.strat_promote.specs.Job.{blocks_listed};
 ghost use Rattle.def_recovery.specs.Opening.{recover};
 ghost use Rattle.def_publish.specs.Appending.{with_batch};
 ghost use Rattle.def_publish.specs.Contents.{Contents};
@@ -28,7 +29,7 @@ ghost use Rattle.strat_store.specs.Applying.{FollowsStep, FailsAsTold, IsUntouch
 ghost use Rattle.strat_publish.specs.Outcomes.{IsDamagedIn};
 ghost use Rattle.strat_store.specs.Cursoring.{IsAppliedAt, LeavesCursors, cursors_after};
 ghost use Rattle.strat_open.specs.Following.{IsOpenedAs, IsUnchanged, LeavesOpening};
-ghost use Rattle.strat_memory.specs.Held.{IsConsistent, StandsAt, StandsWith, arrays_held};
+ghost use Rattle.strat_memory.specs.Held.{IsConsistent, IsOnDisk, StandsAt, StandsWith, arrays_held};
 ghost use Rattle.strat_memory.specs.Memory.{KeepsRows, info_told, lists_in_memory, sealed_entries};
 ghost use Rattle.strat_cursor.specs.Looking.{AreOfOldArrays, LooksThrough, MayBeFound, ReadsArrays, arrays_asked};
 ghost use Rattle.strat_arena.specs.declared.pool.PoolEntry.{PoolEntry};
@@ -244,7 +245,9 @@ fn answer<D: Disk>(
         (request_of command.now) result
         × Passes (D.view disk.old) (D.view disk.new) }
     ensures damaged { (b : ℕ) → result ≡ reply.Refused (why.Damaged b)
-        → IsDamagedIn (D.view disk.old).content held.old.memory held.old.published.levels b }
+        → Contains (blocks_listed (arrays_held held.old.memory held.old.published.levels)) b
+        × (IsOnDisk (D.view disk.old) (held_of held.old cache.old)
+        → IsDamagedIn (D.view disk.old).content held.old.memory held.old.published.levels b) }
 {
     match change_asked(command) {
         Some(asked) => change(alloc, held, disk, &asked),
@@ -435,7 +438,9 @@ impl Store {
             → Exposes (D.view disk.old) f → StandsWith (D.view disk.old) self.old x
             → SlicesInBudget f self.old x self.new.promoting }
         ensures damaged { (b : ℕ) → result ≡ reply.Refused (why.Damaged b)
-            → IsDamagedIn (D.view disk.old).content self.old.memory self.old.levels b }
+            → Contains (blocks_listed (arrays_held self.old.memory self.old.levels)) b
+            × (IsOnDisk (D.view disk.old) self.old
+            → IsDamagedIn (D.view disk.old).content self.old.memory self.old.levels b) }
     {
         out.clear();
         self.spent = true;

@@ -6,6 +6,7 @@ use Rattle.strat_store.proofs.ChangingLemmas.{cursors_stay, log_of, region_low, 
 use Rattle.strat_store.proofs.LeavingLemmas.{logged_leaves, taken_calm, taken_well}
 use Rattle.strat_memory.specs.Memory.{Memory}
 use Rattle.strat_publish.specs.Publishing.{is_in_front}
+use Rattle.strat_publish.specs.Settling.{KeepsPublished}
 use Rattle.strat_store.proofs.changing.carry_out.Goals as goal
 
 pub log_change-requires-clause-none : goal.log_change-requires-clause-none
@@ -74,11 +75,15 @@ returns-clause-images g c =
     (c.log_change.ensures.time, λ other f h was now. subst (λ (n : ℕ). KeepsTaken (is_in_front n) f h) mem (c.in-Ok.ensures.same f h was now))
 
 pub returns-in_default-clause-disk : goal.returns-in_default-clause-disk
-returns-in_default-clause-disk g c = λ cached.
-    logged_leaves (g.D.Disk.view c.args.disk.now) (g.D.Disk.view c.log_change.new.disk) (held_of c.args.held.now cached) (held_of (record c.args.held.now { journal = c.log_change.new.journal }) cached)
-    (batch_region c.args.held.now.journal) (c.requires.kept cached) (region_low c.args.held.now cached (c.requires.kept cached)) (record { slot = refl; sb = refl; chained = refl; levels = refl; filters = refl }) c.log_change.ensures.images c.log_change.ensures.time
+returns-in_default-clause-disk g c = λ cached. (record { slot = refl; sb = refl; chained = refl; levels = refl; filters = refl }, λ other. absurd (other refl))
 
 pub returns-clause-disk : goal.returns-clause-disk
 returns-clause-disk g c = λ cached.
-    logged_leaves (g.D.Disk.view c.args.disk.now) (g.D.Disk.view c.log_change.new.disk) (held_of c.args.held.now cached) (held_of (record c.args.held.now { journal = c.log_change.new.journal; memory = c.take.new.self }) cached)
-    (batch_region c.args.held.now.journal) (c.requires.kept cached) (region_low c.args.held.now cached (c.requires.kept cached)) (record { slot = refl; sb = refl; chained = refl; levels = refl; filters = refl }) c.log_change.ensures.images c.log_change.ensures.time
+    let mem = (c.requires.kept cached).log.mem in
+    let t = held_of (record c.args.held.now { journal = c.log_change.new.journal; memory = c.take.new.self }) cached in
+    let same : KeepsPublished (held_of c.args.held.now cached) t = record { slot = refl; sb = refl; chained = refl; levels = refl; filters = refl } in (
+      same,
+      λ other on. logged_leaves (g.D.Disk.view c.args.disk.now) (g.D.Disk.view c.log_change.new.disk) (held_of c.args.held.now cached) t
+          (batch_region c.args.held.now.journal) (c.requires.kept cached) (region_low c.args.held.now cached (c.requires.kept cached)) same refl c.log_change.ensures.images c.log_change.ensures.time
+          (λ f h was now. subst (λ (n : ℕ). KeepsTaken (is_in_front n) f h) mem (c.in-Ok.ensures.same f h was now)) on,
+    )

@@ -12,6 +12,7 @@ use Rattle.strat_promote.specs.declared.obstacle.Obstacle.TheVariants.{Device}
 use Rattle.def_slice.specs.Opened.{OpenPromotion}
 use Rattle.strat_memory.specs.Held.{Held}
 use Rattle.strat_memory.specs.RecoveredFields.{empty_cache, held_of}
+use Rattle.strat_publish.proofs.AdvancingLemmas.{read_open}
 use Rattle.strat_publish.proofs.ObstacleLemmas.{damaged_told}
 use Rattle.strat_publish.specs.Advancing.{SlicesInBudget}
 use Rattle.strat_store.specs.Applying.{held_after, is_fault}
@@ -19,7 +20,7 @@ use Rattle.strat_store.proofs.ChangingLemmas.{rows_stay}
 use Rattle.strat_store.proofs.GoingLemmas.{advanced_open, advanced_published, emptied_refuses, log_stays, one_open, one_published, ready_opened, ready_refuses, sealed_open}
 use Rattle.strat_store.proofs.LeavingLemmas.{both_keep, cursors_left, cursors_published, cursors_ready, gives_up, holds_the_same, keeps_spent, opened_after, promotes, renews, rows_renewed, still_published, troubled}
 use Rattle.strat_memory.proofs.PayingLemmas.{paid_now, paid_then}
-use Rattle.strat_store.proofs.RenewingLemmas.{calm_short, carried_behind, short_of, told_up, renewed, renewed_trail, trail_so_far}
+use Rattle.strat_store.proofs.RenewingLemmas.{calm_short, carried_behind, damage_of, short_of, told_up, renewed, renewed_trail, trail_so_far}
 use Rattle.strat_store.proofs.changing.carry_out_behind.Goals as goal
 
 -- a trouble that came is the trouble of the call
@@ -33,7 +34,7 @@ pub returns-in-Err-clause-ok : goal.returns-in-Err-clause-ok
 returns-in-Err-clause-ok g c x cached stands =
     told_up c.args.held.now cached (c.requires.kept.0 cached) (g.D.Disk.view c.args.disk.now) x stands _ c.requires.none c.requires.kept.1 c.advance.new.held (g.D.Disk.view c.advance.new.disk)
     (told_as c.in-Err.obstacle) c.refusal_of.result c.refusal_of.ensures.ok (λ short. c.in-Err.ensures.none short x cached stands) (λ short. (c.in-Err.ensures.same.2 short).0)
-    (λ b bad. (c.in-Err.ensures.damaged b (handed (damaged_told c.in-Err.obstacle b bad))).1 x cached stands)
+    (λ b bad. (c.in-Err.ensures.damaged b (handed (damaged_told c.in-Err.obstacle b bad))).1.1 x cached stands)
 
 pub returns-in-Err-clause-trail : goal.returns-in-Err-clause-trail
 returns-in-Err-clause-trail g c x cached stands =
@@ -189,6 +190,12 @@ returns-clause-same g c =
       rows_renewed c.args.held.now.memory c.advance.new.held.memory c.carry_out.new.held.memory c.advance.ensures.same.1 opened c.carry_out.ensures.found.1,
       λ short cached. absurd (let e : reply.Refused why.NoMemory ≡ reply.Refused why.DeviceFault = sym short ∙ c.carry_out.ensures.same.2 (ap accepts short) in cc),
     )
+
+pub returns-in-Err-clause-damaged : goal.returns-in-Err-clause-damaged
+returns-in-Err-clause-damaged g c b bad =
+    let v = g.D.Disk.view c.args.disk.now in
+    let named = c.in-Err.ensures.damaged b (handed (damaged_told c.in-Err.obstacle b (damage_of (told_as c.in-Err.obstacle) c.refusal_of.result b c.refusal_of.ensures.ok bad))) in
+    (named.0, λ cached on. named.1.0 cached (read_open v (held_of c.args.held.now cached) on))
 
 pub returns-clause-damaged : goal.returns-clause-damaged
 returns-clause-damaged g c b bad = absurd (c.carry_out.ensures.same.4 b bad)

@@ -64,7 +64,12 @@ returns-in-None-clause-budget g c = λ done full f x exposed stands.
     absurd (true≢false (sym (and_parts (is_change (request_of c.args.command.now)) (accepts c.query.result) done).0 ∙ look_no_change (request_of c.args.command.now) c.in-None.ensures))
 
 pub returns-in-Some-clause-damaged : goal.returns-in-Some-clause-damaged
-returns-in-Some-clause-damaged g c = λ b bad. (c.change.ensures.damaged b bad).0
+returns-in-Some-clause-damaged g c = λ b bad.
+    let named = (c.change.ensures.damaged b bad).0 in
+    (named.0, named.1 c.args.cache.now)
+
+pub returns-in-None-clause-damaged : goal.returns-in-None-clause-damaged
+returns-in-None-clause-damaged g c = λ b bad. let named = c.query.ensures.damaged b bad in (named.listed, λ on. named)
 
 pub returns-in-Some-clause-same : goal.returns-in-Some-clause-same
 returns-in-Some-clause-same g c =

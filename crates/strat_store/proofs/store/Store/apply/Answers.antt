@@ -5,6 +5,7 @@ use Rattle.strat_store.specs.Cursoring.{IsAppliedAt}
 use Rattle.strat_memory.specs.RecoveredFields.{held_of}
 use Rattle.strat_store.proofs.GoingLemmas.{spent_slices, stands_going}
 use Rattle.strat_store.proofs.ApplyLemmas.{old_after, spent_at, spent_consistent, spent_reads, spent_tells}
+use Rattle.strat_store.proofs.LeavingLemmas.{on_spent}
 use Rattle.strat_memory.proofs.PayingLemmas.{stored_since}
 use Rattle.strat_store.proofs.StagingLemmas.{as_ever, ever_joined, fits_none, replies_none}
 use Rattle.strat_store.proofs.store.Store.apply.Goals as goal
@@ -41,7 +42,12 @@ returns-clause-kept g c =
     )
 
 pub returns-clause-damaged : goal.returns-clause-damaged
-returns-clause-damaged g c = rw (← c.self.view_is) c.answer-told.ensures.damaged
+returns-clause-damaged g c =
+    let s = held_of c.self.inside.held c.self.inside.cache in
+    let v = g.D.Disk.view c.args.disk.now in
+    rw (← c.self.view_is) (λ b bad.
+    let named = c.answer-told.ensures.damaged b bad in
+    (named.0, λ on. named.1 (on_spent v (record s { spent = c.self.inside.spent }) s.spent on)))
 
 pub returns-clause-ok : goal.returns-clause-ok
 returns-clause-ok g c =
