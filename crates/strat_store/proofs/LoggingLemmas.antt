@@ -111,7 +111,7 @@ logged_behind old new log added change none is lawful all room few holds =
     let one : added ≡ record log { batch = change ∷ [] } = is ∙ ap (λ (cs : List Change). record log { batch = cs ++ change ∷ [] }) none in
     let each : list_all is_lawful (log.list ++ change ∷ []) ≡ true =
     list_all-append is_lawful log.list (change ∷ []) ∙ and_from (list_all is_lawful log.list) (list_all is_lawful (change ∷ [])) all (and_from (is_lawful change) true lawful refl) in
-    appended_behind old new (record log { batch = change ∷ [] }) each (taking_room log room) few (subst (λ (j : Log). HoldsBatch old new j) one holds)
+    appended_behind old new (record log { batch = change ∷ [] }) each (taking_room (record log { batch = change ∷ [] }) room) few (subst (λ (j : Log). HoldsBatch old new j) one holds)
 
 module _ (old new : DiskView) (x : Contents) (log added : Log) (change : Change) (s : ContentsStand old x) (l : IsLogOf x log) (none : log.batch ≡ [])
     (is : added ≡ record log { batch = log.batch ++ change ∷ [] }) where
