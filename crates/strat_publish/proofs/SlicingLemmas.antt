@@ -84,6 +84,12 @@ progress_then (Ok progress.More) is more done = more is
 progress_then (Ok progress.Done) is more done = done is
 progress_then (Err e) is more done = tt
 
+pub more_of : {A B : Type 0} (p : Progress) → p ≡ progress.More → MatchProgress p A B → A
+more_of {A} {B} p is told = subst (λ (q : Progress). MatchProgress q A B) is told
+
+pub done_of : {A B : Type 0} (p : Progress) → p ≡ progress.Done → MatchProgress p A B → B
+done_of {A} {B} p is told = subst (λ (q : Progress). MatchProgress q A B) is told
+
 -- a block that is used as often as it stands among some
 
 some_used : (s : SpaceView) (b : ℕ) → 1 ≤ uses s b → is_used s b ≡ true

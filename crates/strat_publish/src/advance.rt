@@ -81,7 +81,7 @@ fn go_on<D: Disk>(
         → IsMostOfKey f (job_of_state (sealed_state x) held.old.published.levels
         (target_of open.promotion)) most
         → KeepsToBudget (slice_numbers (open_of open)) most
-        (option_map (λ o. entries_taken o.promotion) held.new.promoting)) }
+        (option_map (λ o. entries_taken o.promotion) (held_of held.new cached).promoting)) }
     ensures found { OnOk result ((cached : Blocks)
         → TakesOpen (held_of held.old cached) (held_of held.new cached)
         ⊎ IsInstalled (held_of held.old cached) (held_of held.new cached)) }
@@ -117,8 +117,12 @@ fn go_on<D: Disk>(
         open.promotion
         → IsBadInput f (arrays_there held.old.published.levels) b) }
 {
-    match slice_open(held, &mut open, disk)? {
-        Progress::More => Ok(keep_open(held, open)?),
+    let progress = slice_open(held, &mut open, disk)?;
+    match progress {
+        Progress::More => {
+            keep_open(held, open)?;
+            Ok(())
+        }
         Progress::Done => publish_made(alloc, held, open, disk),
     }
 }
