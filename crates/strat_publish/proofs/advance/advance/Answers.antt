@@ -52,7 +52,7 @@ pub open_now-requires-clause-found : goal.open_now-requires-clause-found
 open_now-requires-clause-found g c = c.in_ok-seal_for_next.ensures.ok.0
 
 pub go_on-requires-clause-kept : goal.go_on-requires-clause-kept
-go_on-requires-clause-kept g c = (λ cached. ((consistent_ready (held_of c.args.held.now cached) c.seal_for_next.new.memory (option_map open_of c.take-taken.new.self) (ap (option_map open_of) c.take-taken.ensures.after) c.seal_for_next.ensures.same c.requires.kept.1 (c.requires.kept.0 cached)), c.in_ok-open.ensures.kept cached), c.take-taken.ensures.after)
+go_on-requires-clause-kept g c = (λ cached. ((consistent_ready (held_of c.args.held.now cached) c.seal_for_next.new.memory (option_map open_of c.take-taken.new.self) (ap (option_map open_of) c.take-taken.ensures.after) c.seal_for_next.ensures.same c.requires.kept.1 (c.requires.kept.0 cached)), c.in_ok-promoting.ensures.kept cached), c.take-taken.ensures.after)
 
 pub go_on-requires-clause-room : goal.go_on-requires-clause-room
 go_on-requires-clause-room g c =
@@ -91,56 +91,56 @@ returns-in_err-seal_for_next-clause-images g c = (
 
 -- no memory for the beginning, or a block stands twice
 
-pub returns-in_err-open-clause-none : goal.returns-in_err-open-clause-none
-returns-in_err-open-clause-none g c = λ short x cached stands. (stands_ready (g.D.Disk.view c.args.disk.now) (held_of c.args.held.now cached) x c.seal_for_next.new.memory (option_map open_of c.take-taken.new.self) (ap (option_map open_of) c.take-taken.ensures.after) stands)
+pub returns-in_err-promoting-clause-none : goal.returns-in_err-promoting-clause-none
+returns-in_err-promoting-clause-none g c = λ short x cached stands. (stands_ready (g.D.Disk.view c.args.disk.now) (held_of c.args.held.now cached) x c.seal_for_next.new.memory (option_map open_of c.take-taken.new.self) (ap (option_map open_of) c.take-taken.ensures.after) stands)
 
-pub returns-in_err-open-clause-trail : goal.returns-in_err-open-clause-trail
-returns-in_err-open-clause-trail g c = λ x cached stands.
+pub returns-in_err-promoting-clause-trail : goal.returns-in_err-promoting-clause-trail
+returns-in_err-promoting-clause-trail g c = λ x cached stands.
     let still = unwritten (g.D.Disk.view c.args.disk.now) (held_of c.args.held.now cached) in
     (trail_beside (g.D.Disk.view c.args.disk.now) (g.D.Disk.view c.args.disk.now) (held_of c.args.held.now cached) x stands still, λ paid. paid_beside (g.D.Disk.view c.args.disk.now) (g.D.Disk.view c.args.disk.now) (held_of c.args.held.now cached) x stands still paid)
 
-pub returns-in_err-open-clause-kept : goal.returns-in_err-open-clause-kept
-returns-in_err-open-clause-kept g c = λ short cached. (consistent_ready (held_of c.args.held.now cached) c.seal_for_next.new.memory (option_map open_of c.take-taken.new.self) (ap (option_map open_of) c.take-taken.ensures.after) c.seal_for_next.ensures.same c.requires.kept.1 (c.requires.kept.0 cached))
+pub returns-in_err-promoting-clause-kept : goal.returns-in_err-promoting-clause-kept
+returns-in_err-promoting-clause-kept g c = λ short cached. (consistent_ready (held_of c.args.held.now cached) c.seal_for_next.new.memory (option_map open_of c.take-taken.new.self) (ap (option_map open_of) c.take-taken.ensures.after) c.seal_for_next.ensures.same c.requires.kept.1 (c.requires.kept.0 cached))
 
-pub returns-in_err-open-clause-err : goal.returns-in_err-open-clause-err
-returns-in_err-open-clause-err g c = λ unfit x cached stands.
-    c.in_err-open.ensures.err (err_of c.from_residual-in_err-open.result _ _ c.from_residual-in_err-open.ensures.1 unfit) (chain_numbered (g.D.Disk.view c.args.disk.now) (held_of c.args.held.now cached) x (c.requires.kept.0 cached) stands)
+pub returns-in_err-promoting-clause-err : goal.returns-in_err-promoting-clause-err
+returns-in_err-promoting-clause-err g c = λ unfit x cached stands.
+    c.in_err-promoting.ensures.err (err_of c.from_residual-in_err-promoting.result _ _ c.from_residual-in_err-promoting.ensures.1 unfit) (chain_numbered (g.D.Disk.view c.args.disk.now) (held_of c.args.held.now cached) x (c.requires.kept.0 cached) stands)
 
-pub returns-in_err-open-clause-disk : goal.returns-in_err-open-clause-disk
-returns-in_err-open-clause-disk g c = λ other cached on.
+pub returns-in_err-promoting-clause-disk : goal.returns-in_err-promoting-clause-disk
+returns-in_err-promoting-clause-disk g c = λ other cached on.
     kept_on (g.D.Disk.view c.args.disk.now) (held_of c.args.held.now cached) (held_of (record c.args.held.now { promoting = c.take-taken.new.self; memory = c.seal_for_next.new.memory }) cached) (record { slot = refl; sb = refl; chained = refl; levels = refl; filters = refl }) (λ f now. unread f (held_of (record c.args.held.now { promoting = c.take-taken.new.self; memory = c.seal_for_next.new.memory }) cached) (ap (option_map open_of) c.take-taken.ensures.after)) on
 
-pub returns-in_err-open-clause-same : goal.returns-in_err-open-clause-same
-returns-in_err-open-clause-same g c =
+pub returns-in_err-promoting-clause-same : goal.returns-in_err-promoting-clause-same
+returns-in_err-promoting-clause-same g c =
     let still = still_ready c.args.held.now.sb.mem c.args.held.now.memory c.seal_for_next.new.memory c.seal_for_next.new.memory refl c.seal_for_next.ensures.same in
-    (refl, still.0, λ short. (refl, c.seal_for_next.ensures.same), on_err c.from_residual-in_err-open.result _ (c.take-taken.ensures.after, λ cached. (record { slot = refl; sb = refl; chained = refl; levels = refl; filters = refl }, still.1)))
+    (refl, still.0, λ short. (refl, c.seal_for_next.ensures.same), on_err c.from_residual-in_err-promoting.result _ (c.take-taken.ensures.after, λ cached. (record { slot = refl; sb = refl; chained = refl; levels = refl; filters = refl }, still.1)))
 
-pub returns-in_err-open-clause-images : goal.returns-in_err-open-clause-images
-returns-in_err-open-clause-images g c = (
+pub returns-in_err-promoting-clause-images : goal.returns-in_err-promoting-clause-images
+returns-in_err-promoting-clause-images g c = (
   (reads_refl (g.D.Disk.view c.args.disk.now)).time,
   λ f h was now. agree_once (g.D.Disk.view c.args.disk.now) f h (blocks_listed (arrays_held c.args.held.now.memory c.args.held.now.published.levels)) was now,
 )
 
-pub returns-in_err-open-clause-cause : goal.returns-in_err-open-clause-cause
-returns-in_err-open-clause-cause g c = short_cause c.from_residual-in_err-open.result _ c.from_residual-in_err-open.ensures.1 c.in_err-open.ensures.cause _ _ refl
+pub returns-in_err-promoting-clause-cause : goal.returns-in_err-promoting-clause-cause
+returns-in_err-promoting-clause-cause g c = short_cause c.from_residual-in_err-promoting.result _ c.from_residual-in_err-promoting.ensures.1 c.in_err-promoting.ensures.cause _ _ refl
 
-pub returns-in_err-open-clause-damaged : goal.returns-in_err-open-clause-damaged
-returns-in_err-open-clause-damaged g c = λ b bad. absurd (short_block c.from_residual-in_err-open.result _ c.from_residual-in_err-open.ensures.1 c.in_err-open.ensures.cause b bad)
+pub returns-in_err-promoting-clause-damaged : goal.returns-in_err-promoting-clause-damaged
+returns-in_err-promoting-clause-damaged g c = λ b bad. absurd (short_block c.from_residual-in_err-promoting.result _ c.from_residual-in_err-promoting.ensures.1 c.in_err-promoting.ensures.cause b bad)
 
 -- a slice was done
 
 pub returns-clause-ok : goal.returns-clause-ok
-returns-clause-ok g c = on_ok_then c.go_on.result c.go_on.ensures.ok (λ all x cached stands. all x cached (taken_open (g.D.Disk.view c.args.disk.now) (held_of (record c.args.held.now { promoting = c.take-taken.new.self; memory = c.seal_for_next.new.memory }) cached) x (stands_ready (g.D.Disk.view c.args.disk.now) (held_of c.args.held.now cached) x c.seal_for_next.new.memory (option_map open_of c.take-taken.new.self) (ap (option_map open_of) c.take-taken.ensures.after) stands) (open_of c.in_ok-open.open) (c.in_ok-open.ensures.ok stands.stands.content x cached (stands.stands.reads stands.stands.content stands.stands.left) stands.stands.sound stands.held (chain_short (g.D.Disk.view c.args.disk.now) (held_of c.args.held.now cached) x (c.requires.kept.0 cached) stands) (subst (λ (o : Option Promoting). IfSome (option_map open_of o) (IsOpenAt stands.stands.content (held_of (record c.args.held.now { promoting = c.take-taken.new.self; memory = c.seal_for_next.new.memory }) cached) x (length c.args.held.now.journal.list))) (sym c.take-taken.ensures.value) (open_ready stands.stands.content (held_of c.args.held.now cached) x (length c.args.held.now.journal.list) c.seal_for_next.new.memory (option_map open_of c.take-taken.new.self) c.seal_for_next.ensures.same stands.open_over)))))
+returns-clause-ok g c = on_ok_then c.go_on.result c.go_on.ensures.ok (λ all x cached stands. all x cached (taken_open (g.D.Disk.view c.args.disk.now) (held_of (record c.args.held.now { promoting = c.take-taken.new.self; memory = c.seal_for_next.new.memory }) cached) x (stands_ready (g.D.Disk.view c.args.disk.now) (held_of c.args.held.now cached) x c.seal_for_next.new.memory (option_map open_of c.take-taken.new.self) (ap (option_map open_of) c.take-taken.ensures.after) stands) (open_of c.in_ok-promoting.promoting) (c.in_ok-promoting.ensures.ok stands.stands.content x cached (stands.stands.reads stands.stands.content stands.stands.left) stands.stands.sound stands.held (chain_short (g.D.Disk.view c.args.disk.now) (held_of c.args.held.now cached) x (c.requires.kept.0 cached) stands) (subst (λ (o : Option Promoting). IfSome (option_map open_of o) (IsOpenAt stands.stands.content (held_of (record c.args.held.now { promoting = c.take-taken.new.self; memory = c.seal_for_next.new.memory }) cached) x (length c.args.held.now.journal.list))) (sym c.take-taken.ensures.value) (open_ready stands.stands.content (held_of c.args.held.now cached) x (length c.args.held.now.journal.list) c.seal_for_next.new.memory (option_map open_of c.take-taken.new.self) c.seal_for_next.ensures.same stands.open_over)))))
 
 pub returns-clause-budget : goal.returns-clause-budget
 returns-clause-budget g c = on_ok_then c.go_on.result c.go_on.ensures.budget (λ all f x cached told stands n most numbers few.
-    let same = c.in_ok-open.ensures.found.0 n (subst (λ (o : Option Promoting). AreNumbersOf c.args.held.now.sb.mem (length c.args.held.now.journal.list) (leads_in_memory c.seal_for_next.new.memory c.args.held.now.published.levels) (option_map open_of o) n)
+    let same = c.in_ok-promoting.ensures.found.0 n (subst (λ (o : Option Promoting). AreNumbersOf c.args.held.now.sb.mem (length c.args.held.now.journal.list) (leads_in_memory c.seal_for_next.new.memory c.args.held.now.published.levels) (option_map open_of o) n)
     (sym c.take-taken.ensures.value) (subst (λ (ls : List ℕ). AreNumbersOf c.args.held.now.sb.mem (length c.args.held.now.journal.list) ls (option_map open_of c.args.held.now.promoting) n) (sym (ready_leads c.args.held.now.sb.mem c.args.held.now.memory c.seal_for_next.new.memory c.args.held.now.published.levels c.seal_for_next.ensures.same)) numbers)) in
-    let target = target_of c.in_ok-open.open.promotion in
-    let fills = subst (λ (o : Option Promoting). FillsLevel c.args.held.now.sb.mem (leads_in_memory c.seal_for_next.new.memory c.args.held.now.published.levels) (option_map open_of o) target) c.take-taken.ensures.value c.in_ok-open.ensures.found.1 in
+    let target = target_of c.in_ok-promoting.promoting.promotion in
+    let fills = subst (λ (o : Option Promoting). FillsLevel c.args.held.now.sb.mem (leads_in_memory c.seal_for_next.new.memory c.args.held.now.published.levels) (option_map open_of o) target) c.take-taken.ensures.value c.in_ok-promoting.ensures.found.1 in
     let here = subst (λ (ls : List ℕ). FillsLevel c.args.held.now.sb.mem ls (option_map open_of c.args.held.now.promoting) target) (ready_leads c.args.held.now.sb.mem c.args.held.now.memory c.seal_for_next.new.memory c.args.held.now.published.levels c.seal_for_next.ensures.same) fills in
     subst (λ (k : SliceNumbers). KeepsToBudget k most (option_map (λ o. entries_taken o.promotion) (held_of c.go_on.new.held cached).promoting)) (sym same)
-    (all f x cached most told (taken_open (g.D.Disk.view c.args.disk.now) (held_of (record c.args.held.now { promoting = c.take-taken.new.self; memory = c.seal_for_next.new.memory }) cached) x (stands_ready (g.D.Disk.view c.args.disk.now) (held_of c.args.held.now cached) x c.seal_for_next.new.memory (option_map open_of c.take-taken.new.self) (ap (option_map open_of) c.take-taken.ensures.after) stands) (open_of c.in_ok-open.open) (c.in_ok-open.ensures.ok stands.stands.content x cached (stands.stands.reads stands.stands.content stands.stands.left) stands.stands.sound stands.held (chain_short (g.D.Disk.view c.args.disk.now) (held_of c.args.held.now cached) x (c.requires.kept.0 cached) stands) (subst (λ (o : Option Promoting). IfSome (option_map open_of o) (IsOpenAt stands.stands.content (held_of (record c.args.held.now { promoting = c.take-taken.new.self; memory = c.seal_for_next.new.memory }) cached) x (length c.args.held.now.journal.list))) (sym c.take-taken.ensures.value) (open_ready stands.stands.content (held_of c.args.held.now cached) x (length c.args.held.now.journal.list) c.seal_for_next.new.memory (option_map open_of c.take-taken.new.self) c.seal_for_next.ensures.same stands.open_over)))) (few target here)))
+    (all f x cached most told (taken_open (g.D.Disk.view c.args.disk.now) (held_of (record c.args.held.now { promoting = c.take-taken.new.self; memory = c.seal_for_next.new.memory }) cached) x (stands_ready (g.D.Disk.view c.args.disk.now) (held_of c.args.held.now cached) x c.seal_for_next.new.memory (option_map open_of c.take-taken.new.self) (ap (option_map open_of) c.take-taken.ensures.after) stands) (open_of c.in_ok-promoting.promoting) (c.in_ok-promoting.ensures.ok stands.stands.content x cached (stands.stands.reads stands.stands.content stands.stands.left) stands.stands.sound stands.held (chain_short (g.D.Disk.view c.args.disk.now) (held_of c.args.held.now cached) x (c.requires.kept.0 cached) stands) (subst (λ (o : Option Promoting). IfSome (option_map open_of o) (IsOpenAt stands.stands.content (held_of (record c.args.held.now { promoting = c.take-taken.new.self; memory = c.seal_for_next.new.memory }) cached) x (length c.args.held.now.journal.list))) (sym c.take-taken.ensures.value) (open_ready stands.stands.content (held_of c.args.held.now cached) x (length c.args.held.now.journal.list) c.seal_for_next.new.memory (option_map open_of c.take-taken.new.self) c.seal_for_next.ensures.same stands.open_over)))) (few target here)))
 
 pub returns-clause-found : goal.returns-clause-found
 returns-clause-found g c = on_ok_then c.go_on.result c.go_on.ensures.found (λ all cached.
@@ -151,21 +151,21 @@ returns-clause-disk g c = λ other cached on.
     c.go_on.ensures.disk other cached
     (kept_on (g.D.Disk.view c.args.disk.now) (held_of c.args.held.now cached) (held_of (record c.args.held.now { promoting = c.take-taken.new.self; memory = c.seal_for_next.new.memory }) cached) (record { slot = refl; sb = refl; chained = refl; levels = refl; filters = refl }) (λ f now. unread f (held_of (record c.args.held.now { promoting = c.take-taken.new.self; memory = c.seal_for_next.new.memory }) cached) (ap (option_map open_of) c.take-taken.ensures.after)) on)
     (λ f now.
-    c.in_ok-open.ensures.reads f (subst (λ (o : Option Promoting). IfSome (option_map open_of o) (λ p. ReadsOf f (arrays_to c.args.held.now.published.levels (target_of p.promotion)) p.promotion)) (sym c.take-taken.ensures.value)
+    c.in_ok-promoting.ensures.reads f (subst (λ (o : Option Promoting). IfSome (option_map open_of o) (λ p. ReadsOf f (arrays_to c.args.held.now.published.levels (target_of p.promotion)) p.promotion)) (sym c.take-taken.ensures.value)
     (read_open (g.D.Disk.view c.args.disk.now) (held_of c.args.held.now cached) on f now)))
 
 pub returns-clause-none : goal.returns-clause-none
 returns-clause-none g c = λ short x cached stands. c.go_on.ensures.none short x cached (stands_ready (g.D.Disk.view c.args.disk.now) (held_of c.args.held.now cached) x c.seal_for_next.new.memory (option_map open_of c.take-taken.new.self) (ap (option_map open_of) c.take-taken.ensures.after) stands)
 
 pub returns-clause-trail : goal.returns-clause-trail
-returns-clause-trail g c = λ x cached stands. c.go_on.ensures.trail x cached (taken_open (g.D.Disk.view c.args.disk.now) (held_of (record c.args.held.now { promoting = c.take-taken.new.self; memory = c.seal_for_next.new.memory }) cached) x (stands_ready (g.D.Disk.view c.args.disk.now) (held_of c.args.held.now cached) x c.seal_for_next.new.memory (option_map open_of c.take-taken.new.self) (ap (option_map open_of) c.take-taken.ensures.after) stands) (open_of c.in_ok-open.open) (c.in_ok-open.ensures.ok stands.stands.content x cached (stands.stands.reads stands.stands.content stands.stands.left) stands.stands.sound stands.held (chain_short (g.D.Disk.view c.args.disk.now) (held_of c.args.held.now cached) x (c.requires.kept.0 cached) stands) (subst (λ (o : Option Promoting). IfSome (option_map open_of o) (IsOpenAt stands.stands.content (held_of (record c.args.held.now { promoting = c.take-taken.new.self; memory = c.seal_for_next.new.memory }) cached) x (length c.args.held.now.journal.list))) (sym c.take-taken.ensures.value) (open_ready stands.stands.content (held_of c.args.held.now cached) x (length c.args.held.now.journal.list) c.seal_for_next.new.memory (option_map open_of c.take-taken.new.self) c.seal_for_next.ensures.same stands.open_over))))
+returns-clause-trail g c = λ x cached stands. c.go_on.ensures.trail x cached (taken_open (g.D.Disk.view c.args.disk.now) (held_of (record c.args.held.now { promoting = c.take-taken.new.self; memory = c.seal_for_next.new.memory }) cached) x (stands_ready (g.D.Disk.view c.args.disk.now) (held_of c.args.held.now cached) x c.seal_for_next.new.memory (option_map open_of c.take-taken.new.self) (ap (option_map open_of) c.take-taken.ensures.after) stands) (open_of c.in_ok-promoting.promoting) (c.in_ok-promoting.ensures.ok stands.stands.content x cached (stands.stands.reads stands.stands.content stands.stands.left) stands.stands.sound stands.held (chain_short (g.D.Disk.view c.args.disk.now) (held_of c.args.held.now cached) x (c.requires.kept.0 cached) stands) (subst (λ (o : Option Promoting). IfSome (option_map open_of o) (IsOpenAt stands.stands.content (held_of (record c.args.held.now { promoting = c.take-taken.new.self; memory = c.seal_for_next.new.memory }) cached) x (length c.args.held.now.journal.list))) (sym c.take-taken.ensures.value) (open_ready stands.stands.content (held_of c.args.held.now cached) x (length c.args.held.now.journal.list) c.seal_for_next.new.memory (option_map open_of c.take-taken.new.self) c.seal_for_next.ensures.same stands.open_over))))
 
 pub returns-clause-kept : goal.returns-clause-kept
 returns-clause-kept g c =
     ok_or_short c.go_on.result c.go_on.ensures.kept (λ short cached. subst (λ (h : OpenStore). IsConsistent (held_of h cached)) (sym (c.go_on.ensures.same.1 short)) (consistent_ready (held_of c.args.held.now cached) c.seal_for_next.new.memory (option_map open_of c.take-taken.new.self) (ap (option_map open_of) c.take-taken.ensures.after) c.seal_for_next.ensures.same c.requires.kept.1 (c.requires.kept.0 cached)))
 
 pub returns-clause-err : goal.returns-clause-err
-returns-clause-err g c = λ unfit x cached stands. c.go_on.ensures.err unfit x cached (taken_open (g.D.Disk.view c.args.disk.now) (held_of (record c.args.held.now { promoting = c.take-taken.new.self; memory = c.seal_for_next.new.memory }) cached) x (stands_ready (g.D.Disk.view c.args.disk.now) (held_of c.args.held.now cached) x c.seal_for_next.new.memory (option_map open_of c.take-taken.new.self) (ap (option_map open_of) c.take-taken.ensures.after) stands) (open_of c.in_ok-open.open) (c.in_ok-open.ensures.ok stands.stands.content x cached (stands.stands.reads stands.stands.content stands.stands.left) stands.stands.sound stands.held (chain_short (g.D.Disk.view c.args.disk.now) (held_of c.args.held.now cached) x (c.requires.kept.0 cached) stands) (subst (λ (o : Option Promoting). IfSome (option_map open_of o) (IsOpenAt stands.stands.content (held_of (record c.args.held.now { promoting = c.take-taken.new.self; memory = c.seal_for_next.new.memory }) cached) x (length c.args.held.now.journal.list))) (sym c.take-taken.ensures.value) (open_ready stands.stands.content (held_of c.args.held.now cached) x (length c.args.held.now.journal.list) c.seal_for_next.new.memory (option_map open_of c.take-taken.new.self) c.seal_for_next.ensures.same stands.open_over))))
+returns-clause-err g c = λ unfit x cached stands. c.go_on.ensures.err unfit x cached (taken_open (g.D.Disk.view c.args.disk.now) (held_of (record c.args.held.now { promoting = c.take-taken.new.self; memory = c.seal_for_next.new.memory }) cached) x (stands_ready (g.D.Disk.view c.args.disk.now) (held_of c.args.held.now cached) x c.seal_for_next.new.memory (option_map open_of c.take-taken.new.self) (ap (option_map open_of) c.take-taken.ensures.after) stands) (open_of c.in_ok-promoting.promoting) (c.in_ok-promoting.ensures.ok stands.stands.content x cached (stands.stands.reads stands.stands.content stands.stands.left) stands.stands.sound stands.held (chain_short (g.D.Disk.view c.args.disk.now) (held_of c.args.held.now cached) x (c.requires.kept.0 cached) stands) (subst (λ (o : Option Promoting). IfSome (option_map open_of o) (IsOpenAt stands.stands.content (held_of (record c.args.held.now { promoting = c.take-taken.new.self; memory = c.seal_for_next.new.memory }) cached) x (length c.args.held.now.journal.list))) (sym c.take-taken.ensures.value) (open_ready stands.stands.content (held_of c.args.held.now cached) x (length c.args.held.now.journal.list) c.seal_for_next.new.memory (option_map open_of c.take-taken.new.self) c.seal_for_next.ensures.same stands.open_over))))
 
 pub returns-clause-images : goal.returns-clause-images
 returns-clause-images g c = (
@@ -203,9 +203,9 @@ returns-clause-damaged g c = λ b torn.
       λ cached reads. record {
         listed = listed;
         bad = λ f now.
-            inr (told.1 f now (c.in_ok-open.ensures.reads f
+            inr (told.1 f now (c.in_ok-promoting.ensures.reads f
             (subst (λ (o : Option Promoting). IfSome (option_map open_of o) (λ p. ReadsOf f (arrays_to c.args.held.now.published.levels (target_of p.promotion)) p.promotion)) (sym c.take-taken.ensures.value) (reads f now))));
       },
       λ x cached stands.
-          none_damaged (g.D.Disk.view c.args.disk.now) (held_of c.args.held.now cached) x b (c.requires.kept.0 cached) stands (λ f now. told.1 f now (stands_reads (g.D.Disk.view c.args.disk.now) (held_of (record c.args.held.now { promoting = c.take-taken.new.self; memory = c.seal_for_next.new.memory }) cached) x (open_of c.in_ok-open.open) (taken_open (g.D.Disk.view c.args.disk.now) (held_of (record c.args.held.now { promoting = c.take-taken.new.self; memory = c.seal_for_next.new.memory }) cached) x (stands_ready (g.D.Disk.view c.args.disk.now) (held_of c.args.held.now cached) x c.seal_for_next.new.memory (option_map open_of c.take-taken.new.self) (ap (option_map open_of) c.take-taken.ensures.after) stands) (open_of c.in_ok-open.open) (c.in_ok-open.ensures.ok stands.stands.content x cached (stands.stands.reads stands.stands.content stands.stands.left) stands.stands.sound stands.held (chain_short (g.D.Disk.view c.args.disk.now) (held_of c.args.held.now cached) x (c.requires.kept.0 cached) stands) (subst (λ (o : Option Promoting). IfSome (option_map open_of o) (IsOpenAt stands.stands.content (held_of (record c.args.held.now { promoting = c.take-taken.new.self; memory = c.seal_for_next.new.memory }) cached) x (length c.args.held.now.journal.list))) (sym c.take-taken.ensures.value) (open_ready stands.stands.content (held_of c.args.held.now cached) x (length c.args.held.now.journal.list) c.seal_for_next.new.memory (option_map open_of c.take-taken.new.self) c.seal_for_next.ensures.same stands.open_over)))) f now)),
+          none_damaged (g.D.Disk.view c.args.disk.now) (held_of c.args.held.now cached) x b (c.requires.kept.0 cached) stands (λ f now. told.1 f now (stands_reads (g.D.Disk.view c.args.disk.now) (held_of (record c.args.held.now { promoting = c.take-taken.new.self; memory = c.seal_for_next.new.memory }) cached) x (open_of c.in_ok-promoting.promoting) (taken_open (g.D.Disk.view c.args.disk.now) (held_of (record c.args.held.now { promoting = c.take-taken.new.self; memory = c.seal_for_next.new.memory }) cached) x (stands_ready (g.D.Disk.view c.args.disk.now) (held_of c.args.held.now cached) x c.seal_for_next.new.memory (option_map open_of c.take-taken.new.self) (ap (option_map open_of) c.take-taken.ensures.after) stands) (open_of c.in_ok-promoting.promoting) (c.in_ok-promoting.ensures.ok stands.stands.content x cached (stands.stands.reads stands.stands.content stands.stands.left) stands.stands.sound stands.held (chain_short (g.D.Disk.view c.args.disk.now) (held_of c.args.held.now cached) x (c.requires.kept.0 cached) stands) (subst (λ (o : Option Promoting). IfSome (option_map open_of o) (IsOpenAt stands.stands.content (held_of (record c.args.held.now { promoting = c.take-taken.new.self; memory = c.seal_for_next.new.memory }) cached) x (length c.args.held.now.journal.list))) (sym c.take-taken.ensures.value) (open_ready stands.stands.content (held_of c.args.held.now cached) x (length c.args.held.now.journal.list) c.seal_for_next.new.memory (option_map open_of c.take-taken.new.self) c.seal_for_next.ensures.same stands.open_over)))) f now)),
     )

@@ -34,15 +34,15 @@ use Rattle.strat_publish.proofs.advance.go_on.Goals as goal
 
 pub returns-in_err-progress-clause-none : goal.returns-in_err-progress-clause-none
 returns-in_err-progress-clause-none g c = λ short x cached stands.
-    stands_beside (g.D.Disk.view c.args.disk.now) (g.D.Disk.view c.slice_open-progress.new.disk) (held_of c.args.held.now cached) x (ap (option_map open_of) c.requires.kept.1) stands (beside_apart (held_of c.args.held.now cached) c.args.open.space _ (c.requires.kept.0 cached).1.first (c.requires.kept.0 cached).1.apart (g.D.Disk.view c.args.disk.now) (g.D.Disk.view c.slice_open-progress.new.disk) c.slice_open-progress.ensures.images) (g.met.D.Disk.leaves_content c.slice_open-progress.new.disk)
+    stands_beside (g.D.Disk.view c.args.disk.now) (g.D.Disk.view c.slice_open-progress.new.disk) (held_of c.args.held.now cached) x (ap (option_map open_of) c.requires.kept.1) stands (beside_apart (held_of c.args.held.now cached) c.args.promoting.space _ (c.requires.kept.0 cached).1.first (c.requires.kept.0 cached).1.apart (g.D.Disk.view c.args.disk.now) (g.D.Disk.view c.slice_open-progress.new.disk) c.slice_open-progress.ensures.images) (g.met.D.Disk.leaves_content c.slice_open-progress.new.disk)
 
 pub returns-in_err-progress-clause-trail : goal.returns-in_err-progress-clause-trail
 returns-in_err-progress-clause-trail g c = λ x cached st.
-    let beside = (beside_apart (held_of c.args.held.now cached) c.args.open.space _ (c.requires.kept.0 cached).1.first (c.requires.kept.0 cached).1.apart (g.D.Disk.view c.args.disk.now) (g.D.Disk.view c.slice_open-progress.new.disk) c.slice_open-progress.ensures.images) in
+    let beside = (beside_apart (held_of c.args.held.now cached) c.args.promoting.space _ (c.requires.kept.0 cached).1.first (c.requires.kept.0 cached).1.apart (g.D.Disk.view c.args.disk.now) (g.D.Disk.view c.slice_open-progress.new.disk) c.slice_open-progress.ensures.images) in
     (trail_beside (g.D.Disk.view c.args.disk.now) (g.D.Disk.view c.slice_open-progress.new.disk) (held_of c.args.held.now cached) x st.stands beside, λ paid. paid_beside (g.D.Disk.view c.args.disk.now) (g.D.Disk.view c.slice_open-progress.new.disk) (held_of c.args.held.now cached) x st.stands beside paid)
 
 pub returns-in_err-progress-clause-disk : goal.returns-in_err-progress-clause-disk
-returns-in_err-progress-clause-disk g c = λ other cached on read. beside_on (g.D.Disk.view c.args.disk.now) (g.D.Disk.view c.slice_open-progress.new.disk) (held_of c.args.held.now cached) (ap (option_map open_of) c.requires.kept.1) (beside_apart (held_of c.args.held.now cached) c.args.open.space _ (c.requires.kept.0 cached).1.first (c.requires.kept.0 cached).1.apart (g.D.Disk.view c.args.disk.now) (g.D.Disk.view c.slice_open-progress.new.disk) c.slice_open-progress.ensures.images) on
+returns-in_err-progress-clause-disk g c = λ other cached on read. beside_on (g.D.Disk.view c.args.disk.now) (g.D.Disk.view c.slice_open-progress.new.disk) (held_of c.args.held.now cached) (ap (option_map open_of) c.requires.kept.1) (beside_apart (held_of c.args.held.now cached) c.args.promoting.space _ (c.requires.kept.0 cached).1.first (c.requires.kept.0 cached).1.apart (g.D.Disk.view c.args.disk.now) (g.D.Disk.view c.slice_open-progress.new.disk) c.slice_open-progress.ensures.images) on
 
 pub returns-in_err-progress-clause-same : goal.returns-in_err-progress-clause-same
 returns-in_err-progress-clause-same g c =
@@ -56,7 +56,7 @@ returns-in_err-progress-clause-damaged g c = λ b torn. c.in_err-progress.ensure
 
 pub returns-in_err-progress-clause-images : goal.returns-in_err-progress-clause-images
 returns-in_err-progress-clause-images g c =
-    let beside = (beside_apart (held_of c.args.held.now (empty_cache 0)) c.args.open.space _ (c.requires.kept.0 (empty_cache 0)).1.first (c.requires.kept.0 (empty_cache 0)).1.apart (g.D.Disk.view c.args.disk.now) (g.D.Disk.view c.slice_open-progress.new.disk) c.slice_open-progress.ensures.images) in
+    let beside = (beside_apart (held_of c.args.held.now (empty_cache 0)) c.args.promoting.space _ (c.requires.kept.0 (empty_cache 0)).1.first (c.requires.kept.0 (empty_cache 0)).1.apart (g.D.Disk.view c.args.disk.now) (g.D.Disk.view c.slice_open-progress.new.disk) c.slice_open-progress.ensures.images) in
     (beside.tears.time, arrays_kept (g.D.Disk.view c.args.disk.now) (g.D.Disk.view c.slice_open-progress.new.disk) (held_of c.args.held.now (empty_cache 0)) beside (c.requires.kept.0 (empty_cache 0)).0.placed)
 
 -- it left an entry
@@ -65,40 +65,40 @@ pub returns-in-More-clause-ok : goal.returns-in-More-clause-ok
 returns-in-More-clause-ok g c = λ x cached st.
     let then = more_of c.in_ok-progress.progress c.in-More.is c.in_ok-progress.ensures.ok x cached st in
     subst (λ (h : OpenStore). HasAdvanced (g.D.Disk.view c.slice_open-progress.new.disk) (held_of c.args.held.now cached) x (held_of h cached)) (sym c.in_ok-keep_open.ensures.ok.0)
-    (inl (stands_more (g.D.Disk.view c.slice_open-progress.new.disk) (held_of c.args.held.now cached) x (open_of c.slice_open-progress.new.open) then.1 then.0 then.2))
+    (inl (stands_more (g.D.Disk.view c.slice_open-progress.new.disk) (held_of c.args.held.now cached) x (open_of c.slice_open-progress.new.promoting) then.1 then.0 then.2))
 
 pub returns-in-More-clause-budget : goal.returns-in-More-clause-budget
 returns-in-More-clause-budget g c = λ f x cached most told st all.
-    subst (λ (h : OpenStore). KeepsToBudget (slice_numbers (open_of c.args.open)) most (option_map (λ o. entries_taken o.promotion) (held_of h cached).promoting)) (sym c.in_ok-keep_open.ensures.ok.0)
+    subst (λ (h : OpenStore). KeepsToBudget (slice_numbers (open_of c.args.promoting)) most (option_map (λ o. entries_taken o.promotion) (held_of h cached).promoting)) (sym c.in_ok-keep_open.ensures.ok.0)
     (more_of c.in_ok-progress.progress c.in-More.is c.in_ok-progress.ensures.budget)
 
 pub returns-in-More-clause-found : goal.returns-in-More-clause-found
 returns-in-More-clause-found g c = λ cached.
     subst (λ (h : OpenStore). TakesOpen (held_of c.args.held.now cached) (held_of h cached) ⊎ IsInstalled (held_of c.args.held.now cached) (held_of h cached)) (sym c.in_ok-keep_open.ensures.ok.0)
-    (inl (record { promotion = open_of c.slice_open-progress.new.open; held = refl; room = c.in_ok-keep_open.ensures.ok.1 }))
+    (inl (record { promotion = open_of c.slice_open-progress.new.promoting; held = refl; room = c.in_ok-keep_open.ensures.ok.1 }))
 
 pub returns-in-More-clause-disk : goal.returns-in-More-clause-disk
 returns-in-More-clause-disk g c = λ other cached on read.
     subst (λ (h : OpenStore). IsOnDisk (g.D.Disk.view c.slice_open-progress.new.disk) (held_of h cached)) (sym c.in_ok-keep_open.ensures.ok.0)
-    (on_more (g.D.Disk.view c.args.disk.now) (g.D.Disk.view c.slice_open-progress.new.disk) (held_of c.args.held.now cached) (open_of c.args.open) (open_of c.slice_open-progress.new.open) (ap (option_map open_of) c.requires.kept.1) (beside_apart (held_of c.args.held.now cached) c.args.open.space _ (c.requires.kept.0 cached).1.first (c.requires.kept.0 cached).1.apart (g.D.Disk.view c.args.disk.now) (g.D.Disk.view c.slice_open-progress.new.disk) c.slice_open-progress.ensures.images)
+    (on_more (g.D.Disk.view c.args.disk.now) (g.D.Disk.view c.slice_open-progress.new.disk) (held_of c.args.held.now cached) (open_of c.args.promoting) (open_of c.slice_open-progress.new.promoting) (ap (option_map open_of) c.requires.kept.1) (beside_apart (held_of c.args.held.now cached) c.args.promoting.space _ (c.requires.kept.0 cached).1.first (c.requires.kept.0 cached).1.apart (g.D.Disk.view c.args.disk.now) (g.D.Disk.view c.slice_open-progress.new.disk) c.slice_open-progress.ensures.images)
     (more_of c.in_ok-progress.progress c.in-More.is c.in_ok-progress.ensures.found) on read)
 
 pub returns-in-More-clause-trail : goal.returns-in-More-clause-trail
 returns-in-More-clause-trail g c = λ x cached st.
-    let beside = (beside_apart (held_of c.args.held.now cached) c.args.open.space _ (c.requires.kept.0 cached).1.first (c.requires.kept.0 cached).1.apart (g.D.Disk.view c.args.disk.now) (g.D.Disk.view c.slice_open-progress.new.disk) c.slice_open-progress.ensures.images) in
+    let beside = (beside_apart (held_of c.args.held.now cached) c.args.promoting.space _ (c.requires.kept.0 cached).1.first (c.requires.kept.0 cached).1.apart (g.D.Disk.view c.args.disk.now) (g.D.Disk.view c.slice_open-progress.new.disk) c.slice_open-progress.ensures.images) in
     (trail_beside (g.D.Disk.view c.args.disk.now) (g.D.Disk.view c.slice_open-progress.new.disk) (held_of c.args.held.now cached) x st.stands beside, λ paid. paid_beside (g.D.Disk.view c.args.disk.now) (g.D.Disk.view c.slice_open-progress.new.disk) (held_of c.args.held.now cached) x st.stands beside paid)
 
 pub returns-in-More-clause-kept : goal.returns-in-More-clause-kept
 returns-in-More-clause-kept g c = λ cached.
     subst (λ (h : OpenStore). IsConsistent (held_of h cached)) (sym c.in_ok-keep_open.ensures.ok.0)
-    (whole_more (held_of c.args.held.now cached) (open_of c.slice_open-progress.new.open) (c.requires.kept.0 cached).0 (more_of c.in_ok-progress.progress c.in-More.is c.in_ok-progress.ensures.kept cached))
+    (whole_more (held_of c.args.held.now cached) (open_of c.slice_open-progress.new.promoting) (c.requires.kept.0 cached).0 (more_of c.in_ok-progress.progress c.in-More.is c.in_ok-progress.ensures.kept cached))
 
 pub returns-in-More-clause-same : goal.returns-in-More-clause-same
 returns-in-More-clause-same g c = (ap (λ (h : OpenStore). h.sb.mem) c.in_ok-keep_open.ensures.ok.0, λ short. absurd short, tt)
 
 pub returns-in-More-clause-images : goal.returns-in-More-clause-images
 returns-in-More-clause-images g c =
-    let beside = (beside_apart (held_of c.args.held.now (empty_cache 0)) c.args.open.space _ (c.requires.kept.0 (empty_cache 0)).1.first (c.requires.kept.0 (empty_cache 0)).1.apart (g.D.Disk.view c.args.disk.now) (g.D.Disk.view c.slice_open-progress.new.disk) c.slice_open-progress.ensures.images) in
+    let beside = (beside_apart (held_of c.args.held.now (empty_cache 0)) c.args.promoting.space _ (c.requires.kept.0 (empty_cache 0)).1.first (c.requires.kept.0 (empty_cache 0)).1.apart (g.D.Disk.view c.args.disk.now) (g.D.Disk.view c.slice_open-progress.new.disk) c.slice_open-progress.ensures.images) in
     (beside.tears.time, arrays_kept (g.D.Disk.view c.args.disk.now) (g.D.Disk.view c.slice_open-progress.new.disk) (held_of c.args.held.now (empty_cache 0)) beside (c.requires.kept.0 (empty_cache 0)).0.placed)
 
 -- it left an entry, and the journal has no room
@@ -112,16 +112,16 @@ returns-in-More-in_err-keep_open-clause-err g c = λ unfit x cached st.
 pub returns-in-More-in_err-keep_open-clause-none : goal.returns-in-More-in_err-keep_open-clause-none
 returns-in-More-in_err-keep_open-clause-none g c = λ short x cached stands.
     subst (λ (h : OpenStore). StandsWith (g.D.Disk.view c.slice_open-progress.new.disk) (held_of h cached) x) (sym c.in_err-keep_open.ensures.err.0)
-    (stands_beside (g.D.Disk.view c.args.disk.now) (g.D.Disk.view c.slice_open-progress.new.disk) (held_of c.args.held.now cached) x (ap (option_map open_of) c.requires.kept.1) stands (beside_apart (held_of c.args.held.now cached) c.args.open.space _ (c.requires.kept.0 cached).1.first (c.requires.kept.0 cached).1.apart (g.D.Disk.view c.args.disk.now) (g.D.Disk.view c.slice_open-progress.new.disk) c.slice_open-progress.ensures.images) (g.met.D.Disk.leaves_content c.slice_open-progress.new.disk))
+    (stands_beside (g.D.Disk.view c.args.disk.now) (g.D.Disk.view c.slice_open-progress.new.disk) (held_of c.args.held.now cached) x (ap (option_map open_of) c.requires.kept.1) stands (beside_apart (held_of c.args.held.now cached) c.args.promoting.space _ (c.requires.kept.0 cached).1.first (c.requires.kept.0 cached).1.apart (g.D.Disk.view c.args.disk.now) (g.D.Disk.view c.slice_open-progress.new.disk) c.slice_open-progress.ensures.images) (g.met.D.Disk.leaves_content c.slice_open-progress.new.disk))
 
 pub returns-in-More-in_err-keep_open-clause-trail : goal.returns-in-More-in_err-keep_open-clause-trail
 returns-in-More-in_err-keep_open-clause-trail g c = λ x cached st.
-    let beside = (beside_apart (held_of c.args.held.now cached) c.args.open.space _ (c.requires.kept.0 cached).1.first (c.requires.kept.0 cached).1.apart (g.D.Disk.view c.args.disk.now) (g.D.Disk.view c.slice_open-progress.new.disk) c.slice_open-progress.ensures.images) in
+    let beside = (beside_apart (held_of c.args.held.now cached) c.args.promoting.space _ (c.requires.kept.0 cached).1.first (c.requires.kept.0 cached).1.apart (g.D.Disk.view c.args.disk.now) (g.D.Disk.view c.slice_open-progress.new.disk) c.slice_open-progress.ensures.images) in
     (trail_beside (g.D.Disk.view c.args.disk.now) (g.D.Disk.view c.slice_open-progress.new.disk) (held_of c.args.held.now cached) x st.stands beside, λ paid. paid_beside (g.D.Disk.view c.args.disk.now) (g.D.Disk.view c.slice_open-progress.new.disk) (held_of c.args.held.now cached) x st.stands beside paid)
 
 pub returns-in-More-in_err-keep_open-clause-disk : goal.returns-in-More-in_err-keep_open-clause-disk
 returns-in-More-in_err-keep_open-clause-disk g c = λ other cached on read.
-    subst (λ (h : OpenStore). IsOnDisk (g.D.Disk.view c.slice_open-progress.new.disk) (held_of h cached)) (sym c.in_err-keep_open.ensures.err.0) (beside_on (g.D.Disk.view c.args.disk.now) (g.D.Disk.view c.slice_open-progress.new.disk) (held_of c.args.held.now cached) (ap (option_map open_of) c.requires.kept.1) (beside_apart (held_of c.args.held.now cached) c.args.open.space _ (c.requires.kept.0 cached).1.first (c.requires.kept.0 cached).1.apart (g.D.Disk.view c.args.disk.now) (g.D.Disk.view c.slice_open-progress.new.disk) c.slice_open-progress.ensures.images) on)
+    subst (λ (h : OpenStore). IsOnDisk (g.D.Disk.view c.slice_open-progress.new.disk) (held_of h cached)) (sym c.in_err-keep_open.ensures.err.0) (beside_on (g.D.Disk.view c.args.disk.now) (g.D.Disk.view c.slice_open-progress.new.disk) (held_of c.args.held.now cached) (ap (option_map open_of) c.requires.kept.1) (beside_apart (held_of c.args.held.now cached) c.args.promoting.space _ (c.requires.kept.0 cached).1.first (c.requires.kept.0 cached).1.apart (g.D.Disk.view c.args.disk.now) (g.D.Disk.view c.slice_open-progress.new.disk) c.slice_open-progress.ensures.images) on)
 
 pub returns-in-More-in_err-keep_open-clause-same : goal.returns-in-More-in_err-keep_open-clause-same
 returns-in-More-in_err-keep_open-clause-same g c =
@@ -137,7 +137,7 @@ returns-in-More-in_err-keep_open-clause-same g c =
 
 pub returns-in-More-in_err-keep_open-clause-images : goal.returns-in-More-in_err-keep_open-clause-images
 returns-in-More-in_err-keep_open-clause-images g c =
-    let beside = (beside_apart (held_of c.args.held.now (empty_cache 0)) c.args.open.space _ (c.requires.kept.0 (empty_cache 0)).1.first (c.requires.kept.0 (empty_cache 0)).1.apart (g.D.Disk.view c.args.disk.now) (g.D.Disk.view c.slice_open-progress.new.disk) c.slice_open-progress.ensures.images) in
+    let beside = (beside_apart (held_of c.args.held.now (empty_cache 0)) c.args.promoting.space _ (c.requires.kept.0 (empty_cache 0)).1.first (c.requires.kept.0 (empty_cache 0)).1.apart (g.D.Disk.view c.args.disk.now) (g.D.Disk.view c.slice_open-progress.new.disk) c.slice_open-progress.ensures.images) in
     (beside.tears.time, arrays_kept (g.D.Disk.view c.args.disk.now) (g.D.Disk.view c.slice_open-progress.new.disk) (held_of c.args.held.now (empty_cache 0)) beside (c.requires.kept.0 (empty_cache 0)).0.placed)
 
 -- it was the last one
@@ -158,22 +158,22 @@ returns-in-Done-clause-ok g c =
 pub returns-in-Done-clause-budget : goal.returns-in-Done-clause-budget
 returns-in-Done-clause-budget g c =
     on_ok_then c.publish_made.result c.publish_made.ensures.found (λ installed f x cached most told st all.
-    subst (λ (p : Option OpenPromotion). KeepsToBudget (slice_numbers (open_of c.args.open)) most (option_map (λ o. entries_taken o.promotion) p)) (sym (ap (λ (h : Held). h.promoting) (installed cached).next))
+    subst (λ (p : Option OpenPromotion). KeepsToBudget (slice_numbers (open_of c.args.promoting)) most (option_map (λ o. entries_taken o.promotion) p)) (sym (ap (λ (h : Held). h.promoting) (installed cached).next))
     (done_of c.in_ok-progress.progress c.in-Done.is c.in_ok-progress.ensures.budget f x cached most told st all))
 
 pub returns-in-Done-clause-found : goal.returns-in-Done-clause-found
 returns-in-Done-clause-found g c = on_ok_then c.publish_made.result c.publish_made.ensures.found (λ installed cached. inr (installed cached))
 
 pub returns-in-Done-clause-disk : goal.returns-in-Done-clause-disk
-returns-in-Done-clause-disk g c = λ other cached on read. c.publish_made.ensures.disk other cached (beside_on (g.D.Disk.view c.args.disk.now) (g.D.Disk.view c.slice_open-progress.new.disk) (held_of c.args.held.now cached) (ap (option_map open_of) c.requires.kept.1) (beside_apart (held_of c.args.held.now cached) c.args.open.space _ (c.requires.kept.0 cached).1.first (c.requires.kept.0 cached).1.apart (g.D.Disk.view c.args.disk.now) (g.D.Disk.view c.slice_open-progress.new.disk) c.slice_open-progress.ensures.images) on)
+returns-in-Done-clause-disk g c = λ other cached on read. c.publish_made.ensures.disk other cached (beside_on (g.D.Disk.view c.args.disk.now) (g.D.Disk.view c.slice_open-progress.new.disk) (held_of c.args.held.now cached) (ap (option_map open_of) c.requires.kept.1) (beside_apart (held_of c.args.held.now cached) c.args.promoting.space _ (c.requires.kept.0 cached).1.first (c.requires.kept.0 cached).1.apart (g.D.Disk.view c.args.disk.now) (g.D.Disk.view c.slice_open-progress.new.disk) c.slice_open-progress.ensures.images) on)
 
 pub returns-in-Done-clause-none : goal.returns-in-Done-clause-none
 returns-in-Done-clause-none g c = λ short x cached stands.
-    c.publish_made.ensures.none short x cached (stands_beside (g.D.Disk.view c.args.disk.now) (g.D.Disk.view c.slice_open-progress.new.disk) (held_of c.args.held.now cached) x (ap (option_map open_of) c.requires.kept.1) stands (beside_apart (held_of c.args.held.now cached) c.args.open.space _ (c.requires.kept.0 cached).1.first (c.requires.kept.0 cached).1.apart (g.D.Disk.view c.args.disk.now) (g.D.Disk.view c.slice_open-progress.new.disk) c.slice_open-progress.ensures.images) (g.met.D.Disk.leaves_content c.slice_open-progress.new.disk))
+    c.publish_made.ensures.none short x cached (stands_beside (g.D.Disk.view c.args.disk.now) (g.D.Disk.view c.slice_open-progress.new.disk) (held_of c.args.held.now cached) x (ap (option_map open_of) c.requires.kept.1) stands (beside_apart (held_of c.args.held.now cached) c.args.promoting.space _ (c.requires.kept.0 cached).1.first (c.requires.kept.0 cached).1.apart (g.D.Disk.view c.args.disk.now) (g.D.Disk.view c.slice_open-progress.new.disk) c.slice_open-progress.ensures.images) (g.met.D.Disk.leaves_content c.slice_open-progress.new.disk))
 
 pub returns-in-Done-clause-trail : goal.returns-in-Done-clause-trail
 returns-in-Done-clause-trail g c = λ x cached st.
-    let beside = (beside_apart (held_of c.args.held.now cached) c.args.open.space _ (c.requires.kept.0 cached).1.first (c.requires.kept.0 cached).1.apart (g.D.Disk.view c.args.disk.now) (g.D.Disk.view c.slice_open-progress.new.disk) c.slice_open-progress.ensures.images) in
+    let beside = (beside_apart (held_of c.args.held.now cached) c.args.promoting.space _ (c.requires.kept.0 cached).1.first (c.requires.kept.0 cached).1.apart (g.D.Disk.view c.args.disk.now) (g.D.Disk.view c.slice_open-progress.new.disk) c.slice_open-progress.ensures.images) in
     let laid = c.publish_made.ensures.trail x cached (done_of c.in_ok-progress.progress c.in-Done.is c.in_ok-progress.ensures.ok x cached st) in
     let time = c.publish_made.ensures.images.0 in (
       one_trail ShowsTable (g.D.Disk.view c.slice_open-progress.new.disk) (g.D.Disk.view c.publish_made.new.disk) _ _ time (trail_beside (g.D.Disk.view c.args.disk.now) (g.D.Disk.view c.slice_open-progress.new.disk) (held_of c.args.held.now cached) x st.stands beside) laid.0,
@@ -185,7 +185,7 @@ returns-in-Done-clause-err g c = λ unfit x cached st. c.publish_made.ensures.er
 
 pub returns-in-Done-clause-images : goal.returns-in-Done-clause-images
 returns-in-Done-clause-images g c =
-    let beside = (beside_apart (held_of c.args.held.now (empty_cache 0)) c.args.open.space _ (c.requires.kept.0 (empty_cache 0)).1.first (c.requires.kept.0 (empty_cache 0)).1.apart (g.D.Disk.view c.args.disk.now) (g.D.Disk.view c.slice_open-progress.new.disk) c.slice_open-progress.ensures.images) in (
+    let beside = (beside_apart (held_of c.args.held.now (empty_cache 0)) c.args.promoting.space _ (c.requires.kept.0 (empty_cache 0)).1.first (c.requires.kept.0 (empty_cache 0)).1.apart (g.D.Disk.view c.args.disk.now) (g.D.Disk.view c.slice_open-progress.new.disk) c.slice_open-progress.ensures.images) in (
       passes_trans beside.tears.time c.publish_made.ensures.images.0,
       λ f h was now b of.
           let mid = still_told (g.D.Disk.view c.args.disk.now) (g.D.Disk.view c.slice_open-progress.new.disk) f beside.tears.time was in

@@ -35,10 +35,10 @@ use Rattle.strat_publish.proofs.checkpoint.publish_made.Goals.{After-take_made-m
 use Rattle.strat_publish.proofs.checkpoint.publish_made.Goals as goal
 
 -- where what was made stands, the next contents may be readied
-made_here : (g : Over) (c : After-take_made-made g) (x : Contents) (cached : Blocks) → StandsEnded (g.D.Disk.view c.args.disk.now) (held_of c.args.held.now cached) x (open_of c.args.open)
-    → StandsMade (g.D.Disk.view c.args.disk.now) (held_of c.args.held.now cached) x c.args.open.space c.take_made-made.result.target c.take_made-made.result.level c.take_made-made.result.filters
+made_here : (g : Over) (c : After-take_made-made g) (x : Contents) (cached : Blocks) → StandsEnded (g.D.Disk.view c.args.disk.now) (held_of c.args.held.now cached) x (open_of c.args.promoting)
+    → StandsMade (g.D.Disk.view c.args.disk.now) (held_of c.args.held.now cached) x c.args.promoting.space c.take_made-made.result.target c.take_made-made.result.level c.take_made-made.result.filters
 made_here g c x cached st =
-    ended_made (g.D.Disk.view c.args.disk.now) (held_of c.args.held.now cached) x (open_of c.args.open) c.take_made-made.result c.take_made-made.ensures.ok.0 c.take_made-made.ensures.ok.1 c.take_made-made.ensures.filters st
+    ended_made (g.D.Disk.view c.args.disk.now) (held_of c.args.held.now cached) x (open_of c.args.promoting) c.take_made-made.result c.take_made-made.ensures.ok.0 c.take_made-made.ensures.ok.1 c.take_made-made.ensures.filters st
 
 pub take_made-made-requires-clause-kept : goal.take_made-made-requires-clause-kept
 take_made-made-requires-clause-kept g c = c.requires.kept.1
@@ -46,7 +46,7 @@ take_made-made-requires-clause-kept g c = c.requires.kept.1
 pub prepare_next-requires-clause-kept : goal.prepare_next-requires-clause-kept
 prepare_next-requires-clause-kept g c = λ cached.
     let all = c.requires.kept.0 cached in
-    (all.0, made_taken_from (held_of c.args.held.now cached) (open_of c.args.open) c.take_made-made.result c.take_made-made.ensures.ok.0 c.take_made-made.ensures.ok.1 all.1)
+    (all.0, made_taken_from (held_of c.args.held.now cached) (open_of c.args.promoting) c.take_made-made.result c.take_made-made.ensures.ok.0 c.take_made-made.ensures.ok.1 all.1)
 
 pub install-requires-clause-fits : goal.install-requires-clause-fits
 install-requires-clause-fits g c =
