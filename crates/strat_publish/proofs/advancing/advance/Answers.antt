@@ -33,7 +33,7 @@ use Rattle.strat_publish.proofs.SettlingLemmas.{chain_numbered, listed_left, unw
 use Rattle.strat_publish.proofs.WholeLemmas.{arrays_few}
 use Rattle.strat_publish.specs.Advancing.{FillsLevel, HasAdvanced}
 use Rattle.strat_publish.specs.Promoting.{StandsOpenWith, leads_in_memory}
-use Rattle.strat_publish.proofs.advance.advance.Goals as goal
+use Rattle.strat_publish.proofs.advancing.advance.Goals as goal
 
 pub seal_for_next-requires : goal.seal_for_next-requires
 seal_for_next-requires g c =

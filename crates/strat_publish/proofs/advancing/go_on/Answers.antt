@@ -28,7 +28,7 @@ use Rattle.strat_publish.proofs.SettledLemmas.{arrays_kept, one_trail, stands_be
 use Rattle.strat_publish.proofs.SlicingLemmas.{beside_apart, done_of, more_of}
 use Rattle.strat_publish.specs.Advancing.{HasAdvanced}
 use Rattle.strat_publish.specs.Settling.{IsInstalled, KeepsPublished, TakesOpen}
-use Rattle.strat_publish.proofs.advance.go_on.Goals as goal
+use Rattle.strat_publish.proofs.advancing.go_on.Goals as goal
 
 -- the slice failed
 
