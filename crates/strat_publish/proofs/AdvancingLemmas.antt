@@ -9,17 +9,19 @@ use Rattle.strat_promote.specs.Job.{arrays_to}
 use Rattle.strat_promote.specs.Obstacles.{told_as}
 use Rattle.strat_promote.specs.Promotions.{ReadsOf, entries_taken, target_of}
 use Rattle.strat_promote.specs.declared.obstacle.Obstacle.{Obstacle}
+use Rattle.strat_promote.specs.declared.step.Task.{Task}
 use Rattle.def_publish.specs.Contents.{Contents}
 use Rattle.def_slice.specs.Budget.{KeepsToBudget, SliceNumbers}
-use Rattle.def_slice.specs.Opened.{OpenPromotion}
+use Rattle.def_slice.specs.Opened.{OpenPromotion, job_open}
 use Rattle.def_state.specs.Sound.{journal_max}
-use Rattle.strat_memory.proofs.OpenLemmas.{less_full, still_going, still_open}
+use Rattle.strat_memory.proofs.OpenLemmas.{begun_reads, less_full, still_going, still_open}
 use Rattle.strat_memory.specs.Held.{HasReadFrom, Held, IsConsistent, IsOnDisk, IsOpenAt, MayGoOnWith, StandsWith}
-use Rattle.strat_memory.specs.Memory.{Memory, IsReadyFrom}
+use Rattle.strat_memory.specs.Memory.{Memory, SealedLevel, IsReadyFrom}
 use Rattle.strat_publish.proofs.LaidLemmas.{beside_on, kept_on}
 use Rattle.strat_publish.proofs.SettledLemmas.{found_next}
 use Rattle.strat_publish.specs.Advancing.{HasEmptied, StandsForMore, StaysOpen}
 use Rattle.strat_publish.specs.Outcomes.{IsOkOrShort, RanShort}
+use Rattle.strat_publish.specs.Promoting.{StandsOpenWith, leads_in_memory}
 use Rattle.strat_publish.specs.Settling.{HasPublished, IsInstalled, TakesOpen, WritesBeside}
 
 -- a call that succeeded, or gave up for want of memory
@@ -87,8 +89,8 @@ pub read_open : (v : DiskView) (s : Held) → IsOnDisk v s → (f : Image) → E
 read_open v s on f now = subst (λ (g : Image). HasReadFrom g s) (exposed_once v on.content f on.exposed now) on.read
 
 -- what is found of a store whose memory was made ready before
-pub found_open : (s t : Held) (m : Memory) → s.log.mem ≡ s.sb.mem → s.sb.mem ≤ length s.log.list → IsReadyFrom s.sb.mem s.memory m → TakesOpen (record s { memory = m; promoting = None }) t → StaysOpen s t
-found_open s t m mem full ready takes = record {
+pub found_open : (s t : Held) (m : Memory) (p : Option OpenPromotion) → s.log.mem ≡ s.sb.mem → s.sb.mem ≤ length s.log.list → IsReadyFrom s.sb.mem s.memory m → TakesOpen (record s { memory = m; promoting = p }) t → StaysOpen s t
+found_open s t m p mem full ready takes = record {
   promotion = takes.promotion;
   open_is = ap (λ (h : Held). h.promoting) takes.held;
   full = omega (arith, mem, full);
@@ -97,10 +99,10 @@ found_open s t m mem full ready takes = record {
   held = takes.held ∙ (λ i. record s { memory = sym (ap (λ (h : Held). h.memory) takes.held) i; promoting = sym (ap (λ (h : Held). h.promoting) takes.held) i });
 }
 
-pub found_emptied : (s t : Held) (m : Memory) → IsConsistent s → s.sb.mem ≤ length s.log.list → IsReadyFrom s.sb.mem s.memory m → is_some m.sealed ≡ true
-    → IsInstalled (record s { memory = m; promoting = None }) t → HasEmptied s t
-found_emptied s t m whole full ready some is =
-    let all = found_next s t m is.target is.sb is.chained is.levels is.made ready some full whole is.low is.next is.are in
+pub found_emptied : (s t : Held) (m : Memory) (p : Option OpenPromotion) → IsConsistent s → s.sb.mem ≤ length s.log.list → IsReadyFrom s.sb.mem s.memory m → is_some m.sealed ≡ true
+    → IsInstalled (record s { memory = m; promoting = p }) t → HasEmptied s t
+found_emptied s t m p whole full ready some is =
+    let all = found_next s t m p is.target is.sb is.chained is.levels is.made ready some full whole is.low is.next is.are in
     record {
       published = record {
         full = let mem = whole.log.mem in omega (arith, mem, full);
@@ -113,7 +115,36 @@ found_emptied s t m whole full ready some is =
       whole = all.4;
     }
 
-pub found_all : (s t : Held) (m : Memory) → IsConsistent s → s.sb.mem ≤ length s.log.list → IsReadyFrom s.sb.mem s.memory m → is_some m.sealed ≡ true
-    → TakesOpen (record s { memory = m; promoting = None }) t ⊎ IsInstalled (record s { memory = m; promoting = None }) t → StaysOpen s t ⊎ HasEmptied s t
-found_all s t m whole full ready some (inl takes) = inl (found_open s t m whole.log.mem full ready takes)
-found_all s t m whole full ready some (inr is) = inr (found_emptied s t m whole full ready some is)
+pub found_all : (s t : Held) (m : Memory) (p : Option OpenPromotion) → IsConsistent s → s.sb.mem ≤ length s.log.list → IsReadyFrom s.sb.mem s.memory m → is_some m.sealed ≡ true
+    → TakesOpen (record s { memory = m; promoting = p }) t ⊎ IsInstalled (record s { memory = m; promoting = p }) t → StaysOpen s t ⊎ HasEmptied s t
+found_all s t m p whole full ready some (inl takes) = inl (found_open s t m p whole.log.mem full ready takes)
+found_all s t m p whole full ready some (inr is) = inr (found_emptied s t m p whole full ready some is)
+
+-- a promotion that is taken out of a store is open beside it
+pub taken_open : (v : DiskView) (s : Held) (x : Contents) (stands : StandsWith v s x) (o : OpenPromotion) → IsOpenAt stands.stands.content s x (length s.log.list) o → StandsOpenWith v s x o
+taken_open v s x stands o over = record { stands = stands; over = over }
+
+-- and has read what the disk has
+pub stands_reads : (v : DiskView) (s : Held) (x : Contents) (o : OpenPromotion) → StandsOpenWith v s x o → (f : Image) → Exposes v f → ReadsOf f (arrays_to s.levels (target_of o.promotion)) o.promotion
+stands_reads v s x o st f now =
+    let over = st.over.over in
+    let content : Image = st.stands.stands.content in
+    let was = begun_reads content (job_open x s.levels over.going.was) o.promotion over.underway in
+    subst (λ (g : Image). ReadsOf g (arrays_to s.levels (target_of o.promotion)) o.promotion) (exposed_once v content f st.stands.stands.exposed now)
+    (subst (λ (t : Task). ReadsOf content (arrays_to s.levels t.target) o.promotion) (sym over.going.same.task) was)
+
+-- what a promotion takes is the same as memory is made ready
+pub ready_leads : (mem : ℕ) (m k : Memory) (levels : List (Option LevelDesc)) → IsReadyFrom mem m k → leads_in_memory k levels ≡ leads_in_memory m levels
+ready_leads mem m k levels (inl is) = ap (λ (j : Memory). leads_in_memory j levels) is
+ready_leads mem m k levels (inr is) =
+    ap (λ (j : Memory). leads_in_memory j levels) is.1 ∙ ap (λ (o : Option SealedLevel). leads_in_memory (record m { sealed = o }) levels) (sym is.0)
+
+-- its versions stay
+pub kept_parents : (r : Result ⊤ Obstacle) (s t : Held) → OnOk r (TakesOpen s t ⊎ IsInstalled s t) → OnErr r (t.memory ≡ s.memory) → t.memory.parents ≡ s.memory.parents
+kept_parents (Ok u) s t (inl takes) err = ap (λ (h : Held). h.memory.parents) takes.held
+kept_parents (Ok u) s t (inr is) err = ap (λ (h : Held). h.memory.parents) is.next
+kept_parents (Err e) s t ok same = ap (λ (m : Memory). m.parents) same
+
+pub on_err_then : {T E : Type 0} {P Q : Type 0} (r : Result T E) → OnErr r P → (P → Q) → OnErr r Q
+on_err_then (Ok x) is then = tt
+on_err_then (Err e) is then = then is

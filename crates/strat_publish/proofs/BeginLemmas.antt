@@ -76,6 +76,10 @@ one_numbers mem fill leads n k a b =
     let same : a.0 ≡ b.0 = one_target leads mem a.0 b.0 a.1 b.1 in
     a.2 ∙ ap {B = SliceNumbers} (λ (j : ℕ). record { budget = budget_for mem fill (leads_down_to leads j); sum = leads_down_to leads j; taken = 0 }) same ∙ sym b.2
 
+-- a budget takes something
+pub budget_some : (mem fill total n : ℕ) → n ≡ budget_for mem fill total → 1 ≤ n
+budget_some mem fill total n is = let some = (computed mem fill total).some in omega (arith, some, is)
+
 -- over what a store holds
 module _ (s : Held) (whole : IsConsistent s) (list : ItemList) (pool : List PoolEntry) (parents : Parents) (z : SealedLevel) (sealed_is : s.memory.sealed ≡ Some z)
     (entries_are : entries_held pool list ≡ oldest_entries s.memory) (parents_are : parents ≡ s.memory.parents) where
@@ -112,6 +116,12 @@ module _ (s : Held) (whole : IsConsistent s) (list : ItemList) (pool : List Pool
         → IsOpen o.promotion × IsFed o.promotion inputs × (1 ≤ o.budget) × AreAllUsed o.space (writers_of o.promotion)
     sliceable o going same stands =
         may_slice x going.sealed.entries s.levels o inputs (going.sliced on) (subst (λ (y : SealedLevel). AreLent y.entries s.levels (sealed_state x) inputs) (sym same) lent) stands known
+
+  -- and no more leads than a promotion takes
+  pub leads_few_here : sum (leads_listed list s.levels) ≤ 2 ^ 24
+  leads_few_here =
+      let old : length list.items ≡ length (oldest_entries s.memory) = sized ∙ ap (λ (es : List Entry). length es) (sym (oldest_sealed s.memory z sealed_is)) in
+      subst (λ (n : ℕ). sum (n ∷ map (λ k. leads_if_any (level_numbered s.levels k)) (range_with_len 1 22)) ≤ 2 ^ 24) (sym old) (whole_promotes s whole).few
 
 -- where one is begun of it
 module _ (s : Held) (whole : IsConsistent s) (list : ItemList) (pool : List PoolEntry) (parents : Parents) (z : SealedLevel) (sealed_is : s.memory.sealed ≡ Some z)

@@ -1,8 +1,10 @@
 -- The next contents of a store, as far as a promotion made them.
-use Rattle.std.proofs.Common.{◌≡◌, ◌≤◌, ℕ, length, List, Result, Ok, Err, refl, sym, ap, ◌∙◌, subst}
+use Rattle.std.proofs.Common.{◌≡◌, ◌≤◌, ℕ, length, List, Option, Result, Ok, Err, refl, sym, subst}
 use Rattle.std.specs.Prelude.{IfOk}
 use Rattle.strat_array.specs.Kept.{Blocks}
 use Rattle.strat_base.specs.declared.descriptors.Extent.{Extent}
+use Rattle.strat_base.specs.declared.descriptors.LevelDesc.{LevelDesc}
+use Rattle.def_crash.specs.Image.{Image}
 use Rattle.def_crash.specs.Moments.{DiskView}
 use Rattle.strat_extent.specs.Blocks.{SpaceView}
 use Rattle.strat_extent.specs.Change.{IsMarked}
@@ -10,16 +12,18 @@ use Rattle.def_bytes.specs.Arrays.{blocks_of}
 use Rattle.strat_gate.specs.SuperView.{super_of}
 use Rattle.strat_journal.specs.Log.{Log}
 use Rattle.strat_manifest.specs.ManifestView.{manifest_of}
+use Rattle.strat_promote.specs.Promotions.{FiltersStand, level_of, target_of}
 use Rattle.strat_promote.specs.declared.obstacle.Obstacle.{Obstacle}
+use Rattle.def_slice.specs.Opened.{OpenPromotion}
 use Rattle.def_publish.specs.Contents.{Contents}
 use Rattle.def_publish.specs.Next.{AreNewArrays, arrays_made}
-use Rattle.strat_memory.specs.Filters.{filters_after}
-use Rattle.strat_memory.specs.Held.{IsConsistent}
+use Rattle.strat_memory.specs.Filters.{AreFiltersOn, filters_after}
+use Rattle.strat_memory.specs.Held.{Held, IsConsistent}
 use Rattle.strat_memory.specs.RecoveredFields.{held_of}
 use Rattle.strat_memory.specs.declared.open_store.OpenStore.{OpenStore}
 use Rattle.strat_publish.proofs.KeptLemmas.{stand_apart}
 use Rattle.strat_publish.proofs.SettlingLemmas.{readied}
-use Rattle.strat_publish.specs.Promoting.{HasMade, StandsMade}
+use Rattle.strat_publish.specs.Promoting.{HasMade, IsMadeBeside, StandsEnded, StandsMade}
 use Rattle.strat_publish.specs.Publishing.{IsComputedBy, MayCompute, manifest_after}
 use Rattle.strat_publish.specs.Settling.{IsReadied, StandApart, super_after}
 use Rattle.strat_publish.specs.declared.made.Made.{Made}
@@ -52,3 +56,17 @@ made_apart (Ok k) h made space after kept marked found same cached =
     let is = sym same in
     stand_apart (held_of h cached) space after k.made.target k.made.level k.chain (manifest_of k.manifest) (kept cached).0
     (subst (λ (m : Made). HasMade (held_of h cached) space m.target m.level) is (kept cached).1) marked found
+
+-- what a promotion made that has ended, as it was taken from it
+pub ended_made : (v : DiskView) (s : Held) (x : Contents) (o : OpenPromotion) (made : Made) → made.target ≡ target_of o.promotion → made.level ≡ level_of o.promotion
+    → ((g : Image) → FiltersStand g o.promotion → AreFiltersOn g (arrays_made made.level) made.filters) → StandsEnded v s x o → StandsMade v s x o.space made.target made.level made.filters
+ended_made v s x o made target level filters st = record {
+  stands = st.stands;
+  beside = subst (λ (n : ℕ). IsMadeBeside v x o.space n made.level) (sym target) (subst (λ (l : Option LevelDesc). IsMadeBeside v x o.space (target_of o.promotion) l) (sym level) st.beside);
+  filtered = λ g now. filters g (st.filtered g now);
+}
+
+pub made_taken_from : (s : Held) (o : OpenPromotion) (made : Made) → made.target ≡ target_of o.promotion → made.level ≡ level_of o.promotion → HasMade s o.space (target_of o.promotion) (level_of o.promotion)
+    → HasMade s o.space made.target made.level
+made_taken_from s o made target level is =
+    subst (λ (n : ℕ). HasMade s o.space n made.level) (sym target) (subst (λ (l : Option LevelDesc). HasMade s o.space (target_of o.promotion) l) (sym level) is)

@@ -69,8 +69,9 @@ use Rattle.strat_publish.specs.Publishing.{is_in_front}
 use Rattle.strat_publish.specs.Settling.{held_next, contents_next, MayFollow, StandApart, WritesBeside, IsReadied, ArePublishedAfter, ArePublishedTo, arrays_taken}
 
 -- a store keeps what it holds beside a promotion as its memory is another of its head, with the cursors that it had
-memory_kept : (s : Held) (m : Memory) → IsMemoryOf (head_held s) m → m.cursors ≡ record s.memory.cursors { room = m.cursors.room } → IsConsistent s → IsConsistent (record s { memory = m; promoting = None })
-memory_kept s m of cursors whole =
+memory_kept : (s : Held) (m : Memory) (p : Option OpenPromotion) → p ≡ None → IsMemoryOf (head_held s) m → m.cursors ≡ record s.memory.cursors { room = m.cursors.room } → IsConsistent s
+    → IsConsistent (record s { memory = m; promoting = p })
+memory_kept s m p none of cursors whole =
     let k : Memory = record m { cursors = record s.memory.cursors { room = m.cursors.room } } in
     let here : AreKept s.sb s.chained s.levels k = record {
       named = whole.kept.named;
@@ -92,14 +93,20 @@ memory_kept s m of cursors whole =
       memory = of;
       placed = whole.placed;
       kept = subst (λ (j : Memory). AreKept s.sb s.chained s.levels j) same here;
-      going = tt;
+      going = subst (λ (q : Option OpenPromotion). IfSome q (MayGoOnWith (record s { memory = m; promoting = p }))) (sym none) tt;
     }
 
-pub consistent_ready : (s : Held) (m : Memory) → IsReadyFrom s.sb.mem s.memory m → s.sb.mem ≤ length s.log.list → IsConsistent s → IsConsistent (record s { memory = m; promoting = None })
-consistent_ready s m is full whole = memory_kept s m (ready_of (head_held s) s.memory m is full whole.memory) (ready_cursors s.sb.mem s.memory m is) whole
+pub consistent_ready : (s : Held) (m : Memory) (p : Option OpenPromotion) → p ≡ None → IsReadyFrom s.sb.mem s.memory m → s.sb.mem ≤ length s.log.list → IsConsistent s → IsConsistent (record s { memory = m; promoting = p })
+consistent_ready s m p none is full whole = memory_kept s m p none (ready_of (head_held s) s.memory m is full whole.memory) (ready_cursors s.sb.mem s.memory m is) whole
 
-pub stands_ready : (v : DiskView) (s : Held) (x : Contents) (m : Memory) → StandsWith v s x → StandsWith v (record s { memory = m; promoting = None }) x
-stands_ready v s x m w = record { stands = w.stands; held = w.held; cached = w.cached; filtered = w.filtered; open_over = tt }
+pub stands_ready : (v : DiskView) (s : Held) (x : Contents) (m : Memory) (p : Option OpenPromotion) → p ≡ None → StandsWith v s x → StandsWith v (record s { memory = m; promoting = p }) x
+stands_ready v s x m p none w = record {
+  stands = w.stands;
+  held = w.held;
+  cached = w.cached;
+  filtered = w.filtered;
+  open_over = subst (λ (q : Option OpenPromotion). IfSome q (IsOpenAt w.stands.content (record s { memory = m; promoting = p }) x (length s.log.list))) (sym none) tt;
+}
 
 -- what is sealed stays so as memory is made ready
 pub ready_sealed : (mem : ℕ) (m k : Memory) (z : SealedLevel) → m.sealed ≡ Some z → IsReadyFrom mem m k → k.sealed ≡ m.sealed
@@ -107,23 +114,23 @@ ready_sealed mem m k z is (inl same) = ap (λ (j : Memory). j.sealed) same
 ready_sealed mem m k z is (inr same) = let none : None ≡ Some z = sym same.0 ∙ is in absurd (cc)
 
 -- so the open promotion, which is taken out of the store, goes on beside it
-pub going_ready : (s : Held) (m : Memory) → IsReadyFrom s.sb.mem s.memory m → IfSome s.promoting (MayGoOnWith s) → IfSome s.promoting (MayGoOnWith (record s { memory = m; promoting = None }))
-going_ready s m is going = by s.promoting going
+pub going_ready : (s : Held) (m : Memory) (n : Option OpenPromotion) → IsReadyFrom s.sb.mem s.memory m → IfSome s.promoting (MayGoOnWith s) → IfSome s.promoting (MayGoOnWith (record s { memory = m; promoting = n }))
+going_ready s m n is going = by s.promoting going
   where
-    by : (p : Option OpenPromotion) → IfSome p (MayGoOnWith s) → IfSome p (MayGoOnWith (record s { memory = m; promoting = None }))
+    by : (p : Option OpenPromotion) → IfSome p (MayGoOnWith s) → IfSome p (MayGoOnWith (record s { memory = m; promoting = n }))
     by None was = tt
     by (Some o) was =
         let fewer : (b : ℕ) → times_in (extents_of m.cursors.retired) b ≤ times_in (extents_of s.memory.cursors.retired) b =
         λ b. omega (arith, ap (λ (c : HeldCursors). times_in (extents_of c.retired) b) (ready_cursors s.sb.mem s.memory m is)) in
-        still_going s m None s.cached o (ready_sealed s.sb.mem s.memory m was.sealed was.sealed_is is) fewer was
+        still_going s m n s.cached o (ready_sealed s.sb.mem s.memory m was.sealed was.sealed_is is) fewer was
 
-pub open_ready : (f : Image) (s : Held) (x : Contents) (fill : ℕ) (m : Memory) → IsReadyFrom s.sb.mem s.memory m → IfSome s.promoting (IsOpenAt f s x fill)
-    → IfSome s.promoting (IsOpenAt f (record s { memory = m; promoting = None }) x fill)
-open_ready f s x fill m is over = by s.promoting over
+pub open_ready : (f : Image) (s : Held) (x : Contents) (fill : ℕ) (m : Memory) (n : Option OpenPromotion) → IsReadyFrom s.sb.mem s.memory m → IfSome s.promoting (IsOpenAt f s x fill)
+    → IfSome s.promoting (IsOpenAt f (record s { memory = m; promoting = n }) x fill)
+open_ready f s x fill m n is over = by s.promoting over
   where
-    by : (p : Option OpenPromotion) → IfSome p (IsOpenAt f s x fill) → IfSome p (IsOpenAt f (record s { memory = m; promoting = None }) x fill)
+    by : (p : Option OpenPromotion) → IfSome p (IsOpenAt f s x fill) → IfSome p (IsOpenAt f (record s { memory = m; promoting = n }) x fill)
     by None was = tt
-    by (Some o) was = still_open f s x fill m None s.cached o (ready_sealed s.sb.mem s.memory m was.sealed was.sealed_is is) was
+    by (Some o) was = still_open f s x fill m n s.cached o (ready_sealed s.sb.mem s.memory m was.sealed was.sealed_is is) was
 
 ready_arrays : (mem : ℕ) (m k : Memory) (levels : List (Option LevelDesc)) → IsReadyFrom mem m k → arrays_held k levels ≡ arrays_held m levels
 ready_arrays mem m k levels is = ap (λ (c : HeldCursors). arrays_there levels ++ c.retired) (ready_cursors mem m k is)
@@ -462,13 +469,13 @@ none_damaged v s x b whole stands bad =
     none_bad f levels st b arrays read stands.stands.sound at (bad f stands.stands.exposed)
 
 -- and what is found of a store after a publication
-pub found_next : (s t : Held) (m : Memory) (target : ℕ) (sb : Super) (chained : Chained) (levels : List (Option LevelDesc)) (made : LevelFilters) → IsReadyFrom s.sb.mem s.memory m
+pub found_next : (s t : Held) (m : Memory) (p : Option OpenPromotion) (target : ℕ) (sb : Super) (chained : Chained) (levels : List (Option LevelDesc)) (made : LevelFilters) → IsReadyFrom s.sb.mem s.memory m
     → is_some m.sealed ≡ true → s.sb.mem ≤ length s.log.list → IsConsistent s → 1 ≤ target
-    → t ≡ held_next (record s { memory = m; promoting = None }) target sb chained levels made → ArePublishedTo target s.sb s.chained.manifest m sb chained.manifest
+    → t ≡ held_next (record s { memory = m; promoting = p }) target sb chained levels made → ArePublishedTo target s.sb s.chained.manifest m sb chained.manifest
     → (t.slot ≡ 1 - s.slot) × ArePublishedAfter s.sb s.chained.manifest s.memory s.filters t.sb t.chained.manifest t.memory.cursors t.filters × (t.log.list ≡ drop s.sb.mem s.log.list)
     × (t.memory ≡ record (unsealed s.memory) { entries = t.memory.entries; spare = t.memory.spare; ready = t.memory.ready; cursors = t.memory.cursors })
     × (s.memory.sealed ≡ None → t.memory ≡ record (emptied s.sb.mem s.memory) { cursors = t.memory.cursors })
-found_next s t m target sb chained levels made same some full whole low is are =
+found_next s t m p target sb chained levels made same some full whole low is are =
     let gone : List ArrayDesc = arrays_taken target s.chained.manifest in
     let memory : t.memory ≡ renewed gone m = ap (λ (h : Held). h.memory) is in (
       ap (λ (h : Held). h.slot) is,

@@ -84,6 +84,12 @@ progress_then (Ok progress.More) is more done = more is
 progress_then (Ok progress.Done) is more done = done is
 progress_then (Err e) is more done = tt
 
+pub more_of : {A B : Type 0} (p : Progress) → p ≡ progress.More → MatchProgress p A B → A
+more_of {A} {B} p is told = subst (λ (q : Progress). MatchProgress q A B) is told
+
+pub done_of : {A B : Type 0} (p : Progress) → p ≡ progress.Done → MatchProgress p A B → B
+done_of {A} {B} p is told = subst (λ (q : Progress). MatchProgress q A B) is told
+
 -- a block that is used as often as it stands among some
 
 some_used : (s : SpaceView) (b : ℕ) → 1 ≤ uses s b → is_used s b ≡ true
@@ -158,6 +164,10 @@ module _ (s : Held) (whole : IsConsistent s) (o : OpenPromotion) (going : MayGoO
   pub asked : ListStands pool list → IsOpen o.promotion × IsFed o.promotion given × (1 ≤ o.budget) × AreAllUsed o.space (writers_of o.promotion)
   asked stands = sliceable s whole list pool parents going.sealed going.sealed_is entries_are parents_are [] o going refl stands
 
+  -- what it reads
+  pub reads_given : ReadsFrom (arrays_to s.levels (target_of o.promotion)) o.promotion
+  reads_given = reads_its_arrays (contents_held s []) going.sealed.entries s.levels o given (going.sliced []) (lent_here [])
+
   -- the block that it blames
   pub blamed : (v : DiskView) (b : ℕ) → (ReadsFrom (arrays_to s.levels (target_of o.promotion)) o.promotion → Contains (blocks_listed (arrays_to s.levels (target_of o.promotion))) b)
       × ((f : Image) → Exposes v f → AreUsed o.space (blocks_listed (arrays_to s.levels (target_of o.promotion))) → ReadsOf f (arrays_to s.levels (target_of o.promotion)) o.promotion
@@ -165,7 +175,7 @@ module _ (s : Held) (whole : IsConsistent s) (o : OpenPromotion) (going : MayGoO
       → Contains (blocks_listed (arrays_there s.levels)) b
       × ((f : Image) → Exposes v f → ReadsOf f (arrays_to s.levels (target_of o.promotion)) o.promotion → IsBadInput f (arrays_there s.levels) b)
   blamed v b told = (
-    block_there s.levels (target_of o.promotion) b (told.0 (reads_its_arrays (contents_held s []) going.sealed.entries s.levels o given (going.sliced []) (lent_here []))),
+    block_there s.levels (target_of o.promotion) b (told.0 reads_given),
     λ f exposed read.
         let all = arrays_used s o.space (extents_taken o.promotion) going.first going.apart whole in
         let bad = told.1 f exposed (λ d of. all d (block_there s.levels (target_of o.promotion) d of)) read in
@@ -280,7 +290,9 @@ module _ (s : Held) (whole : IsConsistent s) (o : OpenPromotion) (going : MayGoO
           slices_last v w f x (length x.journal) at.sealed.entries s.levels at.others o q t given stands.stands.exposed reads stands.stands.sound over lent_x g now (torn, same) does
 
       -- the last slice
-      pub done_ended : Slices progress.Done → OwnsItsBlocks (writers_of q) (level_of q) → ((g : Image) → Exposes w g → FiltersStand g q) → StandsEnded w s x (sliced_to o q t)
+      pub done_ended : Slices progress.Done → OwnsItsBlocks (writers_of q) (level_of q)
+          → ((e g : Image) (job : Job) → Exposes v e → Exposes w g → IsItsJob e o.promotion given job → AreUsed o.space (blocks_listed job.arrays) → HasBegun e job o.promotion → FiltersStand g q)
+          → StandsEnded w s x (sliced_to o q t)
       done_ended does owns filters =
           let taken = made_taken q (level_of q) owns in
           record {
@@ -297,7 +309,9 @@ module _ (s : Held) (whole : IsConsistent s) (o : OpenPromotion) (going : MayGoO
                   (joined_beside o.space t x at.others (extents_taken o.promotion) (extents_taken q) over.space_is takes.first takes.used);
               room = omega (arith, at.room, takes.count, takes.first, ap (λ (es : List Extent). length (blocks_of es)) taken);
             };
-            filtered = filters;
+            filtered = λ g now.
+                filters f g the_job stands.stands.exposed now (does_its_job f x (length x.journal) at.sealed.entries s.levels at.others o given reads stands.stands.sound over lent_x)
+                (listed_used f f x (length x.journal) at.sealed.entries s.levels at.others o over) over.underway;
           }
 
       pub done_budget : Slices progress.Done → (most : ℕ) → IsMostOfKey f (job_of_state (sealed_state x) s.levels (target_of o.promotion)) most → KeepsToBudget (slice_numbers o) most None

@@ -153,7 +153,7 @@ pub(crate) fn open_now(
     ensures cause { IsOkOrShort result }
 {
     match taken {
-        Some(open) => Ok(open),
+        Some(promoting) => Ok(promoting),
         None => begin_open(alloc, held),
     }
 }

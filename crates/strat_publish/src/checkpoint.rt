@@ -362,20 +362,20 @@ fn install<D: Disk>(
 pub(crate) fn publish_made<D: Disk>(
     alloc: Global,
     held: &mut OpenStore,
-    open: Promoting,
+    promoting: Promoting,
     disk: &mut D,
 ) -> Result<(), Obstacle>
     requires kept { ((cached : Blocks) → IsConsistent (held_of held.old cached)
-        × HasMade (held_of held.old cached) open.space (target_of open.promotion)
-        (level_of open.promotion))
-        × (has_ended open.promotion ≡ true) × (held.old.promoting ≡ None) }
+        × HasMade (held_of held.old cached) promoting.space (target_of promoting.promotion)
+        (level_of promoting.promotion))
+        × (has_ended promoting.promotion ≡ true) × (held.old.promoting ≡ None) }
     requires len { held.old.sb.mem ≤ length held.old.journal.list }
     requires found { IsTrue (is_some held.old.memory.sealed) }
     requires room { length held.old.memory.cursors.retired
         + length (arrays_in (manifest_of held.old.published.manifest).levels)
         ≤ held.old.memory.cursors.room }
     ensures ok { OnOk result ((x : Contents) (cached : Blocks)
-        → StandsEnded (D.view disk.old) (held_of held.old cached) x (open_of open)
+        → StandsEnded (D.view disk.old) (held_of held.old cached) x (open_of promoting)
         → IsPublishedAs (D.view disk.new) x (held_of held.new cached)
         × CountsWritten (manifest_of held.old.published.manifest)
         (manifest_of held.new.published.manifest)) }
@@ -388,7 +388,7 @@ pub(crate) fn publish_made<D: Disk>(
         → StandsWith (D.view disk.old) (held_of held.old cached) x
         → StandsWith (D.view disk.new) (held_of held.new cached) x }
     ensures trail { (x : Contents) (cached : Blocks)
-        → StandsEnded (D.view disk.old) (held_of held.old cached) x (open_of open)
+        → StandsEnded (D.view disk.old) (held_of held.old cached) x (open_of promoting)
         → Trail ShowsTable (D.view disk.new) (D.view disk.old).moment
         (table_of (contents_state x) ∷ []) 0
         × (IsPaid (contents_state x) → ArePaidSince (D.view disk.new) (D.view disk.old).moment) }
@@ -398,17 +398,17 @@ pub(crate) fn publish_made<D: Disk>(
         × OnErr result ((held.new.memory ≡ held.old.memory) × (held.new.promoting ≡ None)
         × ((cached : Blocks) → KeepsPublished (held_of held.old cached) (held_of held.new cached))) }
     ensures err { IsErrOf result obstacle.Unfit → (x : Contents) (cached : Blocks)
-        → StandsEnded (D.view disk.old) (held_of held.old cached) x (open_of open) → ⊥ }
+        → StandsEnded (D.view disk.old) (held_of held.old cached) x (open_of promoting) → ⊥ }
     ensures images { Passes (D.view disk.old) (D.view disk.new)
         × ((f g : Image) → Exposes (D.view disk.old) f → Exposes (D.view disk.new) g
         → AgreeOn (blocks_listed (arrays_held held.old.memory held.old.published.levels)) f g) }
     ensures cause { HasCause Device (D.faults disk.old) (D.faults disk.new) result }
     ensures damaged { (b : ℕ) → IsErrOf result (Damaged b) → ⊥ }
 {
-    let mut space = open.space;
+    let mut space = promoting.space;
     let made = take_made(
         alloc,
-        open.promotion,
+        promoting.promotion,
         held.published.manifest.next_array,
     );
     let next = prepare_next(alloc, held, made, &mut space, disk)?;

@@ -2,7 +2,7 @@
 //! levels, and other contents take the place of those on the disk.
 #![tactic(auto)]
 
-mod advance;
+mod advancing;
 mod begin;
 mod checkpoint;
 mod lay;
@@ -11,4 +11,4 @@ mod next_manifest;
 pub mod publishing_laws;
 mod slice;
 
-pub use advance::advance;
+pub use advancing::advance;

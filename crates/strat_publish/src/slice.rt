@@ -30,61 +30,61 @@ use strat_promote::promotion::Progress;
 /// Errors are those of `Promotion::slice`; where the store stands only want of memory and the device's are.
 pub(crate) fn slice_open<D: Disk>(
     held: &OpenStore,
-    open: &mut Promoting,
+    promoting: &mut Promoting,
     disk: &mut D,
 ) -> Result<Progress, Obstacle>
     requires kept { ((cached : Blocks) → IsConsistent (held_of held.now cached)
-        × MayGoOnWith (held_of held.now cached) (open_of open.old))
+        × MayGoOnWith (held_of held.now cached) (open_of promoting.old))
         × (held.now.promoting ≡ None) }
     ensures kept { IfOk result (λ p. MatchProgress p
-        ((cached : Blocks) → MayGoOnWith (held_of held.now cached) (open_of open.new))
-        ((has_ended open.new.promotion ≡ true) × ((cached : Blocks)
-        → HasMade (held_of held.now cached) open.new.space (target_of open.new.promotion)
-        (level_of open.new.promotion)))) }
+        ((cached : Blocks) → MayGoOnWith (held_of held.now cached) (open_of promoting.new))
+        ((has_ended promoting.new.promotion ≡ true) × ((cached : Blocks)
+        → HasMade (held_of held.now cached) promoting.new.space (target_of promoting.new.promotion)
+        (level_of promoting.new.promotion)))) }
     ensures ok { IfOk result (λ p. MatchProgress p ((x : Contents) (cached : Blocks)
-        → StandsOpenWith (D.view disk.old) (held_of held.now cached) x (open_of open.old)
+        → StandsOpenWith (D.view disk.old) (held_of held.now cached) x (open_of promoting.old)
         → (length held.now.journal.list + 1 ≤ 2 * held.now.sb.mem - 2)
         × (s : StandsWith (D.view disk.new) (held_of held.now cached) x)
         × IsOpenAt s.stands.content (held_of held.now cached) x
-        (length held.now.journal.list + 1) (open_of open.new))
+        (length held.now.journal.list + 1) (open_of promoting.new))
         ((x : Contents) (cached : Blocks)
-        → StandsOpenWith (D.view disk.old) (held_of held.now cached) x (open_of open.old)
-        → StandsEnded (D.view disk.new) (held_of held.now cached) x (open_of open.new))) }
+        → StandsOpenWith (D.view disk.old) (held_of held.now cached) x (open_of promoting.old)
+        → StandsEnded (D.view disk.new) (held_of held.now cached) x (open_of promoting.new))) }
     ensures budget { IfOk result (λ p. MatchProgress p
-        (entries_taken open.old.promotion + open.old.budget ≤ entries_taken open.new.promotion)
+        (entries_taken promoting.old.promotion + promoting.old.budget ≤ entries_taken promoting.new.promotion)
         ((f : Image) (x : Contents) (cached : Blocks) (most : ℕ) → Exposes (D.view disk.old) f
-        → StandsOpenWith (D.view disk.old) (held_of held.now cached) x (open_of open.old)
+        → StandsOpenWith (D.view disk.old) (held_of held.now cached) x (open_of promoting.old)
         → IsMostOfKey f (job_of_state (sealed_state x) held.now.published.levels
-        (target_of open.old.promotion)) most
-        → KeepsToBudget (slice_numbers (open_of open.old)) most None)) }
+        (target_of promoting.old.promotion)) most
+        → KeepsToBudget (slice_numbers (open_of promoting.old)) most None)) }
     ensures found { IfOk result (λ p. MatchProgress p ((f g : Image) → Exposes (D.view disk.old) f
         → Exposes (D.view disk.new) g
-        → ReadsOf f (arrays_to held.now.published.levels (target_of open.old.promotion))
-        open.old.promotion
-        → ReadsOf g (arrays_to held.now.published.levels (target_of open.new.promotion))
-        open.new.promotion) (Unit {0})) }
+        → ReadsOf f (arrays_to held.now.published.levels (target_of promoting.old.promotion))
+        promoting.old.promotion
+        → ReadsOf g (arrays_to held.now.published.levels (target_of promoting.new.promotion))
+        promoting.new.promotion) (Unit {0})) }
     ensures err { IsErrOf result obstacle.Unfit → (x : Contents) (cached : Blocks)
-        → StandsOpenWith (D.view disk.old) (held_of held.now cached) x (open_of open.old) → ⊥ }
-    ensures images { TearsBlocks (is_free open.old.space) (D.view disk.old) (D.view disk.new) }
+        → StandsOpenWith (D.view disk.old) (held_of held.now cached) x (open_of promoting.old) → ⊥ }
+    ensures images { TearsBlocks (is_free promoting.old.space) (D.view disk.old) (D.view disk.new) }
     ensures cause { HasCause Device (D.faults disk.old) (D.faults disk.new) result }
     ensures damaged { (b : ℕ) → IsErrOf result (Damaged b)
         → Contains (blocks_listed (arrays_there held.now.published.levels)) b
         × ((f : Image) → Exposes (D.view disk.old) f
-        → ReadsOf f (arrays_to held.now.published.levels (target_of open.old.promotion))
-        open.old.promotion
+        → ReadsOf f (arrays_to held.now.published.levels (target_of promoting.old.promotion))
+        promoting.old.promotion
         → IsBadInput f (arrays_there held.now.published.levels) b) }
     ensures reads { ReadsItsBlocks (arrays_to held.now.published.levels
-        (target_of open.old.promotion)) (D.reads disk.old) (D.reads disk.new)
-        open.old.promotion open.new.promotion result }
+        (target_of promoting.old.promotion)) (D.reads disk.old) (D.reads disk.new)
+        promoting.old.promotion promoting.new.promotion result }
 {
     let (zero, pool, tree) = held.memory.sealed_parts();
-    open.promotion.slice(
+    promoting.promotion.slice(
         zero,
         &held.published.levels,
         pool,
         tree,
-        &mut open.space,
+        &mut promoting.space,
         disk,
-        open.budget,
+        promoting.budget,
     )
 }

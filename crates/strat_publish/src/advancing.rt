@@ -42,9 +42,9 @@ use strat_promote::promotion::Progress;
 
 /// Keeps a promotion open until the next change. `Unfit`: the journal has no room for the change that comes; where the store
 /// stands the last slice was done before.
-fn keep_open(held: &mut OpenStore, open: Promoting) -> Result<(), Unfit>
+fn keep_open(held: &mut OpenStore, promoting: Promoting) -> Result<(), Unfit>
     requires fits { (1 ≤ held.old.sb.mem) × (held.old.sb.mem ≤ 4096) }
-    ensures ok { OnOk result ((held.new ≡ record held.old { promoting = Some open })
+    ensures ok { OnOk result ((held.new ≡ record held.old { promoting = Some promoting })
         × (length held.old.journal.list < journal_max held.old.sb.mem)) }
     ensures err { OnErr result ((held.new ≡ held.old)
         × (journal_max held.old.sb.mem ≤ length held.old.journal.list)) }
@@ -52,7 +52,7 @@ fn keep_open(held: &mut OpenStore, open: Promoting) -> Result<(), Unfit>
     if held.journal.count() >= 2 * held.sb.mem - 2 {
         return Err(Unfit);
     }
-    held.promoting = Some(open);
+    held.promoting = Some(promoting);
     Ok(())
 }
 
@@ -62,40 +62,40 @@ fn keep_open(held: &mut OpenStore, open: Promoting) -> Result<(), Unfit>
 fn go_on<D: Disk>(
     alloc: Global,
     held: &mut OpenStore,
-    mut open: Promoting,
+    mut promoting: Promoting,
     disk: &mut D,
 ) -> Result<(), Obstacle>
     requires kept { ((cached : Blocks) → IsConsistent (held_of held.old cached)
-        × MayGoOnWith (held_of held.old cached) (open_of open))
+        × MayGoOnWith (held_of held.old cached) (open_of promoting))
         × (held.old.promoting ≡ None) }
     requires len { held.old.sb.mem ≤ length held.old.journal.list }
     requires room { length held.old.memory.cursors.retired
         + length (arrays_in (manifest_of held.old.published.manifest).levels)
         ≤ held.old.memory.cursors.room }
     ensures ok { OnOk result ((x : Contents) (cached : Blocks)
-        → StandsOpenWith (D.view disk.old) (held_of held.old cached) x (open_of open)
+        → StandsOpenWith (D.view disk.old) (held_of held.old cached) x (open_of promoting)
         → HasAdvanced (D.view disk.new) (held_of held.old cached) x (held_of held.new cached)) }
     ensures budget { OnOk result ((f : Image) (x : Contents) (cached : Blocks) (most : ℕ)
         → Exposes (D.view disk.old) f
-        → StandsOpenWith (D.view disk.old) (held_of held.old cached) x (open_of open)
+        → StandsOpenWith (D.view disk.old) (held_of held.old cached) x (open_of promoting)
         → IsMostOfKey f (job_of_state (sealed_state x) held.old.published.levels
-        (target_of open.promotion)) most
-        → KeepsToBudget (slice_numbers (open_of open)) most
-        (option_map (λ o. entries_taken o.promotion) held.new.promoting)) }
+        (target_of promoting.promotion)) most
+        → KeepsToBudget (slice_numbers (open_of promoting)) most
+        (option_map (λ o. entries_taken o.promotion) (held_of held.new cached).promoting)) }
     ensures found { OnOk result ((cached : Blocks)
         → TakesOpen (held_of held.old cached) (held_of held.new cached)
         ⊎ IsInstalled (held_of held.old cached) (held_of held.new cached)) }
     ensures disk { (IsErrOf result Device → ⊥) → (cached : Blocks)
         → IsOnDisk (D.view disk.old) (held_of held.old cached)
         → ((f : Image) → Exposes (D.view disk.old) f
-        → ReadsOf f (arrays_to held.old.published.levels (target_of open.promotion))
-        open.promotion)
+        → ReadsOf f (arrays_to held.old.published.levels (target_of promoting.promotion))
+        promoting.promotion)
         → IsOnDisk (D.view disk.new) (held_of held.new cached) }
     ensures none { RanShort result → (x : Contents) (cached : Blocks)
         → StandsWith (D.view disk.old) (held_of held.old cached) x
         → StandsWith (D.view disk.new) (held_of held.new cached) x }
     ensures trail { (x : Contents) (cached : Blocks)
-        → StandsOpenWith (D.view disk.old) (held_of held.old cached) x (open_of open)
+        → StandsOpenWith (D.view disk.old) (held_of held.old cached) x (open_of promoting)
         → Trail ShowsTable (D.view disk.new) (D.view disk.old).moment
         (table_of (contents_state x) ∷ []) 0
         × (IsPaid (contents_state x) → ArePaidSince (D.view disk.new) (D.view disk.old).moment) }
@@ -105,7 +105,7 @@ fn go_on<D: Disk>(
         × OnErr result ((held.new.memory ≡ held.old.memory) × (held.new.promoting ≡ None)
         × ((cached : Blocks) → KeepsPublished (held_of held.old cached) (held_of held.new cached))) }
     ensures err { IsErrOf result obstacle.Unfit → (x : Contents) (cached : Blocks)
-        → StandsOpenWith (D.view disk.old) (held_of held.old cached) x (open_of open) → ⊥ }
+        → StandsOpenWith (D.view disk.old) (held_of held.old cached) x (open_of promoting) → ⊥ }
     ensures images { Passes (D.view disk.old) (D.view disk.new)
         × ((f g : Image) → Exposes (D.view disk.old) f → Exposes (D.view disk.new) g
         → AgreeOn (blocks_listed (arrays_held held.old.memory held.old.published.levels)) f g) }
@@ -113,13 +113,17 @@ fn go_on<D: Disk>(
     ensures damaged { (b : ℕ) → IsErrOf result (Damaged b)
         → Contains (blocks_listed (arrays_there held.old.published.levels)) b
         × ((f : Image) → Exposes (D.view disk.old) f
-        → ReadsOf f (arrays_to held.old.published.levels (target_of open.promotion))
-        open.promotion
+        → ReadsOf f (arrays_to held.old.published.levels (target_of promoting.promotion))
+        promoting.promotion
         → IsBadInput f (arrays_there held.old.published.levels) b) }
 {
-    match slice_open(held, &mut open, disk)? {
-        Progress::More => Ok(keep_open(held, open)?),
-        Progress::Done => publish_made(alloc, held, open, disk),
+    let progress = slice_open(held, &mut promoting, disk)?;
+    match progress {
+        Progress::More => {
+            keep_open(held, promoting)?;
+            Ok(())
+        }
+        Progress::Done => publish_made(alloc, held, promoting, disk),
     }
 }
 
@@ -190,6 +194,6 @@ pub fn advance<D: Disk>(alloc: Global, held: &mut OpenStore, disk: &mut D) -> Re
         held.sb.mem,
         held.published.manifest.levels.as_slice(),
     )?;
-    let open = open_now(alloc, held, taken)?;
-    go_on(alloc, held, open, disk)
+    let promoting = open_now(alloc, held, taken)?;
+    go_on(alloc, held, promoting, disk)
 }
