@@ -41,15 +41,15 @@ next_is_after mem at r some few = record {
 }
 
 -- after each command the journal fits both regions, where it did before
-may_fit : (mem before after : ℕ) → MayFill mem before after → before ≤ 2 * mem - 2 → after ≤ 2 * mem - 2
-may_fit mem before after (inl more) few = omega (arith, more.0, more.1)
-may_fit mem before after (inr anew) few = omega (arith, anew.0, anew.1, few)
+may_fit : (mem before after : ℕ) → 1 ≤ mem → MayFill mem before after → before ≤ 2 * mem - 2 → after ≤ 2 * mem - 2
+may_fit mem before after some (inl more) few = omega (arith, more.0, more.1)
+may_fit mem before after some (inr anew) few = omega (arith, some, anew.0, anew.1, few)
 
-pub after_fits : (mem : ℕ) (at after : Position) (r : Request) → IsAfter mem at r after → at.fill ≤ 2 * mem - 2 → after.fill ≤ 2 * mem - 2
-after_fits mem at after r is few = by (is_carried_out at r) refl
+after_fits : (mem : ℕ) (at after : Position) (r : Request) → 1 ≤ mem → IsAfter mem at r after → at.fill ≤ 2 * mem - 2 → after.fill ≤ 2 * mem - 2
+after_fits mem at after r some is few = by (is_carried_out at r) refl
   where
     by : (b : Bool) → is_carried_out at r ≡ b → after.fill ≤ 2 * mem - 2
-    by true done = may_fit mem at.fill after.fill (is.fill done) few
+    by true done = may_fit mem at.fill after.fill some (is.fill done) few
     by false off = subst (λ (n : ℕ). n ≤ 2 * mem - 2) (sym (is.same off)) few
 
 -- it does where a run begins
@@ -58,10 +58,10 @@ begins_fit f mem from begins =
     let fits = leb-true (length begins.shows.state.journal) (journal_max begins.shows.state.mem) begins.shows.sound.formed.fits in
     omega (arith, fits, begins.fill, begins.mem_is)
 
-module _ (speech : Speech) (mem : ℕ) where
+module _ (speech : Speech) (mem : ℕ) (some : 1 ≤ mem) where
   says_fit : (at after : Position) (body : List ℕ) (said : Said) → Says speech mem at body said after → at.fill ≤ 2 * mem - 2 → after.fill ≤ 2 * mem - 2
   says_fit at after body said (inl is) few = subst (λ (p : Position). p.fill ≤ 2 * mem - 2) (sym is.same) few
-  says_fit at after body said (inr (inl is)) few = after_fits mem at after is.request is.place few
+  says_fit at after body said (inr (inl is)) few = after_fits mem at after is.request some is.place few
   says_fit at after body said (inr (inr is)) few = subst (λ (p : Position). p.fill ≤ 2 * mem - 2) (sym is.same) few
 
   run_fits : (at after : Position) (xs : List Exchange) (said : List Said) (ps : List Position) → IsSpokenRun speech mem at xs said after → at.fill ≤ 2 * mem - 2
@@ -85,4 +85,4 @@ module _ (speech : Speech) (mem : ℕ) where
       ended : (o : Option Interruption) → IfSome o (λ h. (said : Said) × (broken ≡ Some said) × (h.response ≡ response_of said) × SaysFault speech mem transcript.after h.body said h.done)
           → transcript.after.fill ≤ 2 * mem - 2 → AllByRecursion (λ (p : Position). p.fill ≤ 2 * mem - 2) (of_interruption (λ h. h.done) o)
       ended None is last = tt
-      ended (Some h) is last = (after_fits mem transcript.after h.done is.3.request is.3.place last, tt)
+      ended (Some h) is last = (after_fits mem transcript.after h.done is.3.request some is.3.place last, tt)

@@ -330,7 +330,7 @@ module _ (speech : Speech) where
           table = so_far.table;
           transcript = transcript;
           is = spoken;
-          region = fits_regions speech start.log.mem so_far.from transcript p.answers (Some response) spoken (begins_fit f start.log.mem so_far.from so_far.begins);
+          region = fits_regions speech start.log.mem (omega (arith, p.lawful.lawful.mem_least, p.lawful.log.mem, p.mem)) so_far.from transcript p.answers (Some response) spoken (begins_fit f start.log.mem so_far.from so_far.begins);
           front = ap (take (length (bodies_of transcript))) one_more
               ∙ take_at (p.bodies ++ body ∷ []) (others ++ frames.bodies) (length (bodies_of transcript)) (sym (ap length bodies_all)) ∙ sym bodies_all;
           answers_are = so_far.answers_are;

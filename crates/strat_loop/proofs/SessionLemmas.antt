@@ -123,7 +123,7 @@ module _ (speech : Speech) where
           table = so_far.table;
           transcript = transcript;
           is = is;
-          region = fits_regions speech start.log.mem so_far.from transcript p.answers None is (begins_fit f start.log.mem so_far.from so_far.begins);
+          region = fits_regions speech start.log.mem (omega (arith, p.lawful.lawful.mem_least, p.lawful.log.mem, p.mem)) so_far.from transcript p.answers None is (begins_fit f start.log.mem so_far.from so_far.begins);
           front = front;
           answers_are = so_far.answers_are;
           broken_is = refl;
@@ -317,7 +317,7 @@ module _ (speech : Speech) where
             table = so_far.table;
             transcript = transcript;
             is = is;
-            region = fits_regions speech start.log.mem so_far.from transcript p.answers (Some response) is (begins_fit g start.log.mem so_far.from so_far.begins);
+            region = fits_regions speech start.log.mem (omega (arith, p.lawful.lawful.mem_least, p.lawful.log.mem, p.mem)) so_far.from transcript p.answers (Some response) is (begins_fit g start.log.mem so_far.from so_far.begins);
             front = front;
             answers_are = so_far.answers_are;
             broken_is = refl;
