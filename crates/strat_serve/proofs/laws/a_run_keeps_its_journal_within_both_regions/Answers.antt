@@ -1,4 +1,4 @@
-use Rattle.std.proofs.Common.{arith}
+use Rattle.std.proofs.Common.{◌*◌, ◌-◌}
 use Rattle.strat_model.specs.Run.{positions_of}
 use Rattle.strat_serve.proofs.TableLemmas.{few_at, fill_full, fill_short}
 use Rattle.strat_serve.proofs.laws.a_run_keeps_its_journal_within_both_regions.Goals as goal
