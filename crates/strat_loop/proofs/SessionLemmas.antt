@@ -371,8 +371,8 @@ module _ (speech : Speech) where
               content = mid.disk.content;
               exposed = λ g exposed. let there = still_some before.disk mid.disk g passes exposed in subst IsSome (sym there.1) refl;
               listed = found.0;
-              bad = λ g exposed. found.1.0 (p.on_disk g exposed);
-              kept = found.1.1;
+              bad = λ g exposed. found.1 (p.on_disk g exposed);
+              kept = found.2;
             };
         left = λ other g exposed. left_on f refl other g exposed;
         still = λ calm g exposed.

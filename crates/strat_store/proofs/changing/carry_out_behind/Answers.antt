@@ -1,4 +1,4 @@
-use Rattle.std.proofs.Common.{◌≡◌, ◌<◌, ◌∙◌, Option, true, false, length, Err, inl, inr, refl, ap, sym, subst, arith}
+use Rattle.std.proofs.Common.{◌≡◌, ◌≢◌, ◌<◌, ◌∙◌, Option, true, false, length, Err, inl, inr, refl, ap, sym, subst, arith}
 use Rattle.std.specs.Prelude.{Result, IsErrOf}
 use Rattle.std.proofs.lemmas.List.{length-drop}
 use Rattle.strat_cursor.specs.Held.{HeldCursors}
@@ -18,7 +18,7 @@ use Rattle.strat_publish.specs.Advancing.{SlicesInBudget}
 use Rattle.strat_store.specs.Applying.{held_after, is_fault}
 use Rattle.strat_store.proofs.ChangingLemmas.{rows_stay}
 use Rattle.strat_store.proofs.GoingLemmas.{advanced_open, advanced_published, emptied_refuses, log_stays, one_open, one_published, ready_opened, ready_refuses, sealed_open}
-use Rattle.strat_store.proofs.LeavingLemmas.{both_keep, cursors_left, cursors_published, cursors_ready, gives_up, holds_the_same, keeps_spent, opened_after, promotes, renews, rows_renewed, still_published, troubled}
+use Rattle.strat_store.proofs.LeavingLemmas.{KeepsArrays, both_keep, cursors_left, cursors_published, cursors_ready, gives_up, holds_the_same, keeps_spent, opened_after, promotes, renews, rows_renewed, still_published, troubled}
 use Rattle.strat_memory.proofs.PayingLemmas.{paid_now, paid_then}
 use Rattle.strat_store.proofs.RenewingLemmas.{calm_short, carried_behind, damage_of, short_of, told_up, renewed, renewed_trail, trail_so_far}
 use Rattle.strat_store.proofs.changing.carry_out_behind.Goals as goal
@@ -34,7 +34,7 @@ pub returns-in-Err-clause-ok : goal.returns-in-Err-clause-ok
 returns-in-Err-clause-ok g c x cached stands =
     told_up c.args.held.now cached (c.requires.kept.0 cached) (g.D.Disk.view c.args.disk.now) x stands _ c.requires.none c.requires.kept.1 c.advance.new.held (g.D.Disk.view c.advance.new.disk)
     (told_as c.in-Err.obstacle) c.refusal_of.result c.refusal_of.ensures.ok (λ short. c.in-Err.ensures.none short x cached stands) (λ short. (c.in-Err.ensures.same.2 short).0)
-    (λ b bad. (c.in-Err.ensures.damaged b (handed (damaged_told c.in-Err.obstacle b bad))).1.1 x cached stands)
+    (λ b bad. (c.in-Err.ensures.damaged b (handed (damaged_told c.in-Err.obstacle b bad))).2 x cached stands)
 
 pub returns-in-Err-clause-trail : goal.returns-in-Err-clause-trail
 returns-in-Err-clause-trail g c x cached stands =
@@ -66,7 +66,7 @@ carry_out-requires-clause-room g c =
     elim (c.in_default.ensures.found (empty_cache 0)) [
       | inl stays ↦ (
         omega (arith, ap (λ (l : Log). length l.list) (log_stays s mid stays), c.advance.ensures.same.0, stays.room),
-        sealed_open mid stays.promotion stays.open_is (c.in_default.ensures.kept tt (empty_cache 0)).going,
+        λ unsealed. absurd (sealed_open mid stays.promotion stays.open_is (c.in_default.ensures.kept tt (empty_cache 0)).going unsealed),
       )
       | inr emptied ↦
           let low : length c.advance.new.held.journal.list < c.advance.new.held.sb.mem =
@@ -119,7 +119,7 @@ returns-clause-budget g c = λ done f x cached exposed stands.
 
 pub returns-in-Err-clause-disk : goal.returns-in-Err-clause-disk
 returns-in-Err-clause-disk g c = λ cached.
-    let keeps = c.in-Err.ensures.same.4 cached in (
+    let keeps = c.in-Err.ensures.same.3.1 cached in (
       gives_up (g.D.Disk.view c.args.disk.now) (g.D.Disk.view c.advance.new.disk) c.args.held.now c.advance.new.held cached (told_as c.in-Err.obstacle) c.refusal_of.result c.refusal_of.ensures.ok
           keeps.0 (λ other. c.in-Err.ensures.disk (λ e. other (let x : ◌≡◌ {A = Result _ Obstacle} (Err c.in-Err.obstacle) (Err Device) = e in let same : c.in-Err.obstacle ≡ Device = cc in ap told_as same)) cached)
           (λ x stands. (c.advance.ensures.trail x cached stands).1) c.advance.ensures.images.1,
@@ -139,7 +139,7 @@ returns-clause-disk g c = λ cached.
     let keeps = c.carry_out.ensures.disk cached in
     let going = c.carry_out.ensures.found.2 cached in
     let still = c.in_default.ensures.disk (λ e. absurd (cc)) cached in
-    let agree = λ other.
+    let agree : c.carry_out.result ≢ reply.Refused why.DeviceFault → KeepsArrays v w s = λ other.
     both_keep v u w s c.advance.new.held.sb.mem kept c.advance.ensures.same.0 c.advance.ensures.images.0 c.advance.ensures.images.1 (c.carry_out.ensures.images.1 other) in
     elim (c.in_default.ensures.found cached) [
       | inl stays ↦ (
@@ -173,7 +173,7 @@ returns-in-Err-clause-same g c = (
   rows_stay c.args.held.now.memory c.advance.new.held.memory c.advance.ensures.same.1,
   λ short cached.
       let both = c.in-Err.ensures.same.2 (short_of (told_as c.in-Err.obstacle) c.refusal_of.result c.refusal_of.ensures.ok short) in
-      holds_the_same c.args.held.now c.advance.new.held cached (reply.Refused c.refusal_of.result) (c.in-Err.ensures.same.4 cached).0 both.0 both.1 c.in-Err.ensures.same.3,
+      holds_the_same c.args.held.now c.advance.new.held cached (reply.Refused c.refusal_of.result) (c.in-Err.ensures.same.3.1 cached).0 both.0 both.1 c.in-Err.ensures.same.3.0,
 )
 
 pub returns-clause-same : goal.returns-clause-same
@@ -195,7 +195,7 @@ pub returns-in-Err-clause-damaged : goal.returns-in-Err-clause-damaged
 returns-in-Err-clause-damaged g c b bad =
     let v = g.D.Disk.view c.args.disk.now in
     let named = c.in-Err.ensures.damaged b (handed (damaged_told c.in-Err.obstacle b (damage_of (told_as c.in-Err.obstacle) c.refusal_of.result b c.refusal_of.ensures.ok bad))) in
-    (named.0, λ cached on. named.1.0 cached (read_open v (held_of c.args.held.now cached) on))
+    (named.0, λ cached on. named.1 cached (read_open v (held_of c.args.held.now cached) on))
 
 pub returns-clause-damaged : goal.returns-clause-damaged
 returns-clause-damaged g c b bad = absurd (c.carry_out.ensures.same.4 b bad)

@@ -63,6 +63,9 @@ returns-clause-budget g c = λ done full.
     let kept = c.requires.kept (empty_cache 0) in
     absurd (omega (arith, full, c.if-count-held.false, c.count.ensures.ok, kept.log.mem, kept.log.few))
 
+pub returns-then-count-held-clause-budget : goal.returns-then-count-held-clause-budget
+returns-then-count-held-clause-budget g c = λ done full. c.carry_out_behind.ensures.budget done
+
 pub returns-in-Some-clause-budget : goal.returns-in-Some-clause-budget
 returns-in-Some-clause-budget g c = λ done. absurd (let e : false ≡ true = done in cc)
 
