@@ -152,6 +152,16 @@ def blocks_named(data):
     return {block for array in formats.arrays_of(contents.manifest) for block in formats.blocks_of(array)} | set(contents.chain)
 
 
+def opened_between_puts(talk, store, chance):
+    """Sixty-four cursors over five versions, with a put behind each: the blocks of each."""
+    held = {}
+    for number in range(64):
+        cursor = talk.open(version=number % 5)
+        held[cursor] = blocks_read_at(bytes_of(store.path), store.model.parents[1:], number % 5)
+        talk.ask(put(number, b"%03d" % chance.randrange(200), chance.randbytes(300), 4))
+    return held
+
+
 def sixty_four_cursors_are_read_to_their_end_over_publications(folder):
     chance, store = random.Random(31), StoreFile(folder, 4, 100000, 100)
     for version in range(4):
@@ -159,11 +169,7 @@ def sixty_four_cursors_are_read_to_their_end_over_publications(folder):
         store.expect_answers(f"version {version}", [*frames, clone(0, version)])
     ended = closed = published = 0
     with Talk("64 cursors", store) as talk:
-        held = {}  # the blocks of each open cursor
-        for number in range(64):
-            cursor = talk.open(version=number % 5)
-            held[cursor] = blocks_read_at(bytes_of(store.path), store.model.parents[1:], number % 5)
-            talk.ask(put(number, b"%03d" % chance.randrange(200), chance.randbytes(300), 4))
+        held = opened_between_puts(talk, store, chance)
         before, began = bytes_of(store.path), None
         while held:
             cursor = chance.choice(list(held))
