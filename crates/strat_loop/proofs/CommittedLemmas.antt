@@ -101,7 +101,7 @@ module _ (speech : Speech) where
         leaves = leaves;
         on_disk = λ on.
             published.on_disk (λ e. let f : ◌≡◌ {A = Reply} reply.Done (reply.Refused why.DeviceFault) = e in cc)
-            (still_on mid.disk base staged (record { slot = has.slot; sb = has.sb; chained = has.chained; levels = has.levels; filters = has.filters }) on);
+            (still_on mid.disk base staged (record { slot = has.slot; sb = has.sb; chained = has.chained; levels = has.levels; filters = has.filters }) has.going on);
         retired = λ a among.
             Contains-append_right (arrays_there base.levels) base.memory.cursors.retired a
             (subst (λ (l : List ArrayDesc). Contains l a) (ap (λ (s : Held). s.memory.cursors.retired) after ∙ ap (λ c. c.retired) has.cursors) among);

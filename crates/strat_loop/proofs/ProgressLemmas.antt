@@ -34,11 +34,13 @@ use Rattle.def_publish.specs.Contents.{Contents, contents_state}
 use Rattle.def_publish.specs.Standing.{ShowsTable}
 use Rattle.strat_publish.specs.Outcomes.{IsDamagedIn}
 use Rattle.strat_open.specs.Following.{ChangesGateAlone, FollowsFrom, IsOpenedAs}
+use Rattle.strat_memory.proofs.OpenLemmas.{agree_read}
 use Rattle.strat_memory.specs.Held.{Held, IsConsistent, IsOnDisk, StandsWith, arrays_held, position_at}
 use Rattle.strat_publish.specs.Settling.{KeepsPublished, carries_out}
 use Rattle.def_state.specs.State.{IsPaid}
 use Rattle.strat_memory.specs.Paying.{IsPaidIn, ArePaidSince}
 use Rattle.strat_publish.proofs.LaidLemmas.{kept_on}
+use Rattle.strat_store.proofs.LeavingLemmas.{held_there, same_on}
 use Rattle.strat_memory.proofs.OnDiskLemmas.{read_on}
 use Rattle.strat_memory.proofs.PayingLemmas.{paid_now, paid_reads, paid_then, stored_since}
 use Rattle.strat_loop.specs.Session.{Took, IsAtEnd, FailsAsMet, WaitsForNone}
@@ -80,9 +82,9 @@ took_then a b c x y first second = record {
   hidden = λ e. second.hidden (first.hidden e);
 }
 
--- a store that holds the superblock and the manifest of another is on the disk where that one is
-pub still_on : (v : DiskView) (s t : Held) → KeepsPublished s t → IsOnDisk v s → IsOnDisk v t
-still_on v s t same on = kept_on v s t same on
+-- a store that holds the superblock, the manifest and the promotion of another is on the disk where that one is
+pub still_on : (v : DiskView) (s t : Held) → KeepsPublished s t → t.promoting ≡ s.promoting → IsOnDisk v s → IsOnDisk v t
+still_on v s t same going on = same_on v s t same going on
 
 -- nothing was taken
 pub took_none : (s : Option (List ℕ)) → Took s s []
@@ -324,7 +326,8 @@ module _ (speech : Speech) where
           let none : carries_out told.request is.response.answer.reply ≡ false = ap (carries_out told.request) reply_is ∙ and_right (is_change told.request) false refl in
           let other : is.response.answer.reply ≢ reply.Refused why.DeviceFault = λ f. let g : ◌≡◌ {A = Reply} (reply.Refused (why.Damaged b)) (reply.Refused why.DeviceFault) = sym reply_is ∙ f in cc in
           let same = told.leaves.kept none other in
-          kept_on w new old (record { slot = sym same.slot; sb = sym same.sb; chained = sym same.chained; levels = sym same.levels; filters = sym same.filters }) (told.leaves.on_disk other on)
+          kept_on w new old (record { slot = sym same.slot; sb = sym same.sb; chained = sym same.chained; levels = sym same.levels; filters = sym same.filters })
+          (λ g now. agree_read on.content g old (λ a of. told.leaves.beside other on.content g on.exposed now a (held_there old a of)) on.read) (told.leaves.on_disk other on)
     ]
 
     -- what a crash leaves since is paid for, where the contents were
@@ -373,7 +376,8 @@ module _ (speech : Speech) where
     pub kept : met ≡ None → IsConsistent new
     pub same : new.sb.mem ≡ old.sb.mem
     pub leaves : IfSome now.disk.content (Images now.disk)
-    pub damaged : (b : ℕ) → met ≡ Some (fault.Damaged b) → IsDamagedIn mid.disk.content old.memory old.levels b
+    pub damaged : (b : ℕ) → met ≡ Some (fault.Damaged b) → Contains (blocks_listed (arrays_held old.memory old.levels)) b
+        × (IsOnDisk mid.disk old → IsDamagedIn mid.disk.content old.memory old.levels b)
         × ((f g : Image) → mid.disk.content ≡ Some f → now.disk.content ≡ Some g → AgreeOn (blocks_listed (arrays_held old.memory old.levels)) f g)
 
   -- a reply that the device failed tells of a fault

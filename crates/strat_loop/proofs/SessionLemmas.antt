@@ -370,8 +370,9 @@ module _ (speech : Speech) where
               named = λ g exposed a among. published_still before.disk mid.disk now.disk a done.passes (p.named g exposed a among);
               content = mid.disk.content;
               exposed = λ g exposed. let there = still_some before.disk mid.disk g passes exposed in subst IsSome (sym there.1) refl;
-              bad = found.0;
-              kept = found.1;
+              listed = found.0;
+              bad = λ g exposed. found.1 (p.on_disk g exposed);
+              kept = found.2;
             };
         left = λ other g exposed. left_on f refl other g exposed;
         still = λ calm g exposed.

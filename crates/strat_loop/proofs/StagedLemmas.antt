@@ -117,6 +117,7 @@ pub record HasStaged (old new : Held) : Type 0 where
   pub chained : new.chained ≡ old.chained
   pub levels : new.levels ≡ old.levels
   pub filters : new.filters ≡ old.filters
+  pub going : new.promoting ≡ old.promoting
 
 cursors_kept : (m : Memory) (c : Change) → (memory_after m c).cursors ≡ m.cursors
 cursors_kept m (Put version key value) = refl
@@ -204,7 +205,7 @@ module _ (speech : Speech) where
   staged_count old new (b ∷ bs) (r ∷ rs) all = omega (arith, one_staged old all.0 b r all.1, staged_count all.0 new bs rs all.2)
 
   pub has_staged : (old new : Held) (bodies : List (List ℕ)) (responses : List Said) → StagesBodies speech old bodies responses new → HasStaged old new
-  has_staged old new [] [] all = subst (λ (s : Held). HasStaged old s) (sym all) (record { slot = refl; sb = refl; mem = refl; list = refl; cursors = refl; spent = refl; chained = refl; levels = refl; filters = refl })
+  has_staged old new [] [] all = subst (λ (s : Held). HasStaged old s) (sym all) (record { slot = refl; sb = refl; mem = refl; list = refl; cursors = refl; spent = refl; chained = refl; levels = refl; filters = refl; going = refl })
   has_staged old new [] (r ∷ rs) all = absurd all
   has_staged old new (b ∷ bs) [] all = absurd all
   has_staged old new (b ∷ bs) (r ∷ rs) all =
@@ -220,6 +221,7 @@ module _ (speech : Speech) where
         chained = rest.chained ∙ ap (λ (s : Held). s.chained) one.after;
         levels = rest.levels ∙ ap (λ (s : Held). s.levels) one.after;
         filters = rest.filters ∙ ap (λ (s : Held). s.filters) one.after;
+        going = rest.going ∙ ap (λ (s : Held). s.promoting) one.after;
       }
 
   -- bodies that were staged are exchanges from one position to another, where the store stands

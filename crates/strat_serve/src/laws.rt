@@ -136,8 +136,8 @@ pub fn a_served_run_finds_and_leaves_a_store<D: Viewed>()
         → how ≢ ended.Device → how ≢ ended.Sink
         → (store : Held) × IsConsistent store × IsOnDisk (D.view e) store }
     ensures journal { (x y : Streams) (d e : D) (budget : ℕ) (how : Ended) (f : Image) (t : Table)
-        → ShowsTable f t → Served budget how (beside x (D.view d)) (beside y (D.view e)) → Exposes (D.view d) f
-        → how ≢ ended.Device → how ≢ ended.Sink → (c : Image)
+        → ShowsTable f t → Served budget how (beside x (D.view d)) (beside y (D.view e))
+        → Exposes (D.view d) f → how ≢ ended.Device → how ≢ ended.Sink → (c : Image)
         → Images (D.view e) c → (head : Head) × (recover c ≡ Ok (Some head))
         × (length head.journal ≤ 2 * head.sb.mem - 2) }
     ensures still { (x y : Streams) (d e : D) (budget : ℕ) (how : Ended) (f : Image)

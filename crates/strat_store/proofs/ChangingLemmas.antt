@@ -3,7 +3,7 @@ use Rattle.std.proofs.Common.{◌≡◌, ◌≢◌, ◌≤◌, ◌<◌, ◌+◌,
 use Rattle.std.specs.List.{list_all}
 use Rattle.std.proofs.lemmas.Bool.{and_parts, and_from, le-ltb}
 use Rattle.std.proofs.lemmas.List.Folds.{list_all-append}
-use Rattle.std.specs.Prelude.{fold, is_some, option_map, flat_map}
+use Rattle.std.specs.Prelude.{IfSome, fold, is_some, option_map, flat_map}
 use Rattle.strat_array.specs.Kept.{Blocks}
 use Rattle.strat_base.specs.Change.{Change, is_lawful}
 use Rattle.strat_base.specs.Change as change
@@ -46,15 +46,16 @@ use Rattle.def_state.specs.Level.{Level}
 use Rattle.def_state.specs.Sound.{is_accepted, are_accepted, accepts_change, Takes}
 use Rattle.def_state.specs.State.{tree_after, marks_after}
 use Rattle.strat_store.specs.Applying.{IsAppliedTo, FollowsStep, is_fault, ran_short, table_left}
-use Rattle.strat_memory.specs.Held.{AreKept, Held, head_held, contents_held, IsConsistent, StandsWith, position_with}
+use Rattle.strat_memory.specs.Held.{AreKept, Held, IsOpenAt, head_held, contents_held, IsConsistent, StandsWith, position_with}
 use Rattle.strat_cursor.specs.Looking.{AreCachedFrom}
 use Rattle.strat_memory.specs.Memory.{HasRoomFor, KeepsRows, Memory, refusal_of_change, memory_after, reply_to, IsMemoryOf}
 use Rattle.strat_publish.specs.Publishing.{is_in_front}
 use Rattle.strat_memory.specs.Admitting.{chained_of}
-use Rattle.strat_memory.specs.RecoveredFields.{held_of}
+use Rattle.strat_memory.specs.RecoveredFields.{held_of, open_of}
 use Rattle.strat_store.specs.Applying.{held_after}
 use Rattle.strat_memory.specs.declared.open_store.OpenStore.{OpenStore}
 use Rattle.strat_publish.proofs.KeptLemmas.{named_behind}
+use Rattle.strat_store.proofs.GoingLemmas.{going_more, open_more, sealed_stay}
 use Rattle.strat_store.proofs.LoggingLemmas.{batch_low}
 use Rattle.strat_memory.proofs.MemoryLawLemmas.{accepted_same, change_answered, change_taken, memory_follows, room_behind}
 use Rattle.strat_base.specs.Marks.{Marks}
@@ -184,6 +185,7 @@ module _ (r : OpenStore) (cached : Blocks) (kept : IsConsistent (held_of r cache
               (subst (λ (cs : List Change). IsMemoryOf (record (head_held (held_of r cached)) { journal = cs }) (memory_after r.memory c)) list of);
           placed = kept.placed;
           kept = kept_still (super_of r.sb) (chained_of r.published) r.published.levels r.memory m (ap (λ (k : Memory). k.cursors) follows ∙ cursors_stay r.memory c) kept.kept;
+          going = going_more (held_of r cached) j m c (sym list) (ap (λ (k : Memory). k.sealed) follows ∙ sealed_stay r.memory c) (ap (λ (k : Memory). k.cursors) follows ∙ cursors_stay r.memory c) kept.going;
         }
 
   -- and what stands on the disk answers as its table does
@@ -247,20 +249,30 @@ module _ (r : OpenStore) (cached : Blocks) (kept : IsConsistent (held_of r cache
         done_so : is_carried_out (position_with (held_of r cached) x) (request_for c) ≡ true
         done_so = carried (position_with (held_of r cached) x) (request_for c) (changes_it c) acceptable
 
+        -- the blocks behind the journal stay
+        behind : (w : DiskView) (now : ContentsStand w (with_batch x (c ∷ []))) → ((f g : Image) → Exposes v f → Exposes w g → KeepsTaken (is_in_front r.journal.mem) f g)
+            → KeepsTaken (is_in_front r.sb.mem) stands.stands.content now.content
+        behind w now keeps =
+            subst (λ (n : ℕ). KeepsTaken (is_in_front n) stands.stands.content now.content) kept.log.mem (keeps stands.stands.content now.content stands.stands.exposed now.exposed)
+
         -- the change is carried out
-        pub carries : (w : DiskView) (j : Log) (m : Memory) (told : Reply) → j ≡ record r.journal { list = r.journal.list ++ c ∷ [] } → told ≡ reply_to r.memory c → ContentsStand w (with_batch x (c ∷ []))
+        pub carries : (w : DiskView) (j : Log) (m : Memory) (told : Reply) → IfSome (option_map open_of r.promoting) (IsOpenAt stands.stands.content (held_of r cached) x (length r.journal.list + 1))
+            → j ≡ record r.journal { list = r.journal.list ++ c ∷ [] } → m ≡ memory_after r.memory c → told ≡ reply_to r.memory c → ContentsStand w (with_batch x (c ∷ []))
             → ((f g : Image) → Exposes v f → Exposes w g → KeepsTaken (is_in_front r.journal.mem) f g)
             → IsAppliedTo w (held_of r cached) x (request_for c) (plain told) (held_after (record r { journal = j; memory = m }) cached told)
-        carries w j m told grown tells now keeps = inl (record {
+        carries w j m told next grown follows tells now keeps = inl (record {
           told = ap plain tells ∙ sym answered;
           going = ap is_fault tells ∙ (told_well r.memory c).1;
           after = with_batch x (c ∷ []);
           stands = record {
             stands = now;
             held = more_held j grown;
-            cached = cached_behind stands.stands.content now.content (held_of r cached) kept
-                (subst (λ (n : ℕ). KeepsTaken (is_in_front n) stands.stands.content now.content) kept.log.mem (keeps stands.stands.content now.content stands.stands.exposed now.exposed)) stands.cached;
+            cached = cached_behind stands.stands.content now.content (held_of r cached) kept (behind w now keeps) stands.cached;
             filtered = stands.filtered;
+            open_over = open_more stands.stands.content now.content (held_of r cached) (held_after (record r { journal = j; memory = m }) cached told) x c (option_map open_of r.promoting)
+                (stands.stands.reads stands.stands.content stands.stands.left) (ap (λ (y : Contents). length y.journal) stands.held) (one_more j grown)
+                (subst (λ (y : Contents). KeepsTaken (is_in_front y.sb.mem) stands.stands.content now.content) (sym stands.held) (behind w now keeps))
+                (ap (λ (k : Memory). k.sealed) follows ∙ sealed_stay r.memory c) refl next;
           };
           place = record {
             table = sym (steps_to (contents_state x) c takes);

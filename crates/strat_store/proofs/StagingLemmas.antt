@@ -45,6 +45,7 @@ use Rattle.strat_store.specs.Staging.{HasRoomForStaged, IsStaged, IsStagedAt, ha
 use Rattle.strat_store.proofs.AppliedLemmas.{beside, change_beside}
 use Rattle.strat_store.proofs.ApplyLemmas.{spent_consistent, wanted_for}
 use Rattle.strat_store.proofs.ChangingLemmas.{changes_it, cursors_stay, told_well}
+use Rattle.strat_store.proofs.GoingLemmas.{open_as, sealed_stay}
 
 -- the replies to changes and one more
 replies_more : (ps : Parents) (batch : List Change) (c : Change) → replies_over ps (batch ++ c ∷ []) ≡ replies_over ps batch ++ reply_over (fold tree_after ps batch) c ∷ []
@@ -258,7 +259,13 @@ stands_staged v s x rows c keeps at =
     let m = memory_after s.memory c in
     let same : m.cursors.opened ≡ s.memory.cursors.opened = ap (λ (k : HeldCursors). k.opened) (cursors_stay s.memory c) in
     record {
-      stands = record { stands = at.stands.stands; held = at.stands.held; cached = at.stands.cached; filtered = at.stands.filtered };
+      stands = record {
+        stands = at.stands.stands;
+        held = at.stands.held;
+        cached = at.stands.cached;
+        filtered = at.stands.filtered;
+        open_over = open_as f s (with_staged s c) x (length s.log.list) s.promoting (sealed_stay s.memory c) refl at.stands.open_over;
+      };
       rows_are = subst (λ (cs : List HeldCursor). AreRowsOf f m.parents cs rows) (sym same) (keeps f rows at.rows_are);
       going = λ k of. at.going k (subst (λ (cs : List HeldCursor). Contains cs k) same of);
     }

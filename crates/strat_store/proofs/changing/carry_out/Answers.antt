@@ -6,6 +6,7 @@ use Rattle.strat_store.proofs.ChangingLemmas.{cursors_stay, log_of, region_low, 
 use Rattle.strat_store.proofs.LeavingLemmas.{logged_leaves, taken_calm, taken_well}
 use Rattle.strat_memory.specs.Memory.{Memory}
 use Rattle.strat_publish.specs.Publishing.{is_in_front}
+use Rattle.strat_publish.specs.Settling.{KeepsPublished}
 use Rattle.strat_store.proofs.changing.carry_out.Goals as goal
 
 pub log_change-requires-clause-none : goal.log_change-requires-clause-none
@@ -21,7 +22,7 @@ log_change-requires-clause-kept g c =
 
 pub returns-in_default-clause-ok : goal.returns-in_default-clause-ok
 returns-in_default-clause-ok g c x cached stands =
-    breaks c.args.held.now cached (c.requires.kept cached) (g.D.Disk.view c.args.disk.now) x stands _ c.requires.none
+    breaks c.args.held.now cached (c.requires.kept cached) (g.D.Disk.view c.args.disk.now) x stands.stands _ c.requires.none
     (record c.args.held.now { journal = c.log_change.new.journal }) (g.D.Disk.view c.log_change.new.disk)
 
 pub returns-in_default-clause-trail : goal.returns-in_default-clause-trail
@@ -37,11 +38,12 @@ take-requires-clause-room g c =
     room_kept (held_of c.args.held.now (empty_cache 0)) (c.requires.kept (empty_cache 0)) _ c.requires.room.0 c.requires.room.1
 
 pub returns-clause-ok : goal.returns-clause-ok
-returns-clause-ok g c x cached stands =
+returns-clause-ok g c x cached one =
     let kept = c.requires.kept cached in
+    let stands = one.stands in
     let of = log_of c.args.held.now cached kept x stands.held in
     carries c.args.held.now cached kept (g.D.Disk.view c.args.disk.now) x stands _ c.requires.none c.requires.room.0 (g.D.Disk.view c.log_change.new.disk) c.log_change.new.journal c.take.new.self c.take.result
-    c.in-Ok.ensures.ok c.take.ensures.found
+    one.next c.in-Ok.ensures.ok c.take.ensures.ok c.take.ensures.found
     (c.in-Ok.ensures.kept x stands.stands of (takes c.args.held.now cached kept (g.D.Disk.view c.args.disk.now) x stands _ c.requires.none c.requires.room.0)).1
     c.in-Ok.ensures.same
 
@@ -65,7 +67,7 @@ returns-clause-same g c =
     (refl, finds_none c.args.held.now.memory _ c.take.result c.take.ensures.found, well.0, well.1, taken_calm c.args.held.now.memory _ c.take.result c.take.ensures.found)
 
 pub returns-clause-found : goal.returns-clause-found
-returns-clause-found g c = (ap (λ (m : Memory). m.cursors) c.take.ensures.ok ∙ cursors_stay c.args.held.now.memory _, c.take.ensures.kept)
+returns-clause-found g c = (ap (λ (m : Memory). m.cursors) c.take.ensures.ok ∙ cursors_stay c.args.held.now.memory _, c.take.ensures.kept, λ cached. refl)
 
 pub returns-clause-images : goal.returns-clause-images
 returns-clause-images g c =
@@ -73,11 +75,15 @@ returns-clause-images g c =
     (c.log_change.ensures.time, λ other f h was now. subst (λ (n : ℕ). KeepsTaken (is_in_front n) f h) mem (c.in-Ok.ensures.same f h was now))
 
 pub returns-in_default-clause-disk : goal.returns-in_default-clause-disk
-returns-in_default-clause-disk g c = λ cached.
-    logged_leaves (g.D.Disk.view c.args.disk.now) (g.D.Disk.view c.log_change.new.disk) (held_of c.args.held.now cached) (held_of (record c.args.held.now { journal = c.log_change.new.journal }) cached)
-    (batch_region c.args.held.now.journal) (c.requires.kept cached) (region_low c.args.held.now cached (c.requires.kept cached)) (record { slot = refl; sb = refl; chained = refl; levels = refl; filters = refl }) c.log_change.ensures.images c.log_change.ensures.time
+returns-in_default-clause-disk g c = λ cached. (record { slot = refl; sb = refl; chained = refl; levels = refl; filters = refl }, λ other. absurd (other refl))
 
 pub returns-clause-disk : goal.returns-clause-disk
 returns-clause-disk g c = λ cached.
-    logged_leaves (g.D.Disk.view c.args.disk.now) (g.D.Disk.view c.log_change.new.disk) (held_of c.args.held.now cached) (held_of (record c.args.held.now { journal = c.log_change.new.journal; memory = c.take.new.self }) cached)
-    (batch_region c.args.held.now.journal) (c.requires.kept cached) (region_low c.args.held.now cached (c.requires.kept cached)) (record { slot = refl; sb = refl; chained = refl; levels = refl; filters = refl }) c.log_change.ensures.images c.log_change.ensures.time
+    let mem = (c.requires.kept cached).log.mem in
+    let t = held_of (record c.args.held.now { journal = c.log_change.new.journal; memory = c.take.new.self }) cached in
+    let same : KeepsPublished (held_of c.args.held.now cached) t = record { slot = refl; sb = refl; chained = refl; levels = refl; filters = refl } in (
+      same,
+      λ other on. logged_leaves (g.D.Disk.view c.args.disk.now) (g.D.Disk.view c.log_change.new.disk) (held_of c.args.held.now cached) t
+          (batch_region c.args.held.now.journal) (c.requires.kept cached) (region_low c.args.held.now cached (c.requires.kept cached)) same refl c.log_change.ensures.images c.log_change.ensures.time
+          (λ f h was now. subst (λ (n : ℕ). KeepsTaken (is_in_front n) f h) mem (c.in-Ok.ensures.same f h was now)) on,
+    )

@@ -1,7 +1,7 @@
 use Rattle.std.proofs.Common.{◌∷◌, [], List, length, Option, Bool, ap, sym, subst, arith, length-append}
 use Rattle.strat_publish.proofs.KeepingLemmas.{taken_more}
 use Rattle.strat_publish.specs.Promoting.{HasTaken}
-use Rattle.strat_publish.proofs.promote.take_filters.Goals as goal
+use Rattle.strat_publish.proofs.made.take_filters.Goals as goal
 
 pub loop-i-preserved : goal.loop-i-preserved
 loop-i-preserved c =

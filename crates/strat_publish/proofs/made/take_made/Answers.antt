@@ -1,6 +1,6 @@
 use Rattle.std.proofs.Common.{◌∙◌}
 use Rattle.strat_publish.proofs.KeepingLemmas.{taken_of_made}
-use Rattle.strat_publish.proofs.promote.take_made.Goals as goal
+use Rattle.strat_publish.proofs.made.take_made.Goals as goal
 
 pub returns-clause-filters : goal.returns-clause-filters
 returns-clause-filters c g stands =

@@ -1,6 +1,6 @@
 use Rattle.std.proofs.Common.{◌≡◌, ◌≤◌, length, vec_capacity}
 use Rattle.strat_publish.specs.Promoting.{HasTaken}
-use Rattle.strat_publish.proofs.promote.take_filters.Given as goal
+use Rattle.strat_publish.proofs.made.take_filters.Given as goal
 
 abbrev pub invariant-loop-i : goal.invariant-loop-i
 invariant-loop-i l = record {

@@ -6,7 +6,7 @@ use Rattle.strat_memory.specs.RecoveredFields.{held_of, empty_cache}
 use Rattle.strat_extent.specs.Change.{CanMark}
 use Rattle.strat_publish.proofs.RoomLemmas.{ample_room}
 use Rattle.strat_publish.proofs.SettlingLemmas.{keeps_own, owns_blocks, space_held}
-use Rattle.strat_publish.proofs.checkpoint.used_space.Goals as goal
+use Rattle.strat_publish.proofs.begin.used_space.Goals as goal
 
 pub space_if_blocks_distinct-requires : goal.space_if_blocks_distinct-requires
 space_if_blocks_distinct-requires c = record { fits = (c.requires.kept (empty_cache 0)).lawful.mem_most }
