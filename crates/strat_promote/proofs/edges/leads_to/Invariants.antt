@@ -1,4 +1,4 @@
-use Rattle.std.proofs.Common.{◌≡◌, ◌≤◌, ◌+◌, ◌-◌}
+use Rattle.std.proofs.Common.{◌≡◌, ◌≤◌, ◌+◌, ◌-◌, ◌*◌, ◌^◌}
 use Rattle.strat_level.specs.Target.{leads_down_to}
 use Rattle.strat_promote.specs.Promotions.{leads_listed}
 use Rattle.strat_promote.proofs.edges.leads_to.Given as goal
