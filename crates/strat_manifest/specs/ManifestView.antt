@@ -1,5 +1,5 @@
 -- The manifest that a manifest in memory says.
-use Rattle.std.specs.Prelude.{ℕ, ◌==◌, nat_le, Bool, List, map}
+use Rattle.std.specs.Prelude.{ℕ, ◌==◌, nat_le, if◌then◌else◌, Bool, List, map}
 use Rattle.std.specs.List.{list_all}
 use Rattle.strat_base.specs.Marks.{Marks}
 use Rattle.def_bytes.specs.Manifest.{Manifest}
@@ -16,6 +16,10 @@ marks_of numbers = map is_set numbers
 -- each number is that of a mark, 0 or 1
 abbrev pub are_marks : List ℕ → Bool
 are_marks numbers = list_all (λ n. nat_le n 1) numbers
+
+-- a number of bytes that stand in format 2 alone
+abbrev pub only_size : ℕ → ℕ → ℕ
+only_size format n = if format == 2 then n else 0
 
 -- the manifest of these fields
 abbrev pub manifest_of : Declared → Manifest

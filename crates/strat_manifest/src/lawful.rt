@@ -256,12 +256,12 @@ fn are_below(marks: &[u32], parents: &[u32]) -> bool
 }
 
 /// Whether each version has a mark, version 0 is living, and below a dropped version all were dropped.
-#[tactic(auto, using(crate::proofs::MarkLemmas::pruned_is, crate::proofs::MarkLemmas::length-marks))]
+#[tactic(auto, using(crate::proofs::MarkLemmas::pruned_is))]
 fn are_pruned(parents: &[u32], marks: &[u32]) -> bool
     ensures ok { result ≡ drops.are_pruned (None ∷ map (λ p. Some p) parents.now)
         (marks_of marks.now) }
 {
-    let has_marks = marks.len() > 0 && marks.len() - 1 == parents.len();
+    let has_marks = marks.len() == parents.len() + 1;
     let has_root = !is_dropped(marks, 0);
     has_marks && has_root && are_below(marks, parents)
 }
