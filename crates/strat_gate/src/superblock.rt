@@ -95,6 +95,16 @@ pub(crate) fn is_in_range(sb: &SuperBlock) -> bool
     ensures ok { result ≡ in_range (super_of sb.now) }
     ensures fits { IsTrue result → IsLawful (super_of sb.now) }
 {
+    // so that the proof knows how large they may be
+    let _generation = sb.generation;
+    let _length = sb.length;
+    each_is_in_range(sb)
+}
+
+/// Whether each field passes its tests.
+fn each_is_in_range(sb: &SuperBlock) -> bool
+    ensures ok { result ≡ in_range (super_of sb.now) }
+{
     1 <= sb.format
         && sb.format <= NEWEST_FORMAT
         && 1 <= sb.generation
