@@ -16,7 +16,7 @@ ghost use Rattle.strat_memory.specs.Admitting.{FitsInMemory, MayBePlaced, counts
 ghost use Rattle.def_bytes.specs.Layout.{newest_format};
 
 use crate::belonging::{
-    all_filled, has_few_leads, has_few_publications, has_low_tags, ids_are_distinct,
+    all_filled, has_few_leads, has_few_publications, has_low_tags, ids_are_distinct, none_is_dropped,
     space_if_blocks_distinct,
 };
 use crate::copying::copy_levels;
@@ -97,6 +97,7 @@ fn counts_are_plausible(sb: &SuperBlock, manifest: &Manifest) -> bool
             manifest.changes,
             manifest.next_array,
             manifest.written,
+            manifest.compacted,
         )
 }
 
@@ -124,6 +125,9 @@ fn space_if_manifest_fits(
         → belongs (super_of sb.now)
         (record { manifest = manifest_of manifest.now; blocks = blocks_of chain.now }) ≡ false)) }
 {
+    if !none_is_dropped(manifest.marks.as_slice()) {
+        return Ok(None);
+    }
     if !counts_are_plausible(sb, manifest) {
         return Ok(None);
     }

@@ -13,6 +13,8 @@ ghost use Rattle.def_recovery.specs.Opening.{has_own_blocks, is_filled};
 ghost use Rattle.def_publish.specs.Contents.{Contents, named_blocks};
 ghost use Rattle.def_publish.specs.Occupied.{IsSpaceOf, UsesMore, arrays_in, extents_of};
 ghost use Rattle.def_state.specs.Level.{is_distinct};
+ghost use Rattle.strat_base.specs.Marks.{none_dropped};
+ghost use Rattle.strat_manifest.specs.ManifestView.{marks_of};
 ghost use Rattle.strat_memory.specs.Belonging.{UsesJust, are_new};
 
 use def_bytes::first_free;
@@ -107,14 +109,25 @@ pub(crate) fn has_few_publications(
     changes: u32,
     next_array: u64,
     written: u64,
+    compacted: u64,
 ) -> bool
     ensures ok { result ≡ (nat_le generation (changes + 1)
-        && nat_le next_array (16384 * changes + 1) && nat_le written (33554432 * changes)) }
+        && nat_le next_array (16384 * changes + 1) && nat_le written (33554432 * changes)
+        && nat_le compacted (33554432 * changes)) }
 {
     let changes = changes as u64;
     generation <= changes + 1
         && next_array <= VERSIONS_MAX as u64 * changes + 1
         && written <= ENTRIES_MAX as u64 * changes
+        && compacted <= ENTRIES_MAX as u64 * changes
+}
+
+/// Whether no version was dropped.
+#[tactic(auto, using(strat_manifest::proofs::MarkLemmas::none_set))]
+pub(crate) fn none_is_dropped(marks: &[u32]) -> bool
+    ensures ok { result ≡ none_dropped (marks_of marks.now) }
+{
+    marks.iter().all(|mark| *mark != 1)
 }
 
 /// Whether each version of a tag is below a horizon.
