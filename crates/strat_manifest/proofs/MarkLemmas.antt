@@ -88,14 +88,14 @@ pruned_is parents xs =
     ∙ (λ i. eqb (length-marks xs i) (sym (add-one (length parents)) i) && not (is_dropped (marks_of xs) 0) && are_below (marks_of xs) 1 parents)
 
 -- one more zero of so many
-pub one_more_zero : (n i : ℕ) (xs : List ℕ) → i < n → xs ++ replicate (n - i) 0 ≡ replicate n 0 → (xs ++ 0 ∷ []) ++ replicate (n - (i + 1)) 0 ≡ replicate n 0
-one_more_zero n i xs more sofar =
+pub one_more_zero : (n i : ℕ) (xs all : List ℕ) → i < n → xs ++ replicate (n - i) 0 ≡ all → (xs ++ 0 ∷ []) ++ replicate (n - (i + 1)) 0 ≡ all
+one_more_zero n i xs all more sofar =
     let left : n - i ≡ suc (n - (i + 1)) = omega arith in
     append_assoc xs (0 ∷ []) (replicate (n - (i + 1)) 0) ∙ ap (λ (k : ℕ). xs ++ replicate k 0) (sym left) ∙ sofar
 
 -- all of them
-pub all_zeros : (n i : ℕ) (xs : List ℕ) → n ≤ i → xs ++ replicate (n - i) 0 ≡ replicate n 0 → xs ≡ replicate n 0
-all_zeros n i xs over sofar =
+pub all_zeros : (n i : ℕ) (xs all : List ℕ) → n ≤ i → xs ++ replicate (n - i) 0 ≡ all → xs ≡ all
+all_zeros n i xs all over sofar =
     let left : n - i ≡ 0 = omega arith in
     sym (append-nil xs) ∙ ap (λ (k : ℕ). xs ++ replicate k 0) (sym left) ∙ sofar
 

@@ -18,3 +18,4 @@ pub mod SettledLemmas
 pub mod CountingLemmas
 pub mod LaidLemmas
 pub mod PartsLemmas
+pub mod MarkedLemmas

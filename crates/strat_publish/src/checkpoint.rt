@@ -42,6 +42,7 @@ ghost use Rattle.def_bytes.specs.Layout.{newest_format};
 use crate::lay::lay_next;
 use crate::next_manifest::{Computed, compute_next};
 use crate::promote::Made;
+use def_bytes::NEWEST_FORMAT;
 use std::alloc::Global;
 use std::mem;
 use strat_base::{ArrayDesc, Arrays, Failed, LevelDesc, NoMemory};
@@ -59,7 +60,7 @@ use strat_promote::obstacle::{Obstacle, Unfit};
 /// The superblock after one, with this manifest, unless no number is left for its generation: no store comes so far.
 fn next_super(old: &SuperBlock, first: u32, length: u32) -> Result<SuperBlock, Unfit>
     requires kept { IsLawful (super_of old.now) }
-    requires fits { (places.first_free old.now.mem ≤ first) × (first < 4294967295) × (29 ≤ length) }
+    requires fits { (places.first_free old.now.mem ≤ first) × (first < 4294967295) × (38 ≤ length) }
     ensures ok { IfOk result (λ sb. super_of sb ≡ super_after (super_of old.now) first length) }
     ensures kept { IfOk result (λ sb. IsLawful (super_of sb)) }
     ensures cause { OnErr result (2 ^ 64 ≤ (super_of old.now).generation + 1) }
@@ -68,6 +69,7 @@ fn next_super(old: &SuperBlock, first: u32, length: u32) -> Result<SuperBlock, U
         return Err(Unfit);
     };
     Ok(SuperBlock {
+        format: NEWEST_FORMAT,
         generation,
         manifest: first,
         length,
@@ -135,7 +137,7 @@ fn compute_beside<D: Disk>(
         r.first r.length
         (record { manifest = manifest_of r.manifest; blocks = blocks_of r.chain })) }
     ensures fits { IfOk result (λ r. (places.first_free held.now.sb.mem ≤ r.first)
-        × (r.first < 4294967295) × (29 ≤ r.length)
+        × (r.first < 4294967295) × (38 ≤ r.length)
         × IsTrue (is_lawful_manifest newest_format (manifest_of r.manifest))
         × (1 ≤ r.made.target) × (r.made.target ≤ 22)) }
     ensures err { IsErrOf result obstacle.Unfit → (x : Contents) (cached : Blocks)
@@ -200,7 +202,7 @@ fn admit_next(alloc: Global, held: &OpenStore, computed: Computed) -> Result<Nex
     requires kept { IsLawful (super_of held.now.sb)
         × IsTrue (is_lawful_manifest newest_format (manifest_of computed.manifest)) }
     requires fits { (places.first_free held.now.sb.mem ≤ computed.first)
-        × (computed.first < 4294967295) × (29 ≤ computed.length) }
+        × (computed.first < 4294967295) × (38 ≤ computed.length) }
     ensures ok { IfOk result (λ next.
         (super_of next.sb ≡ super_after (super_of held.now.sb) computed.first computed.length)
         × IsLawful (super_of next.sb) × (next.target ≡ computed.made.target)) }
@@ -235,7 +237,7 @@ fn admit_next(alloc: Global, held: &OpenStore, computed: Computed) -> Result<Nex
 
 /// Writes the next contents of a store but for their superblock beside what it holds, and tests what their manifest
 /// says. Errors are those of `compute_beside`, and want of memory; `Unfit` never comes where the store stands.
-#[tactic(auto, using(def_bytes::proofs::MarkLemmas::none_marked))]
+#[tactic(auto, using(strat_memory::proofs::AdmitLemmas::admitted_undropped))]
 fn prepare_next<D: Disk>(
     alloc: Global,
     held: &OpenStore,
