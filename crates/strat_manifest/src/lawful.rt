@@ -209,12 +209,18 @@ pub(crate) fn are_marks(marks: &[u32]) -> bool
     marks.iter().all(|mark| *mark <= 1)
 }
 
-/// Whether no mark says that a version was dropped.
-#[tactic(auto, using(crate::proofs::MarkLemmas::none_set))]
-fn none_is_set(marks: &[u32]) -> bool
-    ensures ok { result ≡ list_all not (marks_of marks.now) }
+/// Whether no number is that of a mark which is set.
+fn each_is_unset(marks: &[u32]) -> bool
+    ensures ok { result ≡ list_all (λ n. not (n == 1)) marks.now }
 {
     marks.iter().all(|mark| *mark != 1)
+}
+
+/// Whether no mark says that a version was dropped.
+pub fn none_is_dropped(marks: &[u32]) -> bool
+    ensures ok { result ≡ list_all not (marks_of marks.now) }
+{
+    each_is_unset(marks)
 }
 
 /// Whether a format has these fields: format 1 has no entries compacted and no version dropped.
@@ -222,7 +228,7 @@ fn has_fields(format: u16, compacted: u64, marks: &[u32]) -> bool
     ensures ok { result ≡ ((format == 2)
         || ((format == 1) && (compacted == 0) && list_all not (marks_of marks.now))) }
 {
-    let is_bare = compacted == 0 && none_is_set(marks);
+    let is_bare = compacted == 0 && none_is_dropped(marks);
     format == 2 || format == 1 && is_bare
 }
 

@@ -27,6 +27,7 @@ mod reader;
 mod size;
 mod stored;
 
+pub use lawful::none_is_dropped;
 pub use manifest::{LevelList, Manifest, ManifestFault, Parents};
 pub use parser::parse;
 pub use printer::print;

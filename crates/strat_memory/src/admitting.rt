@@ -16,7 +16,7 @@ ghost use Rattle.strat_memory.specs.Admitting.{FitsInMemory, MayBePlaced, counts
 ghost use Rattle.def_bytes.specs.Layout.{newest_format};
 
 use crate::belonging::{
-    all_filled, has_few_leads, has_few_publications, has_low_tags, ids_are_distinct, none_is_dropped,
+    all_filled, has_few_leads, has_few_publications, has_low_tags, ids_are_distinct,
     space_if_blocks_distinct,
 };
 use crate::copying::copy_levels;
@@ -25,7 +25,7 @@ use strat_base::{Extents, LevelDesc, NoMemory};
 use strat_extent::Space;
 use strat_gate::SuperBlock;
 use strat_level::{Level, LevelFault, Levels};
-use strat_manifest::{LevelList, Manifest};
+use strat_manifest::{LevelList, Manifest, none_is_dropped};
 
 /// What the last checkpoint of a store left, as it is kept in memory: the manifest, the blocks of its chain, and its
 /// levels, each in the place of its number and with the index of its versions.

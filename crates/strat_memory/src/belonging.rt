@@ -13,8 +13,6 @@ ghost use Rattle.def_recovery.specs.Opening.{has_own_blocks, is_filled};
 ghost use Rattle.def_publish.specs.Contents.{Contents, named_blocks};
 ghost use Rattle.def_publish.specs.Occupied.{IsSpaceOf, UsesMore, arrays_in, extents_of};
 ghost use Rattle.def_state.specs.Level.{is_distinct};
-ghost use Rattle.strat_base.specs.Marks.{none_dropped};
-ghost use Rattle.strat_manifest.specs.ManifestView.{marks_of};
 ghost use Rattle.strat_memory.specs.Belonging.{UsesJust, are_new};
 
 use def_bytes::first_free;
@@ -120,14 +118,6 @@ pub(crate) fn has_few_publications(
         && next_array <= VERSIONS_MAX as u64 * changes + 1
         && written <= ENTRIES_MAX as u64 * changes
         && compacted <= ENTRIES_MAX as u64 * changes
-}
-
-/// Whether no version was dropped.
-#[tactic(auto, using(strat_manifest::proofs::MarkLemmas::none_set))]
-pub(crate) fn none_is_dropped(marks: &[u32]) -> bool
-    ensures ok { result ≡ none_dropped (marks_of marks.now) }
-{
-    marks.iter().all(|mark| *mark != 1)
 }
 
 /// Whether each version of a tag is below a horizon.
