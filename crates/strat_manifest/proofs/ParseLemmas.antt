@@ -54,16 +54,17 @@ items_count {A = A} read (suc n) bytes xs rest is =
 marks_mapped : (n : ℕ) (bytes : List ℕ) → read_items read_mark n bytes ≡ next (read_items (read_number 1) n bytes) (λ xs end. Some (marks_of xs, end))
 unfolding read_items read_mark
 marks_mapped zero bytes = refl
-marks_mapped (suc n) bytes = by_first (read_number 1 bytes)
+marks_mapped (suc n) bytes = by_first (read_number 1 bytes) (λ b. marks_mapped n b)
   where
     by_rest : (x : ℕ) (r : Parsed (List ℕ)) → next (next r (λ xs end. Some (marks_of xs, end))) (λ ms end. Some (eqb x 1 ∷ ms, end)) ≡ next (next r (λ xs end. Some (x ∷ xs, end))) (λ xs end. Some (marks_of xs, end))
     by_rest x None = refl
     by_rest x (Some p) = refl
 
-    by_first : (r : Parsed ℕ) → next (next r (λ x b. Some (eqb x 1, b))) (λ mark b. next (read_items read_mark n b) (λ ms end. Some (mark ∷ ms, end)))
+    by_first : (r : Parsed ℕ) → ((b : List ℕ) → read_items read_mark n b ≡ next (read_items (read_number 1) n b) (λ xs end. Some (marks_of xs, end)))
+        → next (next r (λ x b. Some (eqb x 1, b))) (λ mark b. next (read_items read_mark n b) (λ ms end. Some (mark ∷ ms, end)))
         ≡ next (next r (λ x b. next (read_items (read_number 1) n b) (λ xs end. Some (x ∷ xs, end)))) (λ xs end. Some (marks_of xs, end))
-    by_first None = refl
-    by_first (Some p) = ap (λ (r : Parsed (List Bool)). next r (λ ms end. Some (eqb p.0 1 ∷ ms, end))) (marks_mapped n p.1) ∙ by_rest p.0 (read_items (read_number 1) n p.1)
+    by_first None later = refl
+    by_first (Some p) later = ap (λ (r : Parsed (List Bool)). next r (λ ms end. Some (eqb p.0 1 ∷ ms, end))) (later p.1) ∙ by_rest p.0 (read_items (read_number 1) n p.1)
 
 only_mapped : (format n : ℕ) (bytes : List ℕ) → read_only format (read_items read_mark n) (replicate n false) bytes ≡ next (read_marks format n bytes) (λ xs end. Some (marks_of xs, end))
 unfolding read_only read_marks

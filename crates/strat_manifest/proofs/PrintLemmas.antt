@@ -149,19 +149,25 @@ pub level_added : (l : LevelDesc) (before one two three now : List ℕ)
     → one ≡ before ++ be 1 l.number → two ≡ one ++ be 4 l.horizon → three ≡ two ++ be 4 (length l.arrays) → now ≡ three ++ flat_map array_bytes l.arrays → now ≡ before ++ level_bytes l
 level_added l before one two three now first second third fourth = rw (fourth, third, second, first) (simp append_assoc)
 
+-- parts that were added one behind the other
+ten_parts : (before a b c d e f g h i j : List ℕ) → (((((before ++ (a ++ (b ++ (c ++ (d ++ e))))) ++ f) ++ g) ++ h) ++ i) ++ j ≡ before ++ (a ++ (b ++ (c ++ (d ++ (e ++ (f ++ (g ++ (h ++ (i ++ j)))))))))
+ten_parts before a b c d e f g h i j = simp append_assoc
+
 -- a manifest was added in six parts
 pub manifest_added : (format : ℕ) (m : Manifest) (before one two three four five now : List ℕ)
     → one ≡ before ++ (be 4 m.changes ++ (be 4 m.updates ++ (be 8 m.written ++ (only format (be 8 m.compacted) ++ be 8 m.next_array))))
     → two ≡ one ++ be 4 (length m.parents + 1) → three ≡ two ++ flat_map (be 4) m.parents → four ≡ three ++ only format (flat_map mark_bytes m.marks)
     → five ≡ four ++ be 1 (length m.levels) → now ≡ five ++ flat_map level_bytes m.levels → now ≡ before ++ manifest_bytes format m
+unfolding manifest_bytes
 manifest_added format m before one two three four five now first second third fourth fifth sixth =
-    rw (sixth, fifth, fourth, third, second, first, add-one (length m.parents))
-    (joined (compacted_part format m) (marks_part format m) ∙ ap (λ (bytes : List ℕ). before ++ bytes) (sym (manifest_text format m)))
-  where
-    joined : (compacted marks : List ℕ)
-        → (((((before ++ (be 4 m.changes ++ (be 4 m.updates ++ (be 8 m.written ++ (compacted ++ be 8 m.next_array))))) ++ be 4 (suc (length m.parents))) ++ flat_map (be 4) m.parents) ++ marks) ++ be 1 (length m.levels)) ++ flat_map level_bytes m.levels
-        ≡ before ++ (be 4 m.changes ++ (be 4 m.updates ++ (be 8 m.written ++ (compacted ++ (be 8 m.next_array ++ (be 4 (versions_in m) ++ (flat_map (be 4) m.parents ++ (marks ++ (be 1 (length m.levels) ++ flat_map level_bytes m.levels)))))))))
-    joined compacted marks = simp append_assoc
+    sixth
+    ∙ ap (λ (x : List ℕ). x ++ flat_map level_bytes m.levels) (fifth
+    ∙ ap (λ (x : List ℕ). x ++ be 1 (length m.levels)) (fourth
+    ∙ ap (λ (x : List ℕ). x ++ only format (flat_map mark_bytes m.marks)) (third
+    ∙ ap (λ (x : List ℕ). x ++ flat_map (be 4) m.parents) (second
+    ∙ (λ i. first i ++ be 4 (add-one (length m.parents) i))))))
+    ∙ ten_parts before (be 4 m.changes) (be 4 m.updates) (be 8 m.written) (only format (be 8 m.compacted)) (be 8 m.next_array) (be 4 (suc (length m.parents))) (flat_map (be 4) m.parents)
+    (only format (flat_map mark_bytes m.marks)) (be 1 (length m.levels)) (flat_map level_bytes m.levels)
 
 -- a lawful manifest has at most 22 levels
 pub few_levels : (format : ℕ) (m : Manifest) → is_lawful_manifest format m ≡ true → length m.levels ≤ 22

@@ -197,7 +197,7 @@ number_low : (bytes : List ℕ) (x : ℕ) (rest : List ℕ) → AreBytes bytes �
 unfolding read_number
 number_low bytes x rest fits is = by_length (leb 1 (length bytes)) is
   where
-    by_length : (some : Bool) → cond some (Some (number 1 bytes, drop 1 bytes)) None ≡ Some (x, rest) → (x < 256) × AreBytes rest
+    by_length : (some : Bool) → cond {A = Parsed ℕ} some (Some (number 1 bytes, drop 1 bytes)) None ≡ Some (x, rest) → (x < 256) × AreBytes rest
     by_length true read_is =
         let P : (ℕ × List ℕ) → Type 0 = λ p. (p.0 < 256) × AreBytes p.1 in
         subst P (some_same _ _ read_is) (number-lt 1 bytes fits, AreBytes-drop 1 bytes fits)
