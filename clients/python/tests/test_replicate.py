@@ -103,7 +103,8 @@ class LeaderTest(ReplicaCase):
             self.assertEqual(replicate.changes_in(self.path), 1)
             time.sleep(0.1)
             leader.put(0, "b", "1")
-            self.assertEqual((self.log.next, leader.next), (1, 1))
+            # On a busy machine the second change may have come by now, too.
+            self.assertIn((self.log.next, leader.next), ((1, 1), (2, 2)))
             for number in range(5000):
                 leader.put(0, f"{number}", "v" * 50)
             leader.wait()
