@@ -108,8 +108,7 @@ pub(crate) fn begin_open(alloc: Global, held: &OpenStore) -> Result<Promoting, O
     let (zero, _pool, tree) = held.memory.sealed_parts();
     let (versions, _changes, _updates) = held.memory.sealed_counts();
     let next_array = held.published.manifest.next_array;
-    let promotion =
-        Promotion::begin(alloc, zero, levels, tree, versions, held.sb.mem, next_array)?;
+    let promotion = Promotion::begin(alloc, zero, levels, tree, versions, held.sb.mem, next_array)?;
     let sum = promotion.leads(zero, levels);
     let budget = budget_at(held.journal.count(), held.sb.mem, sum);
     Ok(Promoting {
