@@ -34,6 +34,7 @@ CLAUSES = {
     "end": ("where a result or a position ends",
             r"\b(at|end|place|places_ahead|steps_\w+|item|from|given|start)\b|End|length|\.1\b"),
     "state": ("what an object is afterwards", r"\.new\b|\bstage\b"),
+    "budget": ("how much a slice of a promotion takes", r"Budget"),
     "disk": ("what the device holds afterwards", r"\bdisk\.new\b"),
     "cursors": ("what became of the cursors", r"[Cc]ursors"),
     "filter": ("what became of the filter of an array", r"[Ff]ilter"),

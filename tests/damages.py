@@ -31,7 +31,8 @@ def store_bytes(chance, mem, count, keys, clones, most):
     """The bytes of a store that took drawn changes, laid out as a store's may be, with so many entries in a block at most."""
     store = model.Store(mem, 1000, 200)
     store.serve(b"".join(drawn_changes(chance, count, 1, keys, clones)))
-    times, emptied, journal = promotions.after(store.changes, mem)
+    times = max(0, len(store.changes) - 1) // mem
+    emptied, journal = promotions.emptied_so_often(store.changes, mem, times), store.changes[times * mem:]
     strata = []
     for number, (horizon, parts) in sorted(emptied.levels.items()):
         sliced = [Part(part.id, part.versions, [part.entries[at:at + most] for at in range(0, len(part.entries), most)])

@@ -12,7 +12,8 @@ from program import DEADLINE, PROGRAM, Skipped, StoreFile, Wrong, bytes_of, comp
 from samples import BATCH_MAX
 from shim import COUNTED, calls_in, library, settings
 
-# With M 4, which a new store meets at its fifth change: one publication, commands that read before and after it, and cursors over it.
+# With M 4, which a new store meets at its fifth change: a promotion that the sixth one publishes, commands that read before and after
+# that, and cursors over it.
 COMMANDS = [
     put(1, b"a", b"1"), open_cursor(2), put(3, b"b", b"2"), clone(4), put(5, b"a", b"3", 1), get(6, b"a", 1), delete(7, b"b", 1),
     next_pairs(8, 1, 1), scan(9, version=1), put(10, b"c", b"4", 1), next_pairs(11, 1), close_cursor(12, 1), get(13, b"c", 1),

@@ -210,13 +210,14 @@ def expect_said(name, data, store):
 
 
 def expect_levels(name, data, store):
-    """The file has just the levels that its changes lead to, whatever blocks they lie in."""
+    """The file has just the levels that its changes lead to, whatever blocks they lie in, and whenever its journal was emptied."""
     contents = formats.read(data)
     manifest, journal = contents.manifest, [change for change, _ in contents.journal]
-    times, emptied, logged = promotions.after(store.changes, store.limits[0])
-    if len(logged) == store.limits[0] and not journal:  # a run was killed behind its publication
-        times, emptied, logged = times + 1, promotions.emptied_into(emptied, logged, store.limits[0]), []
-    expect(f"{name}, journal", journal, logged)
+    mem = store.limits[0]
+    times = manifest.changes // mem
+    emptied = promotions.emptied_so_often(store.changes, mem, times)
+    expect(f"{name}, journal", journal, store.changes[times * mem:])
+    expect(f"{name}, a journal that fits both regions", len(journal) <= 2 * mem - 2, True)
     expect(f"{name}, generation, region and slot", (contents.head.generation, contents.head.region, contents.slot),
            (times + 1, times % 2, times % 2))
     expect(f"{name}, manifest", manifest[:5], emptied[:5])

@@ -1,11 +1,11 @@
-"""What a store's levels should hold, in plain Python: how a full journal is emptied, and how a level is split into arrays.
+"""What a store's levels should hold, in plain Python: how and when a full journal is emptied, and how a level is split into arrays.
 
 It is written from docs/DEFINITIONS.md and shares no line with the program. Where blocks lie is not said here.
 """
 
 import collections
 
-from formats import Array, Contents, Entry, Level, Logged, Manifest, live_in, new_head, order
+from formats import Array, Contents, Entry, Level, Logged, Manifest, entries_of, live_in, new_head, order
 from model import CLONE, PUT
 
 # An array is its number, its versions, how many entries are live in that version of it which has the fewest, and its entries
@@ -99,18 +99,73 @@ def emptied_into(emptied, changes, mem):
         emptied.written + sum(len(part.entries) for part in parts), emptied.next_array + len(parts), parents, levels)
 
 
+def entries_merged(emptied, changes, mem):
+    """How many entries of each key, in the order of keys, a promotion of a journal with these changes goes over in each pass."""
+    leads = [last_updates(changes), *(leads_of(emptied.levels.get(number, (0, ()))[1]) for number in range(1, 23))]
+    keys = collections.Counter(key for found in leads[:target_of([len(found) for found in leads], mem) + 1] for key, _ in found)
+    return [keys[key] for key in sorted(keys)]
+
+
+class Journal:
+    """The changes of a run that are not in levels yet, and what is in levels.
+
+    A change at a full journal is preceded by a slice of the promotion that empties the first `mem` changes, which the first of
+    them begins. Each slice takes at least so many entries that the last one comes while the journal has room.
+    """
+
+    def __init__(self, mem, times=0, emptied=NOTHING, changes=()):
+        self.mem, self.times, self.emptied, self.changes = mem, times, emptied, list(changes)
+        self.left, self.budget = None, 0  # of the promotion that is open: the entries of each key that are left in both passes
+
+    def take(self, change):
+        if len(self.changes) >= self.mem:
+            self.slice()
+        self.changes.append(change)
+
+    def slice(self):
+        if self.left is None:
+            self.left = 2 * entries_merged(self.emptied, self.changes[:self.mem], self.mem)
+            room = 2 * self.mem - 2 - len(self.changes)
+            self.budget = max(1, -(-sum(self.left) // room)) if room else sum(self.left) + 1
+        taken = 0
+        while self.left and taken < self.budget:
+            taken += self.left.pop(0)
+        if not self.left:
+            self.empty()
+
+    def empty(self):
+        """What the promotion made is published."""
+        self.times, self.left = self.times + 1, None
+        self.emptied = emptied_into(self.emptied, self.changes[:self.mem], self.mem)
+        self.changes = self.changes[self.mem:]
+
+
+def emptied_so_often(changes, mem, times):
+    """What is in levels once the journal was emptied so many times, each time of as many changes as a region takes."""
+    emptied = NOTHING
+    for at in range(0, times * mem, mem):
+        emptied = emptied_into(emptied, changes[at:at + mem], mem)
+    return emptied
+
+
+def opened(data, contents):
+    """The journal of a run that opens a file with these bytes."""
+    levels = {level.number: (level.horizon, [Part(array.id, array.versions, array.least, tuple(entries_of(data, array)))
+                                             for array in level.arrays]) for level in contents.manifest.levels}
+    emptied = Emptied(*contents.manifest[:5], levels)
+    return Journal(contents.head.mem, contents.head.generation - 1, emptied, [change for change, _ in contents.journal])
+
+
 def after(changes, mem):
-    """How often the journal was emptied by these changes, what is in levels, and what is in the journal."""
-    times, emptied, journal = 0, NOTHING, []
+    """How often the journal was emptied by these changes, what is in levels, and what is in the journal, after one run."""
+    journal = Journal(mem)
     for change in changes:
-        if len(journal) == mem:
-            times, emptied, journal = times + 1, emptied_into(emptied, journal, mem), []
-        journal.append(change)
-    return times, emptied, journal
+        journal.take(change)
+    return journal.times, journal.emptied, journal.changes
 
 
 def contents_after(changes, limits):
-    """What a file says after these changes, where no run was cut off and no other change came before; no block is named."""
+    """What a file says after these changes, which one run made, where no other change came before; no block is named."""
     times, emptied, journal = after(changes, limits[0])
     levels = tuple(Level(number, horizon, tuple(map(described, parts))) for number, (horizon, parts) in sorted(emptied.levels.items()))
     head = new_head(*limits)._replace(generation=times + 1, region=times % 2)

@@ -4,6 +4,7 @@ import copy
 import os
 
 import formats
+import promotions
 from model import clone, close_cursor, delete, frame, get, info, next_pairs, open_cursor, put, scan, stat
 from program import StoreFile, bytes_of
 
@@ -15,50 +16,50 @@ SETTINGS = (put(1, b"user/1/name", b"Ann") + put(2, b"user/2/name", b"Bob") + cl
 
 # Changes, and what the job `levels` prints of a store of M 4 (or the M that is said) that took them
 PUBLISHED = [
-    (4, [clone(1), put(2, b"a", b"1", 1), clone(3, 1), clone(4, 2), put(5, b"b", b"1", 3)], """
-store generation 2 mem 4 changes 5 of 100 versions 4 of 10
-journal changes 1 updates 1
+    (4, [clone(1), put(2, b"a", b"1", 1), clone(3, 1), clone(4, 2), put(5, b"b", b"1", 3), put(6, b"b", b"1", 3)], """
+store generation 2 mem 4 changes 6 of 100 versions 4 of 10
+journal changes 2 updates 2
 level 1 horizon 4 leads 1 entries 1
 array 1 density 1/1 lead 1/1 versions 1-3
-stored 2 updates 2 written 1
+stored 3 updates 3 written 1
 """),
     (8, [put(1, b"a", b"1"), put(2, b"b", b"1"), clone(3), clone(4), clone(5), *(put(v, b"c", b"%d" % v, v) for v in (1, 2, 3)),
-         put(9, b"d", b"1", 1)], """
-store generation 2 mem 8 changes 9 of 100 versions 4 of 10
-journal changes 1 updates 1
+         *(put(tag, b"d", b"1", 1) for tag in range(9, 13))], """
+store generation 2 mem 8 changes 12 of 100 versions 4 of 10
+journal changes 4 updates 4
 level 1 horizon 4 leads 5 entries 7
 array 1 density 2/3 lead 3/3 versions 0-1
 array 2 density 3/4 lead 2/4 versions 2-3
-stored 8 updates 6 written 7
+stored 11 updates 9 written 7
 """),
-    (4, [put(1, b"a", b"1"), clone(2), delete(3, b"a", 1), clone(4, 1), put(5, b"z", b"1", 2)], """
-store generation 2 mem 4 changes 5 of 100 versions 3 of 10
-journal changes 1 updates 1
+    (4, [put(1, b"a", b"1"), clone(2), delete(3, b"a", 1), clone(4, 1), put(5, b"z", b"1", 2), put(6, b"z", b"1", 2)], """
+store generation 2 mem 4 changes 6 of 100 versions 3 of 10
+journal changes 2 updates 2
 level 1 horizon 3 leads 2 entries 3
 array 1 density 1/1 lead 1/1 versions 0
 array 2 density 1/2 lead 1/2 versions 1-2
-stored 4 updates 3 written 3
+stored 5 updates 4 written 3
 """),
-    (4, [delete(1, b"x"), *(put(2, key, b"1") for key in (b"a", b"b", b"c", b"d"))], """
-store generation 2 mem 4 changes 5 of 100 versions 1 of 10
-journal changes 1 updates 1
+    (4, [delete(1, b"x"), *(put(2, key, b"1") for key in (b"a", b"b", b"c", b"d", b"e"))], """
+store generation 2 mem 4 changes 6 of 100 versions 1 of 10
+journal changes 2 updates 2
 level 1 horizon 1 leads 3 entries 3
 array 1 density 3/3 lead 3/3 versions 0
-stored 4 updates 5 written 3
+stored 5 updates 6 written 3
 """),
     (4, [put(i, b"k%02d" % i, b"%d" % i) for i in range(1, 14)], """
-store generation 4 mem 4 changes 13 of 100 versions 1 of 10
-journal changes 1 updates 1
-level 2 horizon 1 leads 12 entries 12
-array 3 density 12/12 lead 12/12 versions 0
-stored 13 updates 13 written 24
+store generation 3 mem 4 changes 13 of 100 versions 1 of 10
+journal changes 5 updates 5
+level 1 horizon 1 leads 8 entries 8
+array 2 density 8/8 lead 8/8 versions 0
+stored 13 updates 13 written 12
 """),
     (4, [put(i, b"a", b"%d" % i) for i in range(13)], """
-store generation 4 mem 4 changes 13 of 100 versions 1 of 10
-journal changes 1 updates 1
+store generation 3 mem 4 changes 13 of 100 versions 1 of 10
+journal changes 5 updates 5
 level 1 horizon 1 leads 1 entries 1
-array 3 density 1/1 lead 1/1 versions 0
-stored 2 updates 13 written 3
+array 2 density 1/1 lead 1/1 versions 0
+stored 6 updates 13 written 2
 """),
     (4, [clone(i) for i in range(1, 6)], """
 store generation 2 mem 4 changes 5 of 100 versions 6 of 10
@@ -66,7 +67,7 @@ journal changes 1 updates 0
 stored 0 updates 0 written 0
 """),
 ]
-DISTINCT = PUBLISHED[4]
+PURGED, DISTINCT = PUBLISHED[3], PUBLISHED[4]
 
 
 def store_after(folder, mem, frames, *limits):
@@ -108,23 +109,25 @@ def drawn_changes(chance, count, versions, keys, clones):
 def batch_ends(store, frames):
     """How many changes a store has after each batch that it makes durable, where it is given these frames in one piece.
 
-    A batch is of accepted changes one behind the other, sixteen at most, and no more than the journal has room for. A change
-    that meets a full journal is made by itself.
+    A batch is of accepted changes one behind the other, sixteen at most, and no more than the active region has room for. A
+    change that meets a full region is made by itself.
     """
-    after, mem = copy.deepcopy(store.model), store.model.limits[0]
-    fill, batch, ends = len(formats.read(bytes_of(store.path)).journal), 0, []
+    after, data = copy.deepcopy(store.model), bytes_of(store.path)
+    journal = promotions.opened(data, formats.read(data))
+    batch, ends = 0, []
     for piece in frames:
         before = after.counts()[2]
         after.serve(piece)
-        is_made, is_full = after.counts()[2] > before, fill == mem
+        is_made, is_full = after.counts()[2] > before, len(journal.changes) >= journal.mem
         if batch and (not is_made or is_full or batch == BATCH_MAX):
             ends.append(before)
             batch = 0
-        if is_made and is_full:
-            ends.append(before + 1)
-            fill = 1
-        elif is_made:
-            batch, fill = batch + 1, fill + 1
+        if is_made:
+            journal.take(after.changes[-1])
+            if is_full:
+                ends.append(before + 1)
+            else:
+                batch += 1
     return ends + [after.counts()[2]] if batch else ends
 
 

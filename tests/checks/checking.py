@@ -54,7 +54,7 @@ def worked_files(folder):
     yield "a version that sees two keys in no tag", with_fields(three, 1, versions=(3,)), b"unsound b level 1 array 0\n", 11
     yield "an array said to be denser", with_fields(three, 1, least=4), b"unsound k level 1 array 2\n", 11
     yield "thirteen keys", bytes_of(distinct.path), b"sound\n", 0
-    yield "an array without entries", damages.patched(bytes_of(distinct.path), 7 * BLOCK, bytes(2)), b"damaged block 7\n", 9
+    yield "an array without entries", damages.patched(bytes_of(distinct.path), 6 * BLOCK, bytes(2)), b"damaged block 6\n", 9
     yield "a manifest in a circle", damages.patched(bytes_of(new.path), 6 * BLOCK, b"\0\0\0\6"), b"damaged block 6\n", 9
     yield "an empty file", b"", b"", 2
     yield "a text", b"It is 1 or 2.\n" * 1000, b"", 2

@@ -152,6 +152,16 @@ def blocks_named(data):
     return {block for array in formats.arrays_of(contents.manifest) for block in formats.blocks_of(array)} | set(contents.chain)
 
 
+def opened_between_puts(talk, store, chance):
+    """Sixty-four cursors over five versions, with a put behind each: the blocks of each."""
+    held = {}
+    for number in range(64):
+        cursor = talk.open(version=number % 5)
+        held[cursor] = blocks_read_at(bytes_of(store.path), store.model.parents[1:], number % 5)
+        talk.ask(put(number, b"%03d" % chance.randrange(200), chance.randbytes(300), 4))
+    return held
+
+
 def sixty_four_cursors_are_read_to_their_end_over_publications(folder):
     chance, store = random.Random(31), StoreFile(folder, 4, 100000, 100)
     for version in range(4):
@@ -159,12 +169,8 @@ def sixty_four_cursors_are_read_to_their_end_over_publications(folder):
         store.expect_answers(f"version {version}", [*frames, clone(0, version)])
     ended = closed = published = 0
     with Talk("64 cursors", store) as talk:
-        held = {}  # the blocks of each open cursor
-        for number in range(64):
-            cursor = talk.open(version=number % 5)
-            held[cursor] = blocks_read_at(bytes_of(store.path), store.model.parents[1:], number % 5)
-            talk.ask(put(number, b"%03d" % chance.randrange(200), chance.randbytes(300), 4))
-        before = bytes_of(store.path)
+        held = opened_between_puts(talk, store, chance)
+        before, began = bytes_of(store.path), None
         while held:
             cursor = chance.choice(list(held))
             told = talk.ask(next_pairs(1, cursor, chance.choice((1, 7, 256))))
@@ -173,12 +179,20 @@ def sixty_four_cursors_are_read_to_their_end_over_publications(folder):
                 ended, closed = ended + at_end, closed + (not at_end)
                 talk.ask(close_cursor(2, cursor))
                 del held[cursor]
+            kept = {block for blocks in held.values() for block in blocks}
+            if began is None and len(formats.read(before).journal) >= 4:  # this put begins a promotion
+                began = before, kept
             talk.ask(put(3, b"%03d" % chance.randrange(200), chance.randbytes(300), 4))
             data = bytes_of(store.path)
-            old, new, kept = blocks_named(before), blocks_named(data), {block for blocks in held.values() for block in blocks}
-            written = {block for block in new if formats.block_at(data, block) != formats.block_at(before, block)}
+            old, new = blocks_named(before), blocks_named(data)
+            written = set()
+            if began and old != new:  # it is published
+                before, kept = began
+                written = {block for block in new if formats.block_at(data, block) != formats.block_at(before, block)}
+                began = None
             published += bool(written)
-            # what is written was free: neither the manifest nor a cursor named it, and so it lies as low as these let it
+            # what is written was free where the promotion began: neither the manifest nor a cursor named it, and so it lies as low
+            # as these let it
             expect("blocks written over that were named", sorted(written & (old | kept)), [])
             for blocks in held.values():
                 expect("blocks of a cursor that changed", [b for b, there in blocks.items() if formats.block_at(data, b) != there], [])

@@ -21,8 +21,8 @@ def expect_damaged(name, store, frames, block):
 def damaged_arrays_are_named(folder):
     wrong = [(0, b"\0\0"), (2, b"\xff"), (2, b"\0\0"), (4095, b"\1"), (0, b"\xff\xff")]
     for place, piece in wrong:
-        # level 2 has its 12 keys in block 7, and the journal the last
-        store, _ = store_after(folder, *DISTINCT[:2])
+        # level 2 has its 12 keys in block 7, and the journal the last two
+        store, _ = store_after(folder, DISTINCT[0], [*DISTINCT[1], put(14, b"k14", b"14")])
         mended = formats.block_at(bytes_of(store.path), 7)
         altered(store.path, 7 * BLOCK + place, piece)
         fine = [get(1, b"k13"), stat(2), info(3), get(4, b"k01", 1)]
@@ -31,15 +31,15 @@ def damaged_arrays_are_named(folder):
         expect_damaged("a scan", store, [*fine, scan(1, b"k01", b"k02")], 7)
         # a cursor is opened without a look at a block, and its first page has one
         expect_damaged("a cursor", store, [*fine, open_cursor(1, b"k01", b"k02"), open_cursor(2), close_cursor(3, 2), next_pairs(1, 1)], 7)
-        # four more keys are published without a look at level 2, and eight more with one
+        # with two more keys the last two are published without a look at level 2, and so are eight; twelve are not
         store.expect_answers("a publication of others", [put(i, b"n%02d" % i, b"1") for i in range(4)])
         store.expect_answers("what it has", [get(i, b"n%02d" % i) for i in range(4)])
         expect_damaged("a get after it", store, [get(1, b"k01")], 7)
-        store.expect_answers("more", [put(i, b"n%02d" % i, b"1") for i in range(4, 11)])
-        expect_damaged("a publication", store, [get(1, b"n00"), put(2, b"n11", b"1")], 7)
-        store.expect_answers("after it", [get(i, b"n%02d" % i) for i in range(11)])
+        store.expect_answers("more", [put(i, b"n%02d" % i, b"1") for i in range(4, 10)])
+        expect_damaged("a promotion", store, [get(1, b"n00"), put(2, b"n10", b"1")], 7)
+        store.expect_answers("after it", [get(i, b"n%02d" % i) for i in range(10)])
         altered(store.path, 7 * BLOCK, mended)
-        store.expect_served("mended", [put(1, b"n11", b"1") + get(2, b"k01") + scan(3)])
+        store.expect_served("mended", [put(1, b"n10", b"1") + get(2, b"k01") + scan(3)])
     # two arrays of a level: only the versions of one are damaged
     store, contents = store_after(folder, *PUBLISHED[1][:2])
     first, second = formats.arrays_of(contents.manifest)

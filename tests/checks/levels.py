@@ -11,7 +11,7 @@ import promotions
 import workloads
 from model import BLOCK, get, put
 from program import DEADLINE, PROGRAM, PUT_A, StoreFile, bytes_of, complaint, expect, expect_said, expect_told, hexed, run
-from samples import DISTINCT, PUBLISHED, SETTINGS, altered, drawn_changes, store_after
+from samples import DISTINCT, PUBLISHED, PURGED, SETTINGS, altered, drawn_changes, store_after
 
 # The block and the bytes of the manifest of each
 SPELLINGS = [
@@ -29,12 +29,12 @@ SPELLINGS = [
     (8, """00000004 00000004 0000000000000003 0000000000000002 00000001
         01 01 00000001 00000001
         0000000000000001 00000003 00000003 00000003 00000001 00000007 00000001 00000001 00000000"""),
-    (8, """0000000c 0000000c 0000000000000018 0000000000000004 00000001
-        01 02 00000001 00000001
-        0000000000000003 0000000c 0000000c 0000000c 00000001 00000007 00000001 00000001 00000000"""),
-    (8, """0000000c 0000000c 0000000000000003 0000000000000004 00000001
+    (9, """00000008 00000008 000000000000000c 0000000000000003 00000001
         01 01 00000001 00000001
-        0000000000000003 00000001 00000001 00000001 00000001 00000007 00000001 00000001 00000000"""),
+        0000000000000002 00000008 00000008 00000008 00000001 00000006 00000001 00000001 00000000"""),
+    (9, """00000008 00000008 0000000000000002 0000000000000003 00000001
+        01 01 00000001 00000001
+        0000000000000002 00000001 00000001 00000001 00000001 00000006 00000001 00000001 00000000"""),
     (7, "00000004 00000000 0000000000000000 0000000000000001 00000005 00000000 00000000 00000000 00000000 00"),
 ]
 
@@ -51,13 +51,13 @@ def publications_stand_where_they_should(folder):
         bytes_there = formats.block_at(bytes_of(store.path), block)
         expect(f"manifest {number}, its bytes", bytes_there.hex(), (bytes(4) + hexed(spelling)).ljust(BLOCK, b"\0").hex())
     store, contents = store_after(folder, DISTINCT[0], [b"".join(DISTINCT[1])])
-    # the journal was turned: the region before is shut, and the other has the record of the last change
+    # a promotion was open at the end: the first region is full, and the other has the record of the last change
     data, record = bytes_of(store.path), hexed("a7 01 00000000 03 6b3133 0002 3133 00")
-    expect("the regions", (data[8192], data[16384:16384 + len(record)]), (0, record))
+    expect("the regions", (data[8192], data[16384:16384 + len(record)]), (formats.OPEN, record))
     arrays = [(array.id, array.extents) for array in formats.arrays_of(contents.manifest)]
-    expect("distinct keys", (contents.head.generation, arrays, contents.chain), (4, [(3, ((7, 1),))], (8,)))
+    expect("distinct keys", (contents.head.generation, arrays, contents.chain), (3, [(2, ((6, 1),))], (9,)))
     # the largest pairs, of which three fit into a block
-    largest = [put(i, bytes([i]) + bytes(254), bytes(1024)) for i in range(1, 6)]
+    largest = [put(i, bytes([i]) + bytes(254), bytes(1024)) for i in range(1, 7)]
     store, contents = store_after(folder, 4, [b"".join(largest)])
     arrays = [(array.id, array.extents) for array in formats.arrays_of(contents.manifest)]
     expect("the largest pairs", (arrays, contents.chain), ([(1, ((7, 2),))], (9,)))
@@ -81,13 +81,13 @@ stored 4 updates 4 written 0
     for limits in ((4, 1, 1), (4096, 2 ** 24, 2 ** 14)):
         expect_told(f"limits {limits}", StoreFile(folder, *limits).path)
     # a run that was killed behind a publication left the other region open, and it stays so
-    store, contents = store_after(folder, *DISTINCT[:2])
+    store, contents = store_after(folder, *PURGED[:2])
     other = formats.region_start(4, 1 - contents.head.region) * BLOCK
     altered(store.path, other, bytes([formats.OPEN]))
-    expect("the other region open", expect_told("the other region open", store.path), DISTINCT[2].lstrip())
+    expect("the other region open", expect_told("the other region open", store.path), PURGED[2].lstrip())
     # what is in blocks of arrays is not looked at, and neither is the input
     altered(store.path, 7 * BLOCK, bytes(BLOCK))
-    expect("a damaged array", expect_told("a damaged array", store.path), DISTINCT[2].lstrip())
+    expect("a damaged array", expect_told("a damaged array", store.path), PURGED[2].lstrip())
     inside, outside = os.pipe()
     os.write(outside, PUT_A)
     expect("levels, input left", (run(["levels", store.path], stdin=inside)[1], os.read(inside, 100)), (0, PUT_A))

@@ -1,6 +1,8 @@
 -- What a run comes to, by its status.
-use Rattle.std.proofs.Common.{◌≡◌, ◌≢◌, ◌⊎◌, ◌≤◌, ℕ, List, [], ◌∷◌, length, Option, Some, None, refl, sym, ap, subst, ◌∙◌, inl, inr, append-nil, arith}
+use Rattle.std.proofs.Common.{◌≡◌, ◌≢◌, ◌⊎◌, ◌≤◌, ◌-◌, ◌*◌, ℕ, List, [], ◌∷◌, length, Option, Some, None, refl, sym, ap, subst, ◌∙◌, inl, inr, append-nil, arith}
 use Rattle.std.specs.Prelude.{◌==◌, if◌then◌else◌, Ok, Err}
+use Rattle.std.proofs.lemmas.Bool.{leb-true}
+use Rattle.def_state.specs.Sound.{journal_max}
 use Rattle.def_crash.specs.Image.{Image, Outside}
 use Rattle.def_crash.specs.Moments.{DiskView, Exposes, Images, Since, KeepsImages}
 use Rattle.def_crash.specs.Trail.{At}
@@ -119,7 +121,7 @@ module _ (x y : Streams) (v w : DiskView) (f : Image) (t : Table) (shows : Shows
     ended = refl;
     run = nothing;
     is = record { run = refl; interrupted = tt };
-    region = (inr refl, tt);
+    region = (leb-true (length shows.state.journal) (journal_max shows.state.mem) shows.sound.formed.fits, tt);
     broken = tt;
     taken = [];
     took = took_nothing x.left y.left gave.source;
@@ -208,11 +210,11 @@ module _ (x y : Streams) (v w : DiskView) (f : Image) (t : Table) (shows : Shows
   pub trail_by : (b : With status) × (GoesThroughTables b.run b.continued.end f v w ⊎ HasNotBegun status b.run v w)
   trail_by = subst (λ (n : ℕ). (b : With n) × (GoesThroughTables b.run b.continued.end f v w ⊎ HasNotBegun n b.run v w)) (sym is) (a.answers, a.trail)
 
--- after a run over a disk that shows a table recovery finds no more changes in the journal than one region takes, or as many
--- as before, unless the device or the sink failed, or memory ran out before the store was open
+-- after a run over a disk that shows a table recovery finds at most two changes fewer in the journal than both its regions
+-- take, unless the device or the sink failed, or memory ran out before the store was open
 module _ (x y : Streams) (v w : DiskView) (f : Image) (t : Table) (shows : ShowsTable f t) (exposed : Exposes v f) where
   abbrev FindsFew : Image → Type 0
-  FindsFew c = (head : Head) × (recover c ≡ Ok (Some head)) × ((length head.journal ≤ head.sb.mem) ⊎ (length head.journal ≡ length shows.state.journal))
+  FindsFew c = (head : Head) × (recover c ≡ Ok (Some head)) × (length head.journal ≤ 2 * head.sb.mem - 2)
 
   pub finds_few : (how : Ended) → RunOutcome 1099511627776 how (beside x v) (beside y w) → RefusesFor how v w → how ≢ ended.Device → how ≢ ended.Sink → how ≢ ended.NoMemory → (c : Image) → Images w c → FindsFew c
   finds_few how (inr served) refuses device sink memory c image =

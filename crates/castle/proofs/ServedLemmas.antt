@@ -13,7 +13,7 @@ use Rattle.strat_model.specs.declared.ended.Ended.TheVariants as ended
 use Rattle.strat_model.specs.declared.replies.Refusal.TheVariants as why
 use Rattle.strat_model.specs.Answer.{refusal}
 use Rattle.strat_model.specs.Batch.{Continuation, tables_behind, tables_continued}
-use Rattle.strat_model.specs.Run.{Position, Response, Exchange, Interruption, IsTranscript, Transcript, UsesOneRegion, bodies_of, of_interruption, positions_of}
+use Rattle.strat_model.specs.Run.{Position, Response, Exchange, Interruption, IsTranscript, Transcript, bodies_of, of_interruption, positions_of}
 use Rattle.strat_model.specs.Stream.{Splits, Whole, Rest, ending_of}
 use Rattle.strat_model.specs.Table.{Table, fresh, bare}
 use Rattle.def_recovery.specs.Head.{Head}
@@ -28,8 +28,7 @@ use Rattle.strat_loop.specs.Session.{Took, AreNextIn, IsAtEnd, Session, EndsFor,
 use Rattle.strat_serve.specs.Serving.{FollowsRun, Served, RunOutcome}
 use Rattle.strat_loop.specs.World.{World, world}
 use Rattle.std.specs.List.{AllByRecursion}
-use Rattle.strat_loop.specs.Spoken.{EmptiesFullRegion}
-use Rattle.def_slice.specs.Filling.{IsFillFrom}
+use Rattle.strat_loop.specs.Spoken.{FitsBothRegions}
 use Rattle.strat_serve.proofs.StreamedLemmas.{few_bytes, front_of, all_of_it}
 use Rattle.castle.specs.Working.{EndsWorkload, EndsAfterAll, workload_start, FollowsNew, CarriesOutWorkload, LeavesWorkload}
 use Rattle.castle.proofs.CompleteLemmas.{finds_none, never_damaged, of_run}
@@ -54,18 +53,6 @@ next_of_front all bodies run more front next =
     let some : List (List ℕ) = bodies_of run ++ map (λ (x : Exchange). x.body) more in
     let len : length some ≡ length (bodies_of run) + length more = length-append (bodies_of run) (map (λ (x : Exchange). x.body) more) ∙ ap (λ (n : ℕ). length (bodies_of run) + n) (length-map more (λ (x : Exchange). x.body)) in
     ap (λ (n : ℕ). take n all) (sym len) ∙ front_of_front all bodies some front (ap (λ (n : ℕ). take n bodies) len ∙ next)
-
--- a run that begins with no more changes in the journal than a region takes uses one region at a time
-uses_one : (mem : ℕ) (start : Position) (run : Transcript) → start.fill ≤ mem → EmptiesFullRegion mem start run → UsesOneRegion mem run
-uses_one mem start run few empties = inr (each (positions_of run) empties)
-  where
-    low : (n : ℕ) → IsFillFrom mem start.fill n → n ≤ mem
-    low n (inl is) = is
-    low n (inr same) = omega (arith, few, same)
-
-    each : (ps : List Position) → AllByRecursion (λ (p : Position). IsFillFrom mem start.fill p.fill) ps → AllByRecursion (λ (p : Position). p.fill ≤ mem) ps
-    each [] all = tt
-    each (p ∷ ps) all = (low p.fill all.0, each ps all.1)
 
 some_is : {A : Type 0} (x y : A) → ◌≡◌ {A = Option A} (Some x) (Some y) → x ≡ y
 some_is x y e = cc
@@ -211,7 +198,7 @@ module _ (d0 d1 d2 : DiskView) (later : Passes d0 d1) (passes : Passes d1 d2)
       record {
         transcript = nothing;
         run = record { run = refl; interrupted = tt };
-        region = inl refl;
+        region = (omega arith, tt);
         front = refl;
         all = λ is. absurd (early is);
         continued = c.0;
@@ -310,7 +297,7 @@ module _ (d0 d1 d2 : DiskView) (later : Passes d0 d1) (passes : Passes d1 d2)
           record {
             transcript = run.transcript;
             run = subst (λ (m : ℕ). IsTranscript m workload_start run.transcript) mem_is (subst (λ (p : Position). IsTranscript run.mem p run.transcript) start_is run.is);
-            region = subst (λ (m : ℕ). UsesOneRegion m run.transcript) mem_is (uses_one run.mem run.start run.transcript (omega (arith, fill_is)) run.region);
+            region = subst (λ (m : ℕ). FitsBothRegions m run.transcript) mem_is run.region;
             front = front_of_front (workload_bodies seed count) s.bodies (bodies_of run.transcript) (front_of seed count s.taken gave.rest s.bodies s.rest few gave.parts served.is.splits).0 run.front;
             all = λ is. (bodies_are (done is), unbroken (done is));
             continued = continues.0;

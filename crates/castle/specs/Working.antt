@@ -9,7 +9,7 @@ use Rattle.strat_model.specs.declared.ended.Ended.TheVariants as ended
 use Rattle.strat_model.specs.declared.replies.Refusal.TheVariants as why
 use Rattle.strat_model.specs.Answer.{refusal}
 use Rattle.strat_model.specs.Batch.{Continuation, tables_continued}
-use Rattle.strat_model.specs.Run.{Position, Transcript, IsTranscript, UsesOneRegion, bodies_of}
+use Rattle.strat_model.specs.Run.{Position, Transcript, IsTranscript, bodies_of}
 use Rattle.strat_model.specs.Table.{Table, fresh, bare}
 use Rattle.def_recovery.specs.Head.{Head}
 use Rattle.def_texts.specs.Texts as texts
@@ -20,6 +20,7 @@ use Rattle.strat_open.specs.Format.{IsBlank, IsNewStore, IsNoneOrNew, KeepsOther
 use Rattle.strat_memory.specs.Paying.{ArePaidSince, StoreTwoSince}
 use Rattle.strat_serve.specs.Generated.{workload_bodies}
 use Rattle.strat_loop.specs.Session.{AreNextIn}
+use Rattle.strat_loop.specs.Spoken.{FitsBothRegions}
 
 -- the ends of a run of a workload; its frames are whole, short and few, so that none of them ends it
 abbrev pub EndsWorkload : Ended → Type 0
@@ -74,7 +75,7 @@ pub record FollowsNew (before now : DiskView) (tables : List Table) (n : ℕ) : 
 pub record CarriesOutWorkload (seed count : ℕ) (how : Ended) (before now : DiskView) : Type 0 where
   pub transcript : Transcript
   pub run : IsTranscript 64 workload_start transcript
-  pub region : UsesOneRegion 64 transcript
+  pub region : FitsBothRegions 64 transcript
   -- the bodies that were answered are the first of the workload, and in the end all of them
   pub front : take (length (bodies_of transcript)) (workload_bodies seed count)
       ≡ bodies_of transcript

@@ -1,7 +1,7 @@
 //! What a serving run comes to, in words of tables and of crashes. Each law is the contract of a function that does
 //! nothing.
 
-ghost use Rattle.std.specs.Prelude.{◌≡◌, ◌≢◌, ◌≤◌, ◌⊎◌, ℕ, List, length, Ok, Err, None, Some};
+ghost use Rattle.std.specs.Prelude.{◌≡◌, ◌≢◌, ◌≤◌, ◌-◌, ◌*◌, ◌⊎◌, ℕ, List, length, Ok, Err, None, Some};
 ghost use Rattle.def_crash.specs.Faults.{Rose};
 ghost use Rattle.def_crash.specs.Image.{Image, Outside};
 ghost use Rattle.def_crash.specs.Moments.{Exposes, Images, Since};
@@ -26,8 +26,8 @@ use def_crash::laws::Viewed;
 /// changes that no reply tells of. On the way it leaves what it might have left before, and from some moment on the run's
 /// tables in order. What it leaves then is sound, each array a third live in each of its versions, and stores at most two
 /// entries for each update. After a run that the device and the sink did not fail, and that opened its store, recovery finds
-/// no more changes in the journal than one of its regions takes, or as many as the disk's had. The run ends for a cause, and
-/// where nothing failed, as its input does or for want of memory.
+/// at most two changes fewer in the journal than both its regions take. The run ends for a cause, and where nothing failed, as
+/// its input does or for want of memory.
 pub fn a_serving_run_is_a_run_of_its_table<D: Viewed>()
     ensures answers { (path : List ℕ) (status : ℕ) (x y : Streams) (d e : D) (f : Image) (t : Table)
         (shows : ShowsTable f t) → Exposes (D.view d) f
@@ -50,11 +50,11 @@ pub fn a_serving_run_is_a_run_of_its_table<D: Viewed>()
         → Runs (Some (Serve path)) 1099511627776 status (beside x (D.view d)) (beside y (D.view e))
         → KeepsSpace f (D.view d) (D.view e) }
     ensures journal { (path : List ℕ) (status : ℕ) (x y : Streams) (d e : D) (f : Image)
-        (t : Table) (shows : ShowsTable f t) → Exposes (D.view d) f
+        (t : Table) → ShowsTable f t → Exposes (D.view d) f
         → Runs (Some (Serve path)) 1099511627776 status (beside x (D.view d)) (beside y (D.view e))
         → status ≢ 5 → status ≢ 7 → status ≢ 8 → (c : Image) → Images (D.view e) c
-        → (head : Head) × (recover c ≡ Ok (Some head)) × ((length head.journal ≤ head.sb.mem)
-        ⊎ (length head.journal ≡ length shows.state.journal)) }
+        → (head : Head) × (recover c ≡ Ok (Some head))
+        × (length head.journal ≤ 2 * head.sb.mem - 2) }
     ensures cause { (path : List ℕ) (status : ℕ) (x y : Streams) (d e : D)
         → Runs (Some (Serve path)) 1099511627776 status (beside x (D.view d)) (beside y (D.view e))
         → (status ≡ 5 → Rose x.disk_faults y.disk_faults)

@@ -10,7 +10,7 @@ ghost use Rattle.def_bytes.specs.SuperBlock.{newest_in};
 ghost use Rattle.strat_io.specs.Streams.{Appends};
 ghost use Rattle.strat_model.specs.Ended.{status_of};
 ghost use Rattle.strat_model.specs.Batch.{Continuation, tables_continued};
-ghost use Rattle.strat_model.specs.Run.{Position, Transcript, IsTranscript, UsesOneRegion, bodies_of};
+ghost use Rattle.strat_model.specs.Run.{Position, Transcript, IsTranscript, bodies_of};
 ghost use Rattle.strat_model.specs.Table.{fresh, bare};
 ghost use Rattle.def_check.specs.Checked.{checked};
 ghost use Rattle.def_recovery.specs.Bad.{IsUnread};
@@ -28,6 +28,7 @@ ghost use Rattle.strat_open.specs.Format.{IsBlank, IsFormatted};
 ghost use Rattle.strat_memory.specs.Paying.{IsPaidIn};
 ghost use Rattle.strat_serve.specs.Generated.{workload_bodies};
 ghost use Rattle.strat_loop.specs.Session.{AreNextIn, ExposesDamage, SendsPrefix};
+ghost use Rattle.strat_loop.specs.Spoken.{FitsBothRegions};
 ghost use Rattle.strat_serve.specs.Tables.{BreaksForFault, EndsAtTables, IsThrifty};
 ghost use Rattle.strat_loop.specs.World.{Streams, beside};
 ghost use Rattle.castle.specs.Arguments.{Check, Format, Levels, Serve, Workload};
@@ -183,7 +184,7 @@ pub fn a_run_of_a_workload_is_a_run_of_a_new_table<D: Viewed>()
         → Runs (Some (Workload path seed count)) 1099511627776 status
         (beside x (D.view d)) (beside y (D.view e)) → Exposes (D.view d) f
         → (status ≡ 0) ⊎ (status ≡ 7) → (run : Transcript)
-        × IsTranscript 64 workload_start run × UsesOneRegion 64 run
+        × IsTranscript 64 workload_start run × FitsBothRegions 64 run
         × (bodies_of run ≡ workload_bodies seed count) × (run.interruption ≡ None)
         × ((c : Image) → Images (D.view e) c → ShowsTable c (bare run.after.table)) }
     ensures text { (path : List ℕ) (seed count status : ℕ) (x y : Streams) (d e : D) (g : Image)
@@ -201,7 +202,7 @@ pub fn a_run_of_a_workload_is_a_run_of_a_new_table<D: Viewed>()
         × (status ≡ 8 → (D.view e).content ≡ (D.view d).content)
         × ((c : Image) → Since (D.view e) (D.view d).moment c → (status ≡ 8 → Images (D.view d) c)
         × ((b : Image) × Images (D.view d) b × ((i : ℕ) → ¬ IsFormatted 64 i → c i ≡ b i))))
-        ⊎ ((run : Transcript) × IsTranscript 64 workload_start run × UsesOneRegion 64 run
+        ⊎ ((run : Transcript) × IsTranscript 64 workload_start run × FitsBothRegions 64 run
         × (take (length (bodies_of run)) (workload_bodies seed count) ≡ bodies_of run)
         × BreaksForFault run x y
         × ((c : Continuation 64 run) × AreNextIn (workload_bodies seed count) run c.more
@@ -212,7 +213,7 @@ pub fn a_run_of_a_workload_is_a_run_of_a_new_table<D: Viewed>()
         → (((status ≡ 5) ⊎ (status ≡ 8))
         × (IsBlank (D.view d) → (c : Image) → Since (D.view e) (D.view d).moment c
         → (newest_in c ≡ Ok None) ⊎ ShowsTable c (fresh 16777216 16384)))
-        ⊎ ((run : Transcript) × IsTranscript 64 workload_start run × UsesOneRegion 64 run
+        ⊎ ((run : Transcript) × IsTranscript 64 workload_start run × FitsBothRegions 64 run
         × ((c : Continuation 64 run) × AreNextIn (workload_bodies seed count) run c.more
         × GoesThroughNewTables run c.end (D.view d) (D.view e))) }
     ensures space { (path : List ℕ) (seed count status : ℕ) (x y : Streams) (d e : D) (f c : Image)

@@ -1,6 +1,5 @@
 pub mod ListLemmas
 pub mod BudgetLemmas
-pub mod FillingLemmas
 pub mod OpenedLemmas
 pub mod BegunLemmas
 pub mod FedLemmas

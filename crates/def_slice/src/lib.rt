@@ -4,6 +4,5 @@
 
 pub mod budget;
 pub mod ending;
-pub mod filling;
 pub mod lists;
 pub mod opened;

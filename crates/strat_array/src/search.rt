@@ -112,7 +112,8 @@ fn index_within(lies: Lies) -> Option<u16>
 
 /// The place of the first entry of an array whose key is this one or after it, or the end place, which is block
 /// number of blocks, index 0. Hints of the cache lead to the first four blocks that are looked at, mostly one or two,
-/// and what is left is halved: O(log blocks) blocks, each with O(extents) steps and O(log entries) comparisons. Device: the disk counted a fault. Damaged: this block of the array is no block of entries.
+/// and what is left is halved: O(log blocks) blocks, each with O(extents) steps and O(log entries) comparisons.
+/// Device: the disk counted a fault. Damaged: this block of the array is no block of entries.
 pub fn seek<D: Disk>(
     disk: &mut D,
     cache: &mut Cache,

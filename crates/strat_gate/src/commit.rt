@@ -24,7 +24,7 @@ pub fn gate_commit<D: Disk>(disk: &mut D, gate: u64, bytes: &[u8]) -> Result<(),
 }
 
 /// Writes bytes after a gate and syncs.
-// A function of its own, since no proof file cites its steps: so wrong bodies of it are refused for what they do.
+// For the proof: no proof file cites its steps, so wrong bodies of it are refused for what they do.
 fn write_after<D: Disk>(disk: &mut D, gate: u64, bytes: &[u8]) -> Result<(), Failed>
     requires { gate + 1 + length bytes.now ≤ 2 ^ 44 }
     ensures ok { WritesThrough (D.view disk.old) (D.view disk.new) (gate + 1) bytes.now result }

@@ -94,7 +94,7 @@ impl RegionReader {
     }
 
     /// Whether the gate at an offset is open.
-    // A function of its own, since no proof file cites its steps: so wrong bodies of it are refused for what they do.
+    // For the proof: no proof file cites its steps, so wrong bodies of it are refused for what they do.
     fn is_open(&self, at: usize) -> bool
         requires { at < length self.now.bytes }
         ensures ok { OnTrue result (slice_index self.now.bytes at ≡ open_flag)

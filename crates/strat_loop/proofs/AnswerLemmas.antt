@@ -19,7 +19,7 @@ use Rattle.strat_model.specs.Step.{step}
 use Rattle.strat_model.specs.Table.{Cursor, Table, bare}
 use Rattle.def_state.specs.Sound.{journal_max}
 use Rattle.strat_model.specs.Run.{Position}
-use Rattle.def_slice.proofs.FillingLemmas.{fill_from, left_after, left_from, left_is_after}
+use Rattle.strat_loop.proofs.FillLemmas.{next_is_after, place_next}
 use Rattle.def_meaning.specs.StateTable.{table_of}
 use Rattle.def_publish.specs.Contents.{Contents, contents_state}
 use Rattle.def_publish.specs.Standing.{ShowsTable}
@@ -163,7 +163,6 @@ module _ (speech : Speech) (before now : DiskView) (old new : Held) (bytes : Lis
         left = is.left;
         stands = is.stands;
         answers = inr (inl (record { request = request; asked = here x rows at; answer = is.told; place = is.place }));
-        fill = fill_from old.log.mem (position_at old x rows) (position_at new is.after is.left) request some few is.place is.fill;
         trail = either_reaches (ran_short r) now before.moment (table_of (contents_state x)) (bare (step (table_of (contents_state x)) request).table) (table_of (contents_state is.after)) n
             next trail (stands_table now new is.after is.stands.stands);
       }
@@ -176,7 +175,6 @@ module _ (speech : Speech) (before now : DiskView) (old new : Held) (bytes : Lis
     left = rows;
     stands = is.stands;
     answers = inr (inr (record { request = request; asked = here x rows at; takes = is.takes; accepted = is.acceptable; full = is.full; answer = is.told; same = is.place }));
-    fill = inr (ap (λ (p : Position). p.fill) is.place);
     trail = reaches now before.moment (table_of (contents_state x)) (table_of (contents_state x)) 0
         (subst (λ (a : Answer). FollowsStep before now x request a) is.told trail) (stands_table now new x is.stands.stands);
   }
@@ -184,16 +182,15 @@ module _ (speech : Speech) (before now : DiskView) (old new : Held) (bytes : Lis
   breaks : (x : Contents) (rows : List Cursor) → StandsAt before old x rows → IsBrokenAt old x rows request (as_told r pairs) new → FollowsStep before now x request (as_told r pairs)
       → StopsWith speech before now old x rows bytes told
   breaks x rows at is trail = record {
-    done = left_after old.log.mem (position_at old x rows) request;
+    done = place_next old.log.mem (position_at old x rows) request;
     fault = record {
       request = request;
       asked = here x rows at;
       reaches = is.reached;
       accepted = is.acceptable;
       answer = inl is.told;
-      place = left_is_after old.log.mem (position_at old x rows) request some few;
+      place = next_is_after old.log.mem (position_at old x rows) request some few;
     };
-    fill = left_from old.log.mem (position_at old x rows) request some few;
     answer = is.told;
     trail = subst (λ (t : Table). Trail ShowsTable now before.moment (table_of (contents_state x) ∷ t ∷ []) 0)
         (sym (step_bare (table_of (contents_state x)) rows old.memory.cursors.next request))
@@ -235,7 +232,6 @@ told_nothing speech v s bytes said out going lawful declined text = record {
         left = rows;
         stands = stands;
         answers = inl (record { declined = subst (λ (n : ℕ). IsDeclined speech n bytes said) (counts_changes v s x rows lawful stands) declined; same = refl });
-        fill = inr refl;
         trail = trail_of_two ShowsTable v v.moment (table_of (contents_state x)) (table_of (contents_state x)) [] (omega arith) (λ c since. inl (at_end c (since_now v c since))) at_end;
       });
 }

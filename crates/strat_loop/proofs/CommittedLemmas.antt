@@ -29,7 +29,7 @@ use Rattle.strat_loop.specs.World.{World}
 use Rattle.strat_loop.proofs.AnswerLemmas.{counts_changes}
 use Rattle.strat_loop.proofs.GroupLemmas.{GroupBroken, GroupMade}
 use Rattle.strat_loop.proofs.ProgressLemmas.{still_on}
-use Rattle.strat_loop.proofs.StagedLemmas.{HasStaged, IsStagedRun, StagesAt, asks_for, has_staged, one_at, one_by, one_few, one_few_after, one_writes, staged_answered, staged_count, staged_few, staged_quiet, staged_run}
+use Rattle.strat_loop.proofs.StagedLemmas.{HasStaged, IsStagedRun, StagesAt, asks_for, has_staged, one_at, one_by, one_writes, staged_answered, staged_count, staged_few, staged_quiet, staged_run}
 use Rattle.strat_loop.specs.Speech.{IsAskedFor, IsSpokenRun, Said, SaysByTable, Speech, response_of}
 
 -- where nothing is staged the position with what is staged is that of the store
@@ -65,7 +65,7 @@ module _ (speech : Speech) where
       rest : IsStagedRun speech mid.disk mem second staged x rows others more
       rest =
           staged_run speech mid.disk law x rows mem second staged others more all.2 (one_at speech mid.disk law x rows mem base second body response all.1 stands same_mem).stands
-          (ap (λ (s : Held). s.log.mem) all.1.after ∙ same_mem) (one_few_after speech mid.disk law x rows mem base second body response all.1 stands same_mem)
+          (ap (λ (s : Held). s.log.mem) all.1.after ∙ same_mem)
 
       at : position_staged base x rows ≡ position_at base x rows
       at = staged_none base x rows none
@@ -101,7 +101,7 @@ module _ (speech : Speech) where
         leaves = leaves;
         on_disk = λ on.
             published.on_disk (λ e. let f : ◌≡◌ {A = Reply} reply.Done (reply.Refused why.DeviceFault) = e in cc)
-            (still_on mid.disk base staged (record { slot = has.slot; sb = has.sb; chained = has.chained; levels = has.levels; filters = has.filters }) on);
+            (still_on mid.disk base staged (record { slot = has.slot; sb = has.sb; chained = has.chained; levels = has.levels; filters = has.filters }) has.going on);
         retired = λ a among.
             Contains-append_right (arrays_there base.levels) base.memory.cursors.retired a
             (subst (λ (l : List ArrayDesc). Contains l a) (ap (λ (s : Held). s.memory.cursors.retired) after ∙ ap (λ c. c.retired) has.cursors) among);
@@ -115,11 +115,6 @@ module _ (speech : Speech) where
               after = with_batch x staged.log.batch;
               begins = refl;
               run = (refl, refl, (position_staged second x rows, inr (inl (by x rows stands)), subst (λ (p : Position). IsSpokenRun speech mem (position_staged second x rows) other.exchanges more p) (sym end) other.run));
-              region = (
-                subst (λ (p : Position). p.fill ≤ mem) (at x rows stands) (one_few speech mid.disk law x rows mem base second body response all.1 stands same_mem),
-                other.region,
-              );
-              fill = subst (λ (p : Position). p.fill ≤ mem) (sym end) other.fill;
               bodies_are = ap (λ (l : List (List ℕ)). body ∷ l) other.bodies_are;
               answers_are = ap (λ (l : List Response). response_of response ∷ l) other.answers_are;
               stands = stand x rows other.stands;
@@ -176,7 +171,6 @@ module _ (speech : Speech) where
                 let accepted = and_parts (is_change all.1.request) (accepts (step (position_at base x rows).table all.1.request).answer.reply) (carried x rows stands) in
                 record {
                   done = position_staged second x rows;
-                  few = one_few_after speech mid.disk law x rows mem base second body response all.1 stands same_mem;
                   fault = record {
                     request = all.1.request;
                     asked = subst (λ (n : ℕ). IsAskedFor speech n body all.1.request faulty) (counts_at x rows stands) faulty_asked;

@@ -40,12 +40,12 @@ use Rattle.strat_loop.specs.Progress.{ServesPending, ServesSoFar, RunSoFar, Meet
 use Rattle.strat_loop.specs.Session.{EndsFor, Took, WaitsForNone}
 use Rattle.strat_loop.specs.World.{World}
 use Rattle.strat_loop.proofs.PendingLemmas.{ahead_more, ahead_within, appends_behind, are_more, sends_but, sent_then, took_behind}
-use Rattle.def_slice.specs.Filling.{IsFillFrom}
-use Rattle.strat_loop.proofs.ProgressLemmas.{as_many, calm_front, few_all, follows_more, goes_from, paid_so_far}
+use Rattle.strat_loop.proofs.FillLemmas.{begins_fit, fits_regions}
+use Rattle.strat_loop.proofs.ProgressLemmas.{as_many, calm_front, follows_more, goes_from, paid_so_far}
 use Rattle.strat_loop.proofs.PublishedLemmas.{held_then}
 use Rattle.strat_loop.proofs.SessionLemmas.{answered_front, each_then, whole_taken}
 use Rattle.strat_loop.proofs.StreamLemmas.{Frames, frames_of}
-use Rattle.strat_loop.specs.Speech.{AsksToChange, IsSpokenBatch, IsSpokenRun, Said, SaysFault, Speech, SpokenContinuation, said_bytes, response_of}
+use Rattle.strat_loop.specs.Speech.{AsksToChange, IsSpokenBatch, IsSpokenRun, IsSpokenTranscript, Said, SaysFault, Speech, SpokenContinuation, said_bytes, response_of}
 use Rattle.strat_loop.specs.Spoken.{AreSaidCalmly, AreSaidTo, FollowsSpokenRun, IsSitting, SaysCalmly, SendsSaid, ServedBy, Sitting, output_of, session_of}
 
 -- what waits is frames and a rest
@@ -63,15 +63,6 @@ frames_waiting next.Frame d meets fits =
     }
 frames_waiting next.NotYet d meets fits = record { bodies = []; rest = d.held; splits = record { whole = refl; each = tt; last = or_right (is_too_long d.held) (is_partial d.held) meets } }
 frames_waiting (next.TooLong n) d meets fits = record { bodies = []; rest = d.held; splits = record { whole = refl; each = tt; last = or_left (is_too_long d.held) (is_partial d.held) meets } }
-
-few_then : (mem first : ℕ) (xs ys : List Exchange) → AllByRecursion (λ (e : Exchange). IsFillFrom mem first e.at.fill) xs → AllByRecursion (λ (e : Exchange). IsFillFrom mem first e.at.fill) ys
-    → AllByRecursion (λ (e : Exchange). IsFillFrom mem first e.at.fill) (xs ++ ys)
-few_then mem first [] ys all next = next
-few_then mem first (x ∷ xs) ys all next = (all.0, few_then mem first xs ys all.1 next)
-
-few_from : (mem first : ℕ) (xs : List Exchange) → AllByRecursion (λ (e : Exchange). e.at.fill ≤ mem) xs → AllByRecursion (λ (e : Exchange). IsFillFrom mem first e.at.fill) xs
-few_from mem first [] all = tt
-few_from mem first (x ∷ xs) all = (inl all.0, few_from mem first xs all.1)
 
 -- the disk followed the tables of a batch
 follows_batch : (before mid now : DiskView) (f : Image) (xs gs : List Exchange) (g : Exchange) (t u : Table) → bare g.at.table ≡ t → Passes mid now
@@ -126,8 +117,6 @@ module _ (speech : Speech) where
     pub after : Contents
     pub begins : first.at ≡ position_at old x rows
     pub run : IsSpokenRun speech mem (position_at old x rows) (first ∷ later) responses (position_at new after rows)
-    pub region : AllByRecursion (λ (e : Exchange). e.at.fill ≤ mem) (first ∷ later)
-    pub fill : length new.log.list ≤ mem
     pub bodies_are : map (λ (e : Exchange). e.body) (first ∷ later) ≡ bodies
     pub answers_are : map response_of responses ≡ map (λ (e : Exchange). e.response) (first ∷ later)
     pub stands : StandsAt now new after rows
@@ -167,8 +156,6 @@ module _ (speech : Speech) where
           rows = so_far.rows;
           exchanges = so_far.exchanges ++ group;
           run = run_then start.log.mem so_far.from (position_at old so_far.contents so_far.rows) (position_at new is.after so_far.rows) so_far.exchanges group p.answers responses so_far.run is.run;
-          region = few_then start.log.mem so_far.from.fill so_far.exchanges group so_far.region (few_from start.log.mem so_far.from.fill group is.region);
-          fill = inl is.fill;
           bodies_are = map-append (λ (x : Exchange). x.body) so_far.exchanges group ∙ (λ i. so_far.bodies_are i ++ is.bodies_are i);
           answers_are = map-append response_of p.answers responses ∙ (λ i. so_far.answers_are i ++ is.answers_are i) ∙ sym (map-append (λ (x : Exchange). x.response) so_far.exchanges group);
           stands = is.stands;
@@ -251,7 +238,6 @@ module _ (speech : Speech) where
   -- a batch at a store that stands with contents failed: its first change is the run's interruption, and the others are what the run is continued over
   pub record IsBatchBroken (mid now : DiskView) (mem : ℕ) (old : Held) (x : Contents) (rows : List Cursor) (body : List ℕ) (others : List (List ℕ)) (response : Said) : Type 0 where
     pub done : Position
-    pub few : done.fill ≤ mem
     pub fault : SaysFault speech mem (position_at old x rows) body response done
     pub asks : AsksToChange speech (position_at old x rows) body response.tag
     pub more : List Exchange
@@ -336,14 +322,15 @@ module _ (speech : Speech) where
           batch = is.batch;
           change = inr is.asks;
         } in
+        let spoken : IsSpokenTranscript speech start.log.mem so_far.from transcript p.answers (Some response) = record { run = so_far.run; interrupted = (response, refl, refl, is.fault) } in
         record {
           mem = start.log.mem;
           start = so_far.from;
           begins = so_far.begins;
           table = so_far.table;
           transcript = transcript;
-          is = record { run = so_far.run; interrupted = (response, refl, refl, is.fault) };
-          region = few_all start.log.mem so_far.from.fill so_far.exchanges (transcript.after ∷ is.done ∷ []) so_far.region (so_far.fill, (inl is.few, tt));
+          is = spoken;
+          region = fits_regions speech start.log.mem (omega (arith, p.lawful.lawful.mem_least, p.lawful.log.mem, p.mem)) so_far.from transcript p.answers (Some response) spoken (begins_fit f start.log.mem so_far.from so_far.begins);
           front = ap (take (length (bodies_of transcript))) one_more
               ∙ take_at (p.bodies ++ body ∷ []) (others ++ frames.bodies) (length (bodies_of transcript)) (sym (ap length bodies_all)) ∙ sym bodies_all;
           answers_are = so_far.answers_are;

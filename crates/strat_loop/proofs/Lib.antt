@@ -1,6 +1,7 @@
 pub mod AnswerLemmas
 pub mod BareLemmas
 pub mod BeginLemmas
+pub mod FillLemmas
 pub mod GiveUpLemmas
 pub mod BatchedLemmas
 pub mod ProgressLemmas

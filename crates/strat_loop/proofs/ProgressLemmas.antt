@@ -34,19 +34,19 @@ use Rattle.def_publish.specs.Contents.{Contents, contents_state}
 use Rattle.def_publish.specs.Standing.{ShowsTable}
 use Rattle.strat_publish.specs.Outcomes.{IsDamagedIn}
 use Rattle.strat_open.specs.Following.{ChangesGateAlone, FollowsFrom, IsOpenedAs}
+use Rattle.strat_memory.proofs.OpenLemmas.{agree_read}
 use Rattle.strat_memory.specs.Held.{Held, IsConsistent, IsOnDisk, StandsWith, arrays_held, position_at}
 use Rattle.strat_publish.specs.Settling.{KeepsPublished, carries_out}
 use Rattle.def_state.specs.State.{IsPaid}
 use Rattle.strat_memory.specs.Paying.{IsPaidIn, ArePaidSince}
 use Rattle.strat_publish.proofs.LaidLemmas.{kept_on}
+use Rattle.strat_store.proofs.LeavingLemmas.{held_there, same_on}
 use Rattle.strat_memory.proofs.OnDiskLemmas.{read_on}
 use Rattle.strat_memory.proofs.PayingLemmas.{paid_now, paid_reads, paid_then, stored_since}
 use Rattle.strat_loop.specs.Session.{Took, IsAtEnd, FailsAsMet, WaitsForNone}
 use Rattle.strat_loop.specs.Pending.{Pending, ArePending}
 use Rattle.strat_loop.specs.Progress.{ServesSoFar, RunSoFar}
 use Rattle.strat_loop.specs.World.{World}
-use Rattle.def_slice.specs.Filling.{IsFillFrom}
-use Rattle.def_slice.proofs.FillingLemmas.{fill_then}
 use Rattle.strat_loop.proofs.AnswerLemmas.{told_damaged}
 use Rattle.strat_loop.proofs.BeginLemmas.{opens_begins, stands_bare}
 use Rattle.strat_loop.proofs.PendingLemmas.{ahead_more, ahead_within, are_more, sent_then}
@@ -82,9 +82,9 @@ took_then a b c x y first second = record {
   hidden = λ e. second.hidden (first.hidden e);
 }
 
--- a store that holds the superblock and the manifest of another is on the disk where that one is
-pub still_on : (v : DiskView) (s t : Held) → KeepsPublished s t → IsOnDisk v s → IsOnDisk v t
-still_on v s t same on = kept_on v s t same on
+-- a store that holds the superblock, the manifest and the promotion of another is on the disk where that one is
+pub still_on : (v : DiskView) (s t : Held) → KeepsPublished s t → t.promoting ≡ s.promoting → IsOnDisk v s → IsOnDisk v t
+still_on v s t same going on = same_on v s t same going on
 
 -- nothing was taken
 pub took_none : (s : Option (List ℕ)) → Took s s []
@@ -93,18 +93,6 @@ took_none s = record { exposed = λ left e. (left, refl, e); hidden = λ e. e }
 -- nothing was sent
 sent_none : (s : Option (List ℕ)) → Appends s s []
 sent_none s = record { exposed = λ h e. e ∙ ap (λ (x : List ℕ). Some x) (sym (append-nil h)); hidden = λ e. e }
-
--- one more position at which no more changes are in the journal than a region takes, or as many as first
-few_more : (mem first : ℕ) (xs : List Exchange) (x : Exchange) → AllByRecursion (λ (y : Exchange). IsFillFrom mem first y.at.fill) xs → IsFillFrom mem first x.at.fill
-    → AllByRecursion (λ (y : Exchange). IsFillFrom mem first y.at.fill) (xs ++ x ∷ [])
-few_more mem first [] x each few = (few, tt)
-few_more mem first (y ∷ ys) x each few = (each.0, few_more mem first ys x each.1 few)
-
--- and so at all positions of a run
-pub few_all : (mem first : ℕ) (xs : List Exchange) (ps : List Position) → AllByRecursion (λ (x : Exchange). IsFillFrom mem first x.at.fill) xs → AllByRecursion (λ (p : Position). IsFillFrom mem first p.fill) ps
-    → AllByRecursion (λ (p : Position). IsFillFrom mem first p.fill) (map (λ (x : Exchange). x.at) xs ++ ps)
-few_all mem first [] ps each last = last
-few_all mem first (x ∷ xs) ps each last = (each.0, few_all mem first xs ps each.1 last)
 
 -- one more body that fits
 pub each_more : (xs : List (List ℕ)) (x : List ℕ) → AllByRecursion IsBody xs → IsBody x → AllByRecursion IsBody (xs ++ x ∷ [])
@@ -252,8 +240,6 @@ module _ (speech : Speech) where
           rows = [];
           exchanges = [];
           run = refl;
-          region = tt;
-          fill = inr refl;
           bodies_are = refl;
           answers_are = refl;
           stands = stands_bare disk s there.0 opened.closed there.1;
@@ -340,7 +326,8 @@ module _ (speech : Speech) where
           let none : carries_out told.request is.response.answer.reply ≡ false = ap (carries_out told.request) reply_is ∙ and_right (is_change told.request) false refl in
           let other : is.response.answer.reply ≢ reply.Refused why.DeviceFault = λ f. let g : ◌≡◌ {A = Reply} (reply.Refused (why.Damaged b)) (reply.Refused why.DeviceFault) = sym reply_is ∙ f in cc in
           let same = told.leaves.kept none other in
-          kept_on w new old (record { slot = sym same.slot; sb = sym same.sb; chained = sym same.chained; levels = sym same.levels; filters = sym same.filters }) (told.leaves.on_disk other on)
+          kept_on w new old (record { slot = sym same.slot; sb = sym same.sb; chained = sym same.chained; levels = sym same.levels; filters = sym same.filters })
+          (λ g now. agree_read on.content g old (λ a of. told.leaves.beside other on.content g on.exposed now a (held_there old a of)) on.read) (told.leaves.on_disk other on)
     ]
 
     -- what a crash leaves since is paid for, where the contents were
@@ -389,7 +376,8 @@ module _ (speech : Speech) where
     pub kept : met ≡ None → IsConsistent new
     pub same : new.sb.mem ≡ old.sb.mem
     pub leaves : IfSome now.disk.content (Images now.disk)
-    pub damaged : (b : ℕ) → met ≡ Some (fault.Damaged b) → IsDamagedIn mid.disk.content old.memory old.levels b
+    pub damaged : (b : ℕ) → met ≡ Some (fault.Damaged b) → Contains (blocks_listed (arrays_held old.memory old.levels)) b
+        × (IsOnDisk mid.disk old → IsDamagedIn mid.disk.content old.memory old.levels b)
         × ((f g : Image) → mid.disk.content ≡ Some f → now.disk.content ≡ Some g → AgreeOn (blocks_listed (arrays_held old.memory old.levels)) f g)
 
   -- a reply that the device failed tells of a fault
@@ -433,8 +421,6 @@ module _ (speech : Speech) where
           exchanges = so_far.exchanges ++ latest ∷ [];
           run = run_more start.log.mem so_far.from at (position_at new is.after is.left) so_far.exchanges p.answers body response so_far.run
               (subst (λ (m : ℕ). Says speech m at body response (position_at new is.after is.left)) p.mem is.answers);
-          region = few_more start.log.mem so_far.from.fill so_far.exchanges latest so_far.region so_far.fill;
-          fill = fill_then start.log.mem so_far.from.fill (length old.log.list) (length new.log.list) so_far.fill (subst (λ (m : ℕ). IsFillFrom m (length old.log.list) (length new.log.list)) p.mem is.fill);
           bodies_are = map-append (λ (x : Exchange). x.body) so_far.exchanges (latest ∷ []) ∙ ap (λ (l : List (List ℕ)). l ++ body ∷ []) so_far.bodies_are;
           answers_are = map-append response_of p.answers (response ∷ []) ∙ ap (λ (l : List Response). l ++ response_of response ∷ []) so_far.answers_are ∙ sym (map-append (λ (x : Exchange). x.response) so_far.exchanges (latest ∷ []));
           stands = is.stands;

@@ -1,5 +1,5 @@
 -- How a serving run ends.
-use Rattle.std.proofs.Common.{◌≡◌, ◌≢◌, ℕ, ◌+◌, ◌<◌, ◌≤◌, true, false, cond, eqb, List, [], ◌∷◌, ◌++◌, length, take, map, Option, Some, None, refl, sym, ap, subst, ◌∙◌, ◌⊎◌, append_assoc, length-append, inl, inr, arith}
+use Rattle.std.proofs.Common.{◌≡◌, ◌≢◌, ℕ, ◌+◌, ◌-◌, ◌*◌, ◌<◌, ◌≤◌, true, false, cond, eqb, List, [], ◌∷◌, ◌++◌, length, take, map, Option, Some, None, refl, sym, ap, subst, ◌∙◌, ◌⊎◌, append_assoc, length-append, inl, inr, arith}
 use Rattle.std.specs.Prelude.{IsSome, is_some}
 use Rattle.std.specs.List.{flat_map, AllByRecursion}
 use Rattle.std.proofs.lemmas.Bool.{and_right, or_left, or_right, eq-eqb, ne_eqb, cases_eq}
@@ -19,8 +19,6 @@ use Rattle.strat_model.specs.Answer.{Answer}
 use Rattle.strat_model.specs.Stream.{frame, IsBody, is_partial, is_too_long, Splits, Whole, Rest, Long, ending_of}
 use Rattle.strat_model.specs.Table.{Table, bare}
 use Rattle.def_state.specs.State.{State}
-use Rattle.def_slice.specs.Filling.{IsFillFrom}
-use Rattle.def_slice.proofs.FillingLemmas.{fill_then}
 use Rattle.strat_model.specs.Batch.{tables_before}
 use Rattle.strat_model.specs.Run.{Exchange, Interruption, Position, Transcript, bodies_of}
 use Rattle.def_meaning.specs.StateTable.{table_of}
@@ -34,12 +32,13 @@ use Rattle.strat_loop.specs.Pending.{Pending, ArePending, SendsAtEnd, with_sent}
 use Rattle.strat_loop.specs.World.{World}
 use Rattle.strat_loop.proofs.BatchedLemmas.{continues_over_nothing}
 use Rattle.strat_loop.proofs.BeginLemmas.{found_as}
+use Rattle.strat_loop.proofs.FillLemmas.{begins_fit, fits_regions}
 use Rattle.strat_loop.specs.Progress.{ServesSoFar, RunSoFar}
 use Rattle.strat_loop.proofs.PendingLemmas.{ahead_more, appends_behind, sends_but, sent_then}
-use Rattle.strat_loop.proofs.ProgressLemmas.{Answered, few_all, follows_more, answered_more, as_many, step_responds, step_damaged, step_paid, step_reads, gate_still, calm_front, calm_parts}
+use Rattle.strat_loop.proofs.ProgressLemmas.{Answered, follows_more, answered_more, as_many, step_responds, step_damaged, step_paid, step_reads, gate_still, calm_front, calm_parts}
 use Rattle.strat_loop.proofs.PublishedLemmas.{published_still}
 use Rattle.strat_loop.proofs.StreamLemmas.{Frames, frames_of, partial_not_long}
-use Rattle.strat_loop.specs.Speech.{Said, SaysFault, Speech, said_bytes, response_of}
+use Rattle.strat_loop.specs.Speech.{IsSpokenTranscript, Said, SaysFault, Speech, said_bytes, response_of}
 use Rattle.strat_loop.specs.Spoken.{AreSaidCalmly, AreSaidTo, ContinuesWith, FollowsSpokenRun, IsSitting, SendsSaid, ServedBy, Sitting, StopsWith, all_said, last_said, output_of, session_of}
 
 -- bodies one after the other that fit
@@ -65,15 +64,6 @@ still_some before mid f passes e = go mid.content refl (passes.exposed (some bef
     go : (o : Option Image) → mid.content ≡ o → IsSome o → (g : Image) × (mid.content ≡ Some g)
     go (Some g) is there = (g, is)
     go None is there = absurd cc
-
--- a journal has no more changes than a region takes, or as many as that of the content at the start
-found_fill : (f : Image) (mem other count : ℕ) (t : Table) (from : Position) (shows : ShowsTable f t) → Begins f mem from → mem ≡ other → IsFillFrom mem from.fill count
-    → IsFillFrom other (length shows.state.journal) count
-found_fill f mem other count t from shows begins same fill =
-    let both : Some begins.shows.state ≡ Some shows.state = sym begins.shows.reads ∙ shows.reads in
-    let state : begins.shows.state ≡ shows.state = cc in
-    let first : from.fill ≡ length shows.state.journal = begins.fill ∙ ap (λ (s : State). length s.journal) state in
-    subst (λ (n : ℕ). IsFillFrom other n count) first (subst (λ (m : ℕ). IsFillFrom m from.fill count) same fill)
 
 module _ (speech : Speech) where
   -- the responses to the first of some bodies
@@ -125,14 +115,15 @@ module _ (speech : Speech) where
         let bodies_all : bodies_of transcript ≡ p.bodies = append-nil (map (λ (x : Exchange). x.body) so_far.exchanges) ∙ so_far.bodies_are in
         let front : take (length (bodies_of transcript)) (p.bodies ++ others) ≡ bodies_of transcript = take_at p.bodies others (length (bodies_of transcript)) (sym (ap length bodies_all)) ∙ sym bodies_all in
         let continues = continues_over_nothing speech before.disk now.disk f start.log.mem (p.bodies ++ others) transcript front so_far.follows in
+        let is : IsSpokenTranscript speech start.log.mem so_far.from transcript p.answers None = record { run = so_far.run; interrupted = tt } in
         record {
           mem = start.log.mem;
           start = so_far.from;
           begins = so_far.begins;
           table = so_far.table;
           transcript = transcript;
-          is = record { run = so_far.run; interrupted = tt };
-          region = few_all start.log.mem so_far.from.fill so_far.exchanges (transcript.after ∷ []) so_far.region (so_far.fill, tt);
+          is = is;
+          region = fits_regions speech start.log.mem (omega (arith, p.lawful.lawful.mem_least, p.lawful.log.mem, p.mem)) so_far.from transcript p.answers None is (begins_fit f start.log.mem so_far.from so_far.begins);
           front = front;
           answers_are = so_far.answers_are;
           broken_is = refl;
@@ -168,7 +159,7 @@ module _ (speech : Speech) where
         λ t shows.
             let so_far = p.runs f t exposed shows in (
               found_as now.disk current so_far.contents so_far.stands.stands,
-              found_fill f start.log.mem current.sb.mem (length current.log.list) t so_far.from shows so_far.begins (sym p.mem ∙ p.lawful.log.mem) so_far.fill,
+              p.lawful.log.few,
             ),
       );
       still = λ calm. p.still (calm_front speech p.bodies others p.answers p.answered (subst (λ (l : List Said). AreSaidCalmly speech (p.bodies ++ others) l) tolds_all calm));
@@ -315,20 +306,18 @@ module _ (speech : Speech) where
           (λ first.
           step_paid speech mid.disk now.disk old body met new out done.is so_far.contents so_far.stands.stands
           (paid_now mid.disk so_far.follows.synced so_far.contents so_far.stands.stands.stands so_far.follows.till (so_far.follows.paid first))))) in
+          let is : IsSpokenTranscript speech start.log.mem so_far.from transcript p.answers (Some response) = record {
+            run = so_far.run;
+            interrupted = (response, refl, refl, subst (λ (m : ℕ). SaysFault speech m (position_at old so_far.contents so_far.rows) body response stops.done) p.mem stops.fault);
+          } in
           record {
             mem = start.log.mem;
             start = so_far.from;
             begins = so_far.begins;
             table = so_far.table;
             transcript = transcript;
-            is = record { run = so_far.run; interrupted = (response, refl, refl, subst (λ (m : ℕ). SaysFault speech m (position_at old so_far.contents so_far.rows) body response stops.done) p.mem stops.fault) };
-            region = few_all start.log.mem so_far.from.fill so_far.exchanges (transcript.after ∷ stops.done ∷ []) so_far.region (
-              so_far.fill,
-              (
-                fill_then start.log.mem so_far.from.fill (length old.log.list) stops.done.fill so_far.fill (subst (λ (m : ℕ). IsFillFrom m (length old.log.list) stops.done.fill) p.mem stops.fill),
-                tt,
-              ),
-            );
+            is = is;
+            region = fits_regions speech start.log.mem (omega (arith, p.lawful.lawful.mem_least, p.lawful.log.mem, p.mem)) so_far.from transcript p.answers (Some response) is (begins_fit g start.log.mem so_far.from so_far.begins);
             front = front;
             answers_are = so_far.answers_are;
             broken_is = refl;
@@ -350,7 +339,7 @@ module _ (speech : Speech) where
 
       -- the superblock and the manifest of the store, unless the device failed
       left_on : (k : Fault) → f ≡ k → (fault_told response.answer.reply ≡ Some fault.Device → ⊥) → (g : Image) → before.disk.content ≡ Some g
-          → (store : Held) × IsConsistent store × IsOnDisk now.disk store × ((t : Table) (shows : ShowsTable g t) → IsFoundAs now.disk store × IsFillFrom store.sb.mem (length shows.state.journal) (length store.log.list))
+          → (store : Held) × IsConsistent store × IsOnDisk now.disk store × ((t : Table) (shows : ShowsTable g t) → IsFoundAs now.disk store × (length store.log.list ≤ 2 * store.sb.mem - 2))
       left_on fault.Device same other g exposed = absurd (other (tells ∙ ap (λ (x : Fault). Some x) same))
       left_on (fault.Damaged b) same other g exposed = (
         old,
@@ -381,8 +370,9 @@ module _ (speech : Speech) where
               named = λ g exposed a among. published_still before.disk mid.disk now.disk a done.passes (p.named g exposed a among);
               content = mid.disk.content;
               exposed = λ g exposed. let there = still_some before.disk mid.disk g passes exposed in subst IsSome (sym there.1) refl;
-              bad = found.0;
-              kept = found.1;
+              listed = found.0;
+              bad = λ g exposed. found.1 (p.on_disk g exposed);
+              kept = found.2;
             };
         left = λ other g exposed. left_on f refl other g exposed;
         still = λ calm g exposed.

@@ -117,6 +117,7 @@ pub record HasStaged (old new : Held) : Type 0 where
   pub chained : new.chained ≡ old.chained
   pub levels : new.levels ≡ old.levels
   pub filters : new.filters ≡ old.filters
+  pub going : new.promoting ≡ old.promoting
 
 cursors_kept : (m : Memory) (c : Change) → (memory_after m c).cursors ≡ m.cursors
 cursors_kept m (Put version key value) = refl
@@ -204,7 +205,7 @@ module _ (speech : Speech) where
   staged_count old new (b ∷ bs) (r ∷ rs) all = omega (arith, one_staged old all.0 b r all.1, staged_count all.0 new bs rs all.2)
 
   pub has_staged : (old new : Held) (bodies : List (List ℕ)) (responses : List Said) → StagesBodies speech old bodies responses new → HasStaged old new
-  has_staged old new [] [] all = subst (λ (s : Held). HasStaged old s) (sym all) (record { slot = refl; sb = refl; mem = refl; list = refl; cursors = refl; spent = refl; chained = refl; levels = refl; filters = refl })
+  has_staged old new [] [] all = subst (λ (s : Held). HasStaged old s) (sym all) (record { slot = refl; sb = refl; mem = refl; list = refl; cursors = refl; spent = refl; chained = refl; levels = refl; filters = refl; going = refl })
   has_staged old new [] (r ∷ rs) all = absurd all
   has_staged old new (b ∷ bs) [] all = absurd all
   has_staged old new (b ∷ bs) (r ∷ rs) all =
@@ -220,6 +221,7 @@ module _ (speech : Speech) where
         chained = rest.chained ∙ ap (λ (s : Held). s.chained) one.after;
         levels = rest.levels ∙ ap (λ (s : Held). s.levels) one.after;
         filters = rest.filters ∙ ap (λ (s : Held). s.filters) one.after;
+        going = rest.going ∙ ap (λ (s : Held). s.promoting) one.after;
       }
 
   -- bodies that were staged are exchanges from one position to another, where the store stands
@@ -227,8 +229,6 @@ module _ (speech : Speech) where
     pub exchanges : List Exchange
     pub run : IsSpokenRun speech mem (position_staged old x rows) exchanges responses (position_staged new x rows)
     pub made : AllByRecursion (IsSpokenChange speech mem) exchanges
-    pub region : AllByRecursion (λ (e : Exchange). e.at.fill ≤ mem) exchanges
-    pub fill : (position_staged new x rows).fill ≤ mem
     pub bodies_are : map (λ (e : Exchange). e.body) exchanges ≡ bodies
     pub answers_are : map response_of responses ≡ map (λ (e : Exchange). e.response) exchanges
     pub stands : StandsAt v new x rows
@@ -248,13 +248,6 @@ module _ (speech : Speech) where
             place = subst (λ (m : ℕ). IsAfter m (position_staged old x rows) one.request (position_staged new x rows)) same one_at.place;
           }
 
-      pub one_few : (position_staged old x rows).fill ≤ mem
-      one_few = omega (arith, (place_where old one.request one.may).1, same, length-append old.log.list old.log.batch)
-
-      pub one_few_after : (position_staged new x rows).fill ≤ mem
-      one_few_after =
-          omega (arith, (place_where old one.request one.may).1, same, length-append new.log.list new.log.batch, one_staged old new body response one, ap (λ (s : Held). length s.log.list) one.after)
-
       abbrev exchange : Exchange
       exchange = record { body = body; response = response_of response; at = position_staged old x rows }
 
@@ -263,29 +256,25 @@ module _ (speech : Speech) where
       one_made = record { said = response; response = refl; after = position_staged new x rows; by = one_by; made = one_at.carried }
 
     pub staged_run : (old new : Held) (bodies : List (List ℕ)) (responses : List Said) → StagesBodies speech old bodies responses new → StandsAt v old x rows → old.log.mem ≡ mem
-        → (position_staged old x rows).fill ≤ mem → IsStagedRun v mem old new x rows bodies responses
-    staged_run old new [] [] all stands same few = record {
+        → IsStagedRun v mem old new x rows bodies responses
+    staged_run old new [] [] all stands same = record {
       exchanges = [];
       run = ap (λ (s : Held). position_staged s x rows) all;
       made = tt;
-      region = tt;
-      fill = subst (λ (s : Held). (position_staged s x rows).fill ≤ mem) (sym all) few;
       bodies_are = refl;
       answers_are = refl;
       stands = subst (λ (s : Held). StandsAt v s x rows) (sym all) stands;
     }
-    staged_run old new [] (r ∷ rs) all stands same few = absurd all
-    staged_run old new (b ∷ bs) [] all stands same few = absurd all
-    staged_run old new (b ∷ bs) (r ∷ rs) all stands same few =
+    staged_run old new [] (r ∷ rs) all stands same = absurd all
+    staged_run old new (b ∷ bs) [] all stands same = absurd all
+    staged_run old new (b ∷ bs) (r ∷ rs) all stands same =
         let mid = all.0 in
         let one = all.1 in
-        let rest = staged_run mid new bs rs all.2 (one_at old mid b r one stands same).stands (ap (λ (s : Held). s.log.mem) one.after ∙ same) (one_few_after old mid b r one stands same) in
+        let rest = staged_run mid new bs rs all.2 (one_at old mid b r one stands same).stands (ap (λ (s : Held). s.log.mem) one.after ∙ same) in
         record {
           exchanges = exchange old mid b r one stands same ∷ rest.exchanges;
           run = (refl, refl, (position_staged mid x rows, inr (inl (one_by old mid b r one stands same)), rest.run));
           made = (one_made old mid b r one stands same, rest.made);
-          region = (one_few old mid b r one stands same, rest.region);
-          fill = rest.fill;
           bodies_are = ap (λ (l : List (List ℕ)). b ∷ l) rest.bodies_are;
           answers_are = ap (λ (l : List Response). response_of r ∷ l) rest.answers_are;
           stands = rest.stands;

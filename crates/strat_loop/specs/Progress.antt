@@ -27,10 +27,9 @@ use Rattle.strat_loop.specs.Session.{Took, Begins, EndHasCause, WaitsForNone, Wa
 use Rattle.strat_loop.specs.Speech.{Said, Speech, IsSpokenRun, response_of, said_bytes}
 use Rattle.strat_loop.specs.Spoken.{AreSaidTo, AreSaidCalmly, ServedBy}
 use Rattle.strat_loop.specs.World.{World}
-use Rattle.def_slice.specs.Filling.{IsFillFrom}
 
 -- a serving run so far, where the disk exposes a content that shows a table: these bodies were answered so by the table, and
--- the store stands where that leads; a full region of its journal was emptied at once
+-- the store stands where that leads
 pub record RunSoFar (speech : Speech) (start current : Held) (before now : DiskView) (f : Image)
     (t : Table) (bodies : List (List ℕ)) (answers : List Said) : Type 0 where
   pub from : Position
@@ -41,8 +40,6 @@ pub record RunSoFar (speech : Speech) (start current : Held) (before now : DiskV
   pub exchanges : List Exchange
   pub run : IsSpokenRun speech start.log.mem from exchanges answers
       (position_at current contents rows)
-  pub region : AllByRecursion (λ x. IsFillFrom start.log.mem from.fill x.at.fill) exchanges
-  pub fill : IsFillFrom start.log.mem from.fill (length current.log.list)
   pub bodies_are : map (λ x. x.body) exchanges ≡ bodies
   pub answers_are : map response_of answers ≡ map (λ x. x.response) exchanges
   pub stands : StandsAt now current contents rows

@@ -79,7 +79,8 @@ pub record IsFoundDamaged (before now : DiskView) (block : ℕ) : Type 0 where
       → Contains (arrays_held store.memory store.levels) a → WasPublished before now a
   pub content : Option Image
   pub exposed : (f : Image) → Exposes before f → IsSome content
-  pub bad : IsDamagedIn content store.memory store.levels block
+  pub listed : Contains (blocks_listed (arrays_held store.memory store.levels)) block
+  pub bad : (f : Image) → Exposes before f → IsDamagedIn content store.memory store.levels block
   pub kept : (f g : Image) → content ≡ Some f → Exposes now g
       → AgreeOn (blocks_listed (arrays_held store.memory store.levels)) f g
 

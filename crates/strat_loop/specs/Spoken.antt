@@ -1,5 +1,5 @@
 -- A serving run, whatever the protocol: as `Session` has it for commands and replies, with what was said in place of responses.
-use Rattle.std.specs.Prelude.{◌≡◌, ◌≤◌, ◌⊎◌, ℕ, ◌+◌, ◌==◌, ◌&&◌, Bool, true, false, if◌then◌else◌, List, [], ◌∷◌, ◌++◌, length, take, map, Option, Some, None, IfSome, IsSome, option_map, Ok}
+use Rattle.std.specs.Prelude.{◌≡◌, ◌≤◌, ◌⊎◌, ℕ, ◌+◌, ◌-◌, ◌*◌, ◌==◌, ◌&&◌, Bool, true, false, if◌then◌else◌, List, [], ◌∷◌, ◌++◌, length, take, map, Option, Some, None, IfSome, IsSome, option_map, Ok}
 use Rattle.std.specs.List.{AllByRecursion}
 use Rattle.strat_base.specs.declared.failures.Fault.{Fault}
 use Rattle.strat_base.specs.declared.failures.Fault.TheVariants as fault
@@ -27,7 +27,6 @@ use Rattle.def_publish.specs.Contents.{Contents, contents_state}
 use Rattle.def_publish.specs.Standing.{ShowsTable}
 use Rattle.strat_store.specs.Applying.{IsUntouched, TellsTroubleOf, is_fault, may_write}
 use Rattle.strat_store.specs.Cursoring.{LeavesCursors}
-use Rattle.def_slice.specs.Filling.{IsFillFrom}
 use Rattle.strat_open.specs.Following.{ChangesGateAlone, FollowsFrom}
 use Rattle.strat_memory.specs.Held.{Held, IsConsistent, IsOnDisk, StandsAt, position_at}
 use Rattle.strat_store.specs.Ranging.{HasPairsFor, TellsFrom}
@@ -70,8 +69,7 @@ AreSaidCalmly speech (body ∷ bodies) (said ∷ more) =
     SaysCalmly speech body said × AreSaidCalmly speech bodies more
 AreSaidCalmly speech _ _ = Unit {0}
 
--- so was said to a body, and a store that stood with these contents and cursors goes on; its journal has no more changes
--- than a region takes, or as many as before
+-- so was said to a body, and a store that stood with these contents and cursors goes on
 pub record ContinuesWith (speech : Speech) (before now : DiskView) (old : Held) (x : Contents)
     (rows : List Cursor) (body : List ℕ) (said : Said) (new : Held) : Type 0 where
   pub going : new.spent ≡ false
@@ -80,7 +78,6 @@ pub record ContinuesWith (speech : Speech) (before now : DiskView) (old : Held) 
   pub stands : StandsAt now new after left
   pub answers : Says speech old.log.mem (position_at old x rows) body said
       (position_at new after left)
-  pub fill : IsFillFrom old.log.mem (length old.log.list) (length new.log.list)
   pub trail : Trail ShowsTable now before.moment
       (table_of (contents_state x) ∷ table_of (contents_state after) ∷ []) 1
 
@@ -89,7 +86,6 @@ pub record StopsWith (speech : Speech) (before now : DiskView) (old : Held) (x :
     (rows : List Cursor) (body : List ℕ) (said : Said) : Type 0 where
   pub done : Position
   pub fault : SaysFault speech old.log.mem (position_at old x rows) body said done
-  pub fill : IsFillFrom old.log.mem (length old.log.list) done.fill
   pub answer : said.answer ≡ refusal why.DeviceFault
   pub trail : Trail ShowsTable now before.moment
       (table_of (contents_state x) ∷ bare done.table ∷ []) 0
@@ -199,11 +195,11 @@ abbrev pub SendsSaid :
 SendsSaid speech ended.Sink before now s = SendsAllButLast speech before now s
 SendsSaid speech _ before now s = Appends before now (output_of speech s)
 
--- a region of the journal that is full is emptied at once: at each position of a run the journal has no more changes than a
--- region takes, or as many as at its start
-abbrev pub EmptiesFullRegion : ℕ → Position → Transcript → Type 0
-EmptiesFullRegion mem start transcript =
-    AllByRecursion (λ p. IsFillFrom mem start.fill p.fill) (positions_of transcript)
+-- at each position of a run the journal fits its two regions, where each takes so many changes: it has at most two fewer than
+-- both take
+abbrev pub FitsBothRegions : ℕ → Transcript → Type 0
+FitsBothRegions mem transcript =
+    AllByRecursion (λ p. p.fill ≤ 2 * mem - 2) (positions_of transcript)
 
 -- what was said in a sitting is what a run of the table that a content shows says, and the disk followed the run's tables up
 -- to all that was answered otherwise than by a fault
@@ -217,8 +213,8 @@ pub record FollowsSpokenRun (speech : Speech) (before now : DiskView) (f : Image
   -- the run's bodies and answers are the sitting's, and its interruption is the sitting's fault, which is the device's
   pub transcript : Transcript
   pub is : IsSpokenTranscript speech mem start transcript s.answers s.broken
-  -- a full region of the journal was emptied at once
-  pub region : EmptiesFullRegion mem start transcript
+  -- the journal fitted its two regions throughout
+  pub region : FitsBothRegions mem transcript
   pub front : take (length (bodies_of transcript)) s.bodies ≡ bodies_of transcript
   pub answers_are : map response_of s.answers ≡ map (λ x. x.response) transcript.exchanges
   pub broken_is : option_map response_of s.broken
@@ -266,11 +262,11 @@ pub record ServedBy (speech : Speech) (budget : ℕ) (how : Ended) (before now :
       → IsFoundDamaged before.disk now.disk block
   -- where the disk exposes its content, each crash at the end leaves the superblock and the manifest
   -- of a store as an opening may find it, unless the device failed; where that content shows
-  -- a table, its journal too, of no more changes than a region takes, or of as many as the content's
+  -- a table, its journal too, of at most two changes fewer than both its regions take
   pub left : (EndsWithFault (session_of sitting).broken fault.Device → ⊥) → (f : Image)
       → Exposes before.disk f → (store : Held) × IsConsistent store × IsOnDisk now.disk store
       × ((t : Table) (shows : ShowsTable f t) → IsFoundAs now.disk store
-      × IsFillFrom store.sb.mem (length shows.state.journal) (length store.log.list))
+      × (length store.log.list ≤ 2 * store.sb.mem - 2))
   -- and where nothing was told to a change after which a store may have written, a crash leaves what it
   -- might have left before, or the content but for one gate
   pub still : AreSaidCalmly speech sitting.bodies (all_said sitting) → (f : Image)

@@ -1,6 +1,6 @@
 //! The answer to one frame alone, and to one that is too long.
 
-ghost use Rattle.std.specs.Prelude.{◌≡◌, ◌≤◌, ◌+◌, ◌++◌, ℕ, IfOk, OnOk, OnErr, [], length, Some, None, is_some, false};
+ghost use Rattle.std.specs.Prelude.{◌≡◌, ◌≤◌, ◌+◌, ◌++◌, ℕ, IfOk, OnOk, OnErr, [], length, Contains, Some, None, is_some, false};
 ghost use Rattle.strat_base.specs.Numbers.{AreBytes};
 ghost use Rattle.def_crash.specs.Blocks.{AgreeOn};
 ghost use Rattle.def_crash.specs.Faults.{CountsFaults};
@@ -16,7 +16,7 @@ ghost use Rattle.strat_loop.specs.World.{Streams, beside, world};
 ghost use Rattle.strat_publish.specs.Outcomes.{IsDamagedIn};
 ghost use Rattle.strat_frame.specs.declared.deframer.Next.TheVariants as next;
 ghost use Rattle.strat_model.specs.declared.ended.Ended.TheVariants as ended;
-ghost use Rattle.strat_memory.specs.Held.{Held, IsConsistent, arrays_held};
+ghost use Rattle.strat_memory.specs.Held.{Held, IsConsistent, IsOnDisk, arrays_held};
 ghost use Rattle.strat_model.specs.Stream.{IsBody};
 
 use crate::pending::{PendingReplies, StagedReplies, end_run, make_room, send_pending};
@@ -82,7 +82,9 @@ pub fn answer_frame<P: Protocol, D: Disk>(
     ensures time { Passes (D.view disk.old) (D.view disk.new) }
     ensures cause { FailsAsMet (D.faults disk.old) (D.faults disk.new) result }
     ensures damaged { (b : ℕ) → result ≡ Some (fault.Damaged b)
-        → IsDamagedIn (D.view disk.old).content store.old.memory store.old.levels b
+        → Contains (blocks_listed (arrays_held store.old.memory store.old.levels)) b
+        × (IsOnDisk (D.view disk.old) store.old
+        → IsDamagedIn (D.view disk.old).content store.old.memory store.old.levels b)
         × ((f g : Image) → Exposes (D.view disk.old) f → Exposes (D.view disk.new) g
         → AgreeOn (blocks_listed (arrays_held store.old.memory store.old.levels)) f g) }
 {

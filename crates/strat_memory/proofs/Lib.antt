@@ -14,3 +14,4 @@ pub mod PayingLemmas
 pub mod OnDiskLemmas
 pub mod ClearLemmas
 pub mod FilterLemmas
+pub mod OpenLemmas

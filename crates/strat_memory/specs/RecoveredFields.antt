@@ -1,10 +1,12 @@
 -- A store that was recovered, as its callers see it.
-use Rattle.std.specs.Prelude.{ℕ, false, []}
+use Rattle.std.specs.Prelude.{ℕ, false, [], option_map}
 use Rattle.strat_array.specs.Kept.{Blocks}
 use Rattle.strat_gate.specs.SuperView.{super_of}
 use Rattle.def_recovery.specs.Head.{Head}
+use Rattle.def_slice.specs.Opened.{OpenPromotion}
 use Rattle.strat_memory.specs.Held.{Held}
 use Rattle.strat_memory.specs.declared.open_store.OpenStore.{OpenStore}
+use Rattle.strat_memory.specs.declared.open_store.Promoting.{Promoting}
 use Rattle.strat_memory.specs.Admitting.{chained_of}
 
 -- the head of a store that was recovered
@@ -19,6 +21,15 @@ head_recovered r = record {
 abbrev pub empty_cache : ℕ → Blocks
 empty_cache cap = record { entries = []; cap = cap }
 
+-- an open promotion as its callers see it
+abbrev pub open_of : Promoting → OpenPromotion
+open_of p = record {
+  promotion = p.promotion;
+  space = p.space;
+  budget = p.budget;
+  sum = p.sum;
+}
+
 -- a store that was recovered as its callers see it, with these blocks cached
 abbrev pub held_of : OpenStore → Blocks → Held
 held_of r cached = record {
@@ -29,6 +40,7 @@ held_of r cached = record {
   memory = r.memory;
   levels = r.published.levels;
   filters = r.filters;
+  promoting = option_map open_of r.promoting;
   cached = cached;
   spent = false;
 }

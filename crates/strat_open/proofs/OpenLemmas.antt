@@ -1,6 +1,6 @@
 -- A disk on which a store was recovered, while the region that is not active is shut.
-use Rattle.std.proofs.Common.{◌≡◌, ◌≢◌, ◌<◌, ◌≤◌, ◌⊎◌, ℕ, Bool, true, false, inl, inr, List, [], ◌∷◌, length, replicate, Some, Result, Ok, Err, refl, sym, ap, ◌∙◌, subst, arith, true≢false}
-use Rattle.std.specs.Prelude.{IsTrue, IfErr, IsErrOf, ◌↔◌}
+use Rattle.std.proofs.Common.{◌≡◌, ◌≢◌, ◌<◌, ◌≤◌, ◌⊎◌, ℕ, Bool, true, false, inl, inr, List, [], ◌∷◌, length, replicate, Option, None, Some, Result, Ok, Err, refl, sym, ap, ◌∙◌, subst, arith, true≢false}
+use Rattle.std.specs.Prelude.{IsTrue, IfErr, IfSome, IsErrOf, option_map, ◌↔◌}
 use Rattle.strat_base.specs.declared.descriptors.ArrayDesc.{ArrayDesc}
 use Rattle.strat_array.specs.Kept.{Blocks}
 use Rattle.def_crash.specs.Faults.{HasCause, Rose}
@@ -30,13 +30,14 @@ use Rattle.strat_open.specs.declared.attach_fault.AttachFault.{AttachFault}
 use Rattle.strat_open.specs.declared.attach_fault.AttachFault.TheVariants.{Device}
 use Rattle.strat_open.specs.Following.{ChangesGateAlone, FollowsFrom, IsOpenedAs, LeavesOpening}
 use Rattle.strat_memory.specs.Filters.{no_filters}
-use Rattle.strat_memory.specs.Held.{contents_held, IsConsistent, StandsWith}
+use Rattle.strat_memory.specs.Held.{contents_held, IsConsistent, IsOpenAt, StandsWith}
 use Rattle.strat_cursor.specs.Looking.{AreCachedFrom}
 use Rattle.strat_memory.specs.Paying.{IsPaidIn, ArePaidSince}
 use Rattle.strat_memory.specs.Admitting.{chained_of}
-use Rattle.strat_memory.specs.RecoveredFields.{head_recovered, held_of, empty_cache}
+use Rattle.strat_memory.specs.RecoveredFields.{head_recovered, held_of, empty_cache, open_of}
 use Rattle.strat_open.specs.Recovering.{IsRecoveredFrom, ReadsAsSound}
 use Rattle.strat_memory.specs.declared.open_store.OpenStore.{OpenStore}
+use Rattle.strat_memory.specs.declared.open_store.Promoting.{Promoting}
 use Rattle.strat_memory.proofs.FilterLemmas.{none_filtered}
 use Rattle.strat_memory.proofs.OnDiskLemmas.{gate_on}
 use Rattle.strat_memory.proofs.PayingLemmas.{paid_as, stored_since}
@@ -125,12 +126,13 @@ module _ (f : Image) (r : OpenStore) (is : IsRecoveredFrom f r) (t : Table) (sho
     stale_is = subst (λ (h : Head). IsTrue r.journal.stale ↔ IsStale f h.sb.mem h.sb.region (length h.journal)) (sym heads) is.stale;
   }
 
-  pub held_stands : (now : DiskView) (cap : ℕ) → r.filters ≡ replicate 22 no_filters → ContentsStand now opened_contents → StandsWith now (held_of r (empty_cache cap)) opened_contents
-  held_stands now cap unfiltered stands = record {
+  pub held_stands : (now : DiskView) (cap : ℕ) → r.filters ≡ replicate 22 no_filters → r.promoting ≡ None → ContentsStand now opened_contents → StandsWith now (held_of r (empty_cache cap)) opened_contents
+  held_stands now cap unfiltered unbegun stands = record {
     stands = stands;
     held = opened_held (empty_cache cap);
     cached = none_cached stands.content (chained_of r.published).manifest.next_array cap (descriptors (chained_of r.published).manifest);
     filtered = none_filtered opened_contents.levels r.filters unfiltered;
+    open_over = subst (λ (p : Option Promoting). IfSome (option_map open_of p) (IsOpenAt stands.content (held_of r (empty_cache cap)) opened_contents (length r.journal.list))) (sym unbegun) tt;
   }
 
   -- a disk was synced and looked at, and then its images read as these contents
@@ -213,24 +215,25 @@ module _ (before synced read now : DiskView) (r : OpenStore) (syncs : OnlyReads 
   pub opened_as : ((f : Image) (x : Contents) → Exposes read f → IsDurable read → x.sb ≡ super_of r.sb → ReadsAsSound f r.journal.stale x → ContentsStand now x)
       → ((f : Image) → Exposes read f → IsDurable read → length r.journal.list < r.sb.mem → (IsTrue r.journal.stale ↔ IsStale f r.sb.mem r.sb.region (length r.journal.list))
       → (c : Image) → Images now c → c (region_at r.sb.mem (other_region r.sb.region)) ≢ 0xa7)
-      → r.memory.cursors ≡ no_cursors → r.filters ≡ replicate 22 no_filters → ((cached : Blocks) → IsConsistent (held_of r cached)) → (cap : ℕ) → IsOpenedAs before now (held_of r (empty_cache cap))
-  opened_as stands shuts none unfiltered whole cap = record {
+      → r.memory.cursors ≡ no_cursors → r.filters ≡ replicate 22 no_filters → r.promoting ≡ None → ((cached : Blocks) → IsConsistent (held_of r cached)) → (cap : ℕ) → IsOpenedAs before now (held_of r (empty_cache cap))
+  opened_as stands shuts none unfiltered unbegun whole cap = record {
     going = refl;
     closed = none;
     unfiltered = unfiltered;
+    unbegun = ap (option_map open_of) unbegun;
     found = λ f exposed. (found f exposed).head;
     chain = λ f exposed. (found f exposed).chain;
     gate = gate_alone;
     on_disk = λ f exposed.
         let kept = whole (empty_cache cap) in
         let is = found f exposed in
-        gate_on read now (held_of r (empty_cache cap)) f kept.belonging kept.lawful.region_most (looks.same ∙ syncs.same ∙ exposed) (reads_keep_durable synced read looks settled) is.newest is.chain torn passes;
+        gate_on read now (held_of r (empty_cache cap)) f kept.belonging kept.lawful.region_most (looks.same ∙ syncs.same ∙ exposed) (reads_keep_durable synced read looks settled) is.newest is.chain torn passes (ap (option_map open_of) unbegun);
     alone = left_alone;
     shut = λ f exposed few. shuts f (looks.same ∙ syncs.same ∙ exposed) (reads_keep_durable synced read looks settled) few (found f exposed).stale;
     stands = λ f t exposed shows.
         let is = found f exposed in (
           opened_contents f r is t shows,
-          held_stands f r is t shows now cap unfiltered
+          held_stands f r is t shows now cap unfiltered unbegun
               (stands f (opened_contents f r is t shows) (looks.same ∙ syncs.same ∙ exposed) (reads_keep_durable synced read looks settled) (opened_super f r is t shows) (opened_sound f r is t shows)),
           opened_table f r is t shows,
         );

@@ -1,5 +1,5 @@
 -- What a crash leaves of a disk on which a store was opened and carried out commands.
-use Rattle.std.specs.Prelude.{◌≡◌, ◌≢◌, ◌≤◌, ◌<◌, ◌⊎◌, ℕ, List, [], ◌∷◌, length, replicate, Some, false, Ok}
+use Rattle.std.specs.Prelude.{◌≡◌, ◌≢◌, ◌≤◌, ◌<◌, ◌⊎◌, ℕ, List, [], ◌∷◌, length, replicate, None, Some, false, Ok}
 use Rattle.def_crash.specs.Image.{Image, Outside}
 use Rattle.def_crash.specs.Moments.{DiskView, Exposes, Images, Since, KeepsImages}
 use Rattle.def_crash.specs.Trail.{At, Trail}
@@ -49,12 +49,13 @@ pub record ChangesGateAlone (before now : DiskView) (f : Image) (slot : ℕ) (sb
   pub images : (c : Image) → Since now before.moment c
       → Images before c ⊎ Outside (region_at sb.mem (other_region sb.region)) 1 f c
 
--- a store was opened, without cursors and without filters: it holds what recovery finds in the content, and where that shows a table the store stands on the
+-- a store was opened, without cursors, filters and an open promotion: it holds what recovery finds in the content, and where that shows a table the store stands on the
 -- disk with contents that mean it, and a crash leaves that table from the opening's sync on
 pub record IsOpenedAs (before now : DiskView) (s : Held) : Type 0 where
   pub going : s.spent ≡ false
   pub closed : s.memory.cursors ≡ no_cursors
   pub unfiltered : s.filters ≡ replicate 22 no_filters
+  pub unbegun : s.promoting ≡ None
   pub found : (f : Image) → Exposes before f → recover f ≡ Ok (Some (head_held s))
   pub chain : (f : Image) → Exposes before f
       → manifest_at s.sb.format f s.sb.manifest s.sb.length ≡ Ok s.chained

@@ -279,7 +279,7 @@ fn recover_at<D: Disk>(
     ensures found { IfOk result (λ r. (f : Image) → Exposes (D.view disk.old) f
         → newest_in f ≡ Ok (Some (slot, super_of sb)) → IsRecoveredFrom f r) }
     ensures kept { IfOk result (λ r. (cached : Blocks) → IsConsistent (held_of r cached)) }
-    ensures ok { IfOk result (λ r. r.sb ≡ sb) }
+    ensures ok { IfOk result (λ r. (r.sb ≡ sb) × (r.promoting ≡ None)) }
     ensures cursors { IfOk result (λ r. r.memory.cursors ≡ no_cursors) }
     ensures filters { IfOk result (λ r. r.filters ≡ replicate 22 no_filters) }
     ensures damaged { (block : ℕ) → IsErrOf result (Damaged block) → (f : Image)
@@ -298,6 +298,7 @@ fn recover_at<D: Disk>(
         journal,
         memory,
         filters: Filters::new(alloc),
+        promoting: None,
     })
 }
 
@@ -310,6 +311,7 @@ pub(crate) fn recover_store<D: Disk>(alloc: Global, disk: &mut D) -> Result<Open
     ensures found { IfOk result (λ r. (f : Image) → Exposes (D.view disk.old) f
         → IsRecoveredFrom f r) }
     ensures kept { IfOk result (λ r. (cached : Blocks) → IsConsistent (held_of r cached)) }
+    ensures ok { IfOk result (λ r. r.promoting ≡ None) }
     ensures cursors { IfOk result (λ r. r.memory.cursors ≡ no_cursors) }
     ensures filters { IfOk result (λ r. r.filters ≡ replicate 22 no_filters) }
     ensures none { IsErrOf result fault.NotAStore → (f : Image)

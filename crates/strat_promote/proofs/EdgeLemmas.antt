@@ -1,16 +1,18 @@
 -- How a promotion begins, and what is given back at its end.
 use Rattle.std.proofs.Common.{◌≡◌, ℕ, zero, suc, ◌+◌, ◌-◌, ◌<◌, ◌≤◌, true, false, not, is_some, List, [], ◌∷◌, ◌++◌, append-nil, get_or, take, drop, length, map, Option, None, Some, refl, sym, ap, ◌∙◌, subst, arith}
-use Rattle.std.specs.List.{list_all, range_with_len}
+use Rattle.std.specs.List.{list_all, range_with_len, sum}
 use Rattle.std.proofs.lemmas.Grind.{flat_map-append}
-use Rattle.std.proofs.lemmas.List.{length-drop, take-append-drop, take_more, get_or-drop}
+use Rattle.std.proofs.lemmas.List.{length-drop, take-append-drop, take_more, take_all, get_or-drop}
+use Rattle.std.proofs.lemmas.List.Sums.{sum_by_more}
 use Rattle.std.proofs.lemmas.List.Folds.{list_all_at}
-use Rattle.std.proofs.lemmas.List.FromFn.{map-range_with_len_more}
+use Rattle.std.proofs.lemmas.List.FromFn.{map-range_with_len_more, get_or-map-range_with_len, length-map-range_with_len}
 use Rattle.strat_array.specs.Progress.{ArrayProgress}
 use Rattle.strat_base.specs.declared.descriptors.LevelDesc.{LevelDesc}
 use Rattle.strat_extent.specs.Blocks.{SpaceView, times_in, total_len}
 use Rattle.strat_extent.specs.Change.{IsMarked, CanGive}
 use Rattle.strat_extent.proofs.CountLemmas.{times_append, total_append}
 use Rattle.strat_level.specs.Levels.{level_numbered}
+use Rattle.strat_level.specs.Target.{leads_down_to}
 use Rattle.strat_promote.proofs.OpeningLemmas.{level_here}
 use Rattle.strat_promote.specs.Closing.{all_extents}
 use Rattle.strat_promote.specs.Promotions.{is_deepest}
@@ -23,6 +25,34 @@ leads_more f z (suc k) leads some is =
     let down : ◌≡◌ {A = ℕ} (suc k - 1) k = omega arith in
     let same : ◌≡◌ {A = ℕ} (suc k + 1 - 1) (k + 1) = omega arith in
     ap (λ xs. xs ++ f (suc k) ∷ []) (is ∙ ap (λ m. z ∷ map f (range_with_len 1 m)) down) ∙ ap (λ xs. z ∷ xs) (sym last) ∙ ap (λ m. z ∷ map f (range_with_len 1 m)) (sym same)
+
+-- down to a level there are its own leads more than down to the one above it
+down_first : (x : ℕ) (rest : List ℕ) → x ≡ leads_down_to (x ∷ rest) 0
+down_first x rest = omega arith
+
+at_number : (F : ℕ → ℕ) (x k : ℕ) → 1 ≤ k → k < 23 → get_or (x ∷ map F (range_with_len 1 22)) k 0 ≡ F k
+at_number F x zero some few = absurd (omega (arith, some))
+at_number F x (suc i) some few = get_or-map-range_with_len F 1 22 i (suc i) 0 (omega (arith, few)) (omega arith)
+
+pub down_more : (F : ℕ → ℕ) (x k total : ℕ) → 1 ≤ k → k < 23 → total ≡ leads_down_to (x ∷ map F (range_with_len 1 22)) (k - 1)
+    → total + F k ≡ leads_down_to (x ∷ map F (range_with_len 1 22)) (k + 1 - 1)
+down_more F x k total some few is =
+    let L : List ℕ = x ∷ map F (range_with_len 1 22) in
+    let long : length L ≡ 23 = ap suc (length-map-range_with_len F 1 22) in
+    let before : k - 1 + 1 ≡ k = omega (arith, some) in
+    let after : k + 1 - 1 + 1 ≡ k + 1 = omega arith in
+    let more = sum_by_more (λ n. n) L k 0 (omega (arith, few, long)) in
+    let here = at_number F x k some few in
+    let was : total ≡ sum (take k L) = is ∙ ap (λ (n : ℕ). sum (take n L)) before in
+    let now : sum (take (k + 1 - 1 + 1) L) ≡ sum (take (k + 1) L) = ap (λ (n : ℕ). sum (take n L)) after in
+    omega (arith, was, more, here, now)
+
+-- and behind the last one there are none
+pub down_past : (F : ℕ → ℕ) (x j total : ℕ) → 22 ≤ j → total ≡ leads_down_to (x ∷ map F (range_with_len 1 22)) 22 → total ≡ leads_down_to (x ∷ map F (range_with_len 1 22)) j
+down_past F x j total le is =
+    let L : List ℕ = x ∷ map F (range_with_len 1 22) in
+    let long : length L ≡ 23 = ap suc (length-map-range_with_len F 1 22) in
+    is ∙ ap sum (take_all L 23 (omega (arith, long)) ∙ sym (take_all L (j + 1) (omega (arith, long, le))))
 
 all_none : (levels : List (Option LevelDesc)) → ((i : ℕ) → i < length levels → get_or levels i None ≡ None) → list_all (λ level. not (is_some level)) levels ≡ true
 all_none [] none = refl

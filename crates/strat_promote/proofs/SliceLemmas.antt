@@ -76,7 +76,7 @@ pub agree_back : (blocks : List ℕ) (f g : Image) → AgreeOn blocks f g → Ag
 agree_back blocks f g agree = λ b here. let same = agree b here in record { byte = λ i from to. sym (same.byte i from to) }
 
 -- the arrays of a stage of a job have few blocks
-stage_few : (f : Image) (task : Task) (inputs : Inputs) (job : Job) (s : Stage) → IsReadySource task inputs → IsTaskIn f task inputs job → IsSteady task.horizon s → IsUnderway f job task.first s
+pub stage_few : (f : Image) (task : Task) (inputs : Inputs) (job : Job) (s : Stage) → IsReadySource task inputs → IsTaskIn f task inputs job → IsSteady task.horizon s → IsUnderway f job task.first s
     → length (blocks_of (all_extents (stage_writers s))) ≤ 2 ^ 25
 stage_few f task inputs job stage.Begun ready told steady underway = omega arith
 stage_few f task inputs job (stage.Counting c) ready told steady underway = omega arith
@@ -165,6 +165,15 @@ module _ (task : Task) (inputs : Inputs) (limit count : ℕ) (start mid now : Di
       let lt = entry_left g job task.first new went.0 left some in
       (went.0, omega (arith, lt, same), went.1)
 
+  -- what was read of some arrays is so after one more step
+  pub slice_reads : ((f g : Image) → Exposes mid f → Exposes now g → AreUsed t (blocks_listed (arrays_to inputs.levels task.target)) → IsReadOf f (arrays_to inputs.levels task.target) stage
+      → IsReadOf g (arrays_to inputs.levels task.target) new)
+      → (f g : Image) → Exposes start f → Exposes now g → AreUsed s (blocks_listed (arrays_to inputs.levels task.target)) → IsReadOf f (arrays_to inputs.levels task.target) old
+      → IsReadOf g (arrays_to inputs.levels task.target) new
+  slice_reads stays f g told tells blocks reads =
+      let between = still_told start mid f slicing.torn.time told in
+      stays between.0 g between.1 tells (still_used (blocks_listed (arrays_to inputs.levels task.target)) blocks) (slicing.readable f between.0 told between.1 blocks reads)
+
   -- a block that is bad after some steps was bad before
   pub slice_blames : (b : ℕ) → ((f : Image) → Exposes mid f → IsReadOf f (arrays_to inputs.levels task.target) stage → IsBadInput f (arrays_to inputs.levels task.target) b)
       → (f : Image) → Exposes start f → AreUsed s (blocks_listed (arrays_to inputs.levels task.target)) → IsReadOf f (arrays_to inputs.levels task.target) old
@@ -214,9 +223,7 @@ module _ (task : Task) (inputs : Inputs) (limit count : ℕ) (start mid now : Di
               record { near = went.1; ahead = opens f g job went.0 same (ahead (let small = (taken_most g job task.first new went.0).1 in omega (arith, small))) },
               further f g job told tells is blocks underway,
             );
-        readable = λ f g told tells blocks reads.
-            let between = still_told start mid f slicing.torn.time told in
-            stays between.0 g between.1 tells (still_used (blocks_listed (arrays_to inputs.levels task.target)) blocks) (slicing.readable f between.0 told between.1 blocks reads);
+        readable = slice_reads stays;
         due = omega (arith, before, due);
         among = λ from. among (slicing.among from);
       }

@@ -2,6 +2,7 @@
 
 ghost use Rattle.std.specs.List.{sum, sum_by};
 ghost use Rattle.std.specs.Prelude.{◌≡◌, ◌≤◌, ◌-◌, ◌^◌, min, IfOk};
+ghost use Rattle.strat_level.specs.Target.{leads_down_to};
 ghost use Rattle.strat_extent.specs.Change.{IsMarked, CanGive};
 ghost use Rattle.strat_promote.specs.Closing.{all_extents};
 ghost use Rattle.strat_promote.specs.Promotions.{leads_listed, is_deepest};
@@ -24,6 +25,21 @@ pub(crate) fn leads_of(alloc: Global, zero: &Zero, levels: &Levels) -> Result<Ve
         leads.push(levels.leads(number))?;
     }
     Ok(leads)
+}
+
+/// How many leads level 0 has, and the levels down to this one, together. O(levels).
+pub(crate) fn leads_to(zero: &Zero, levels: &Levels, target: usize) -> u64
+    requires fits { sum (leads_listed zero.now.list levels.now) ≤ 2 ^ 24 }
+    ensures ok { result ≡ leads_down_to (leads_listed zero.now.list levels.now) target }
+{
+    let mut total = zero.items().len() as u64;
+    for number in 1..=LEVELS {
+        if number > target {
+            return total;
+        }
+        total += levels.leads(number) as u64;
+    }
+    total
 }
 
 /// Whether no level is deeper than this one. O(levels).

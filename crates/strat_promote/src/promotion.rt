@@ -14,7 +14,7 @@ ghost use Rattle.strat_filter.specs.Keys.{IsFilterOf};
 ghost use Rattle.def_bytes.specs.Arrays.{blocks_of, entries_on};
 ghost use Rattle.strat_promote.specs.declared.obstacle.Obstacle.TheVariants.{Damaged, Device, Unfit};
 
-use crate::edges::{count_entries, give_all, is_deepest, leads_of};
+use crate::edges::{count_entries, give_all, is_deepest, leads_of, leads_to};
 use crate::filters::take_kept;
 use crate::obstacle::Obstacle;
 use crate::slicing::{take_steps, taken_in};
@@ -56,6 +56,7 @@ pub struct Promotion {
 impl Promotion {
     ghost use Rattle.std.specs.Prelude.{◌-◌, min};
     ghost use Rattle.strat_extent.specs.Change.{IsMarked, CanGive};
+    ghost use Rattle.strat_level.specs.Target.{leads_down_to};
     ghost use Rattle.strat_promote.specs.Closing.{AreAllUsed};
     ghost use Rattle.strat_promote.specs.Job.{Job, IsBadInput, arrays_to, blocks_listed};
     ghost use Rattle.strat_promote.specs.Promotions.{IsBegun, IsOpen, IsFed, IsItsJob, HasBegun, IsSliced, MatchProgress, SamePromotion, inputs_given, writers_of, ReadsFrom, ReadsOf, ReadsItsBlocks, FiltersStand, HasMadeTheSame, arrays_promoted, leads_listed, entries_taken, entries_if_any, extents_taken, has_ended, target_of, level_of};
@@ -153,6 +154,11 @@ impl Promotion {
             → AreUsed space.old (blocks_listed (arrays_to levels.now (target_of self.old)))
             → ReadsOf f (arrays_to levels.now (target_of self.old)) self.old
             → IsBadInput f (arrays_to levels.now (target_of self.old)) b) }
+        ensures found { IfOk result (λ p. MatchProgress p ((f g : Image)
+            → Exposes (D.view disk.old) f → Exposes (D.view disk.new) g
+            → AreUsed space.old (blocks_listed (arrays_to levels.now (target_of self.old)))
+            → ReadsOf f (arrays_to levels.now (target_of self.old)) self.old
+            → ReadsOf g (arrays_to levels.now (target_of self.old)) self.new) (Unit {0})) }
         ensures fits { IsErrOf result Unfit → HasAmpleRoom space.old → (f : Image) (job : Job)
             → Exposes (D.view disk.old) f → IsItsJob f self.old
             (inputs_given zero.now.list pool.now levels.now tree.now.parents) job
@@ -182,6 +188,16 @@ impl Promotion {
                 Ok(Progress::Done)
             }
         }
+    }
+
+    /// How many leads level 0 has, and the levels down to the one that it fills. Of those that were given to `begin`, these are
+    /// the entries that each of its two passes goes over. O(levels).
+    pub fn leads(&self, zero: &Zero, levels: &Levels) -> u64
+        requires fits { sum (leads_listed zero.now.list levels.now) ≤ 2 ^ 24 }
+        ensures ok { result
+            ≡ leads_down_to (leads_listed zero.now.list levels.now) (target_of self.now) }
+    {
+        leads_to(zero, levels, self.task.target as usize)
     }
 
     /// How many entries of level 0 and of the arrays it has taken, in both passes together; past the greatest number it

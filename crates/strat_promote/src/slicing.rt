@@ -110,6 +110,12 @@ pub(crate) fn take_steps<D: Disk>(
         → AreUsed space.old (blocks_listed (arrays_to sources.now.levels.now task.now.target))
         → IsReadOf f (arrays_to sources.now.levels.now task.now.target) stage.old
         → IsBadInput f (arrays_to sources.now.levels.now task.now.target) b) }
+    ensures found { IfOk result (λ step. MatchStep step ((f g : Image) → Exposes (D.view disk.old) f
+        → Exposes (D.view disk.new) g
+        → AreUsed space.old (blocks_listed (arrays_to sources.now.levels.now task.now.target))
+        → IsReadOf f (arrays_to sources.now.levels.now task.now.target) stage.old
+        → IsReadOf g (arrays_to sources.now.levels.now task.now.target) stage.new)
+        (λ level. Unit {0})) }
     ensures fits { IsErrOf result Unfit → HasAmpleRoom space.old → (f : Image) (job : Job)
         → Exposes (D.view disk.old) f → IsTaskIn f task.now (inputs_of sources.now) job
         → AreUsed space.old (blocks_listed job.arrays)

@@ -35,7 +35,9 @@ use Rattle.def_publish.proofs.ListLemmas.{contained_among, among_contained}
 use Rattle.def_publish.proofs.OccupiedLemmas.{named_times}
 use Rattle.def_publish.specs.Contents.{Contents, named_blocks}
 use Rattle.def_publish.specs.Next.{arrays_made}
-use Rattle.def_publish.specs.Occupied.{IsSpaceOf, UsesMore, arrays_in, extents_of}
+use Rattle.def_publish.specs.Occupied.{arrays_in, extents_of}
+use Rattle.strat_extent.specs.Change.{IsMarked}
+use Rattle.strat_publish.specs.Promoting.{HasMade}
 use Rattle.def_state.specs.Level.{is_distinct}
 use Rattle.strat_memory.proofs.AdmitLemmas.{extents_lawful}
 use Rattle.strat_memory.proofs.IdLemmas.{ids}
@@ -130,7 +132,7 @@ retired_times (a ∷ arrays) c b = by (is_array_named (retired_all arrays c).ope
 
 -- after a publication no block stands twice among those of the next manifest, of the arrays that were taken, and of those kept
 pub stand_apart : (s : Held) (space after : SpaceView) (target : ℕ) (made : Option LevelDesc) (chain : List Extent) (m : Manifest) → IsConsistent s
-    → IsSpaceOf space (contents_held s []) (extents_of s.memory.cursors.retired) → UsesMore space (chain ++ extents_of (arrays_made made)) after
+    → HasMade s space target made → IsMarked space chain after
     → m ≡ manifest_after s.chained.manifest s.memory target made → StandApart target s (record { manifest = m; blocks = blocks_of chain })
 stand_apart s space after target made chain m whole own more m_is =
     let old : Manifest = s.chained.manifest in
@@ -150,7 +152,7 @@ stand_apart s space after target made chain m whole own more m_is =
         arith,
         used_once after b,
         more.used b,
-        own.used b,
+        own.apart b,
         named_times x b,
         named_times y b,
         ap (λ (xs : List ArrayDesc). times_in (extents_of xs) b) were,
@@ -158,7 +160,6 @@ stand_apart s space after target made chain m whole own more m_is =
         times_both taken behind b,
         times_both (arrays_made made) behind b,
         times_listed chain b,
-        times_append chain (extents_of (arrays_made made)) b,
       );
     }
   where

@@ -27,18 +27,19 @@ use Rattle.def_publish.proofs.ListLemmas.{among_contained}
 use Rattle.def_publish.proofs.LocalLemmas.{manifest_local}
 use Rattle.def_publish.proofs.PlaceLemmas.{places, newest_chosen, newest_local}
 use Rattle.strat_memory.specs.Filters.{LevelFilters}
-use Rattle.strat_memory.specs.Held.{Held, IsConsistent, IsOnDisk, contents_held}
+use Rattle.strat_memory.specs.Held.{HasReadFrom, Held, IsConsistent, IsOnDisk, contents_held}
 use Rattle.strat_publish.specs.Publishing.{IsWrittenTo, LaysSuperblock, WritesManifest}
 use Rattle.strat_publish.specs.Settling.{KeepsPublished, WritesBeside, held_next}
-use Rattle.strat_memory.proofs.OnDiskLemmas.{still_on, told_some, some_told, chain_behind}
+use Rattle.strat_memory.proofs.OnDiskLemmas.{still_on, told_some, some_told, chain_behind, unread}
 
 -- a store that holds the same superblock and manifest
-pub kept_on : (v : DiskView) (s t : Held) → KeepsPublished s t → IsOnDisk v s → IsOnDisk v t
-kept_on v s t same on = record {
+pub kept_on : (v : DiskView) (s t : Held) → KeepsPublished s t → ((f : Image) → Exposes v f → HasReadFrom f t) → IsOnDisk v s → IsOnDisk v t
+kept_on v s t same read on = record {
   content = on.content;
   exposed = on.exposed;
   newest = λ c left. on.newest c left ∙ (λ i. Ok (Some (sym same.slot i, sym same.sb i)));
   chain = λ c left. (λ i. manifest_at (same.sb i).format c (same.sb i).manifest (same.sb i).length) ∙ on.chain c left ∙ (λ i. Ok (sym same.chained i));
+  read = read on.content on.exposed;
 }
 
 -- the slots lie in front of what is free
@@ -51,10 +52,10 @@ slots_same free mem d c behind keeps = record {
 }
 
 -- what was written is free beside what a store holds
-pub beside_on : (v w : DiskView) (s : Held) → WritesBeside v w s → IsOnDisk v s → IsOnDisk w s
-beside_on v w s beside on =
+pub beside_on : (v w : DiskView) (s : Held) → s.promoting ≡ None → WritesBeside v w s → IsOnDisk v s → IsOnDisk w s
+beside_on v w s none beside on =
     let named : List ℕ = named_blocks (contents_held s []) in
-    still_on v w s on beside.tears.time (λ c left.
+    still_on v w s on beside.tears.time (λ f g was now read. unread g s none) (λ c left.
     let one = beside.tears.images c (now_since_start v w c beside.tears.time left) in (
       one.0,
       one.1,
@@ -111,11 +112,11 @@ written_as v w sb is chained here sb_is chained_is written =
     subst (λ (k : Super). WritesManifest v w k.manifest k.length here) (sym sb_is) (subst (λ (ch : Chained). WritesManifest v w sb.manifest sb.length ch) (sym chained_is) written)
 
 -- a superblock that leads to a manifest written beside what a store holds takes its place
-pub published_on : (v w u : DiskView) (s : Held) (target : ℕ) (sb : Super) (chained : Chained) (levels : List (Option LevelDesc)) (made : LevelFilters) → IsConsistent s → sb.format ≡ newest_format → WritesBeside v w s → WritesManifest v w sb.manifest sb.length chained
+pub published_on : (v w u : DiskView) (s : Held) (target : ℕ) (sb : Super) (chained : Chained) (levels : List (Option LevelDesc)) (made : LevelFilters) → IsConsistent s → s.promoting ≡ None → sb.format ≡ newest_format → WritesBeside v w s → WritesManifest v w sb.manifest sb.length chained
     → LeavesContent w → LaysSuperblock w u s.log.mem (1 - s.slot) sb → Passes w u → s.sb.generation < sb.generation → sb.mem ≡ s.sb.mem → belongs sb chained ≡ true
     → IsOnDisk v s → IsOnDisk u (held_next s target sb chained levels made)
-published_on v w u s target sb chained levels made whole format beside written leaves laid time greater mem belonging on =
-    let mid = beside_on v w s beside on in
+published_on v w u s target sb chained levels made whole none format beside written leaves laid time greater mem belonging on =
+    let mid = beside_on v w s none beside on in
     let told = some_told u.content (time.exposed (told_some w.content mid.content mid.exposed)) in
     let g : Image = mid.content in
     let log_mem = whole.log.mem in
@@ -130,4 +131,5 @@ published_on v w u s target sb chained levels made whole format beside written l
           (λ b among.
           let behind = chain_behind (held_next s target sb chained levels made) belonging b among in
           laid.behind g c mid.exposed left b (le-ltb b (first_free s.log.mem) (omega (arith, behind, mem, log_mem))));
+      read = tt;
     }

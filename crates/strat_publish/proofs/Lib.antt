@@ -1,7 +1,10 @@
 pub mod LookLawLemmas
 pub mod NeededLemmas
 pub mod PublishingLemmas
-pub mod PromotingLemmas
+pub mod BeginLemmas
+pub mod SlicingLemmas
+pub mod AdvancingLemmas
+pub mod CheckpointLemmas
 pub mod WritingLemmas
 pub mod ComputingLemmas
 pub mod NextContentsLemmas

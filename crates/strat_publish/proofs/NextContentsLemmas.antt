@@ -1,14 +1,17 @@
 -- The contents that a promotion and the next manifest make.
-use Rattle.std.proofs.Common.{◌≡◌, ◌≤◌, ◌<◌, ℕ, suc, Bool, true, false, cond, leb, ltb, inl, inr, List, [], ◌∷◌, ◌++◌, length, map, filter, drop, Option, Some, refl, sym, ap, ◌∙◌, arith, not, eqb, replicate, None}
+use Rattle.std.proofs.Common.{◌≡◌, ◌≤◌, ◌<◌, ℕ, suc, Bool, true, false, cond, leb, ltb, inl, inr, List, [], ◌∷◌, ◌++◌, append-nil, length, map, flat_map, filter, drop, Option, Some, refl, sym, ap, ◌∙◌, subst, arith, not, eqb, replicate, None}
 use Rattle.std.specs.Option.{option_to_list}
 use Rattle.std.proofs.Math.Seq.{drop-append_seam}
 use Rattle.std.proofs.lemmas.Bool.{and_parts, cases_lt, lt-leb, le-leb, lt-ltb, le-ltb, ltb-true, not-true, eqb-true}
+use Rattle.strat_base.proofs.ListFacts.{Among, among_flat}
+use Rattle.strat_base.specs.declared.descriptors.ArrayDesc.{ArrayDesc}
 use Rattle.strat_base.specs.declared.descriptors.Extent.{Extent}
 use Rattle.strat_base.specs.declared.descriptors.LevelDesc.{LevelDesc}
 use Rattle.def_crash.specs.Image.{Image}
 use Rattle.def_crash.specs.Moments.{DiskView}
+use Rattle.strat_extent.proofs.CountLemmas.{times_append}
 use Rattle.strat_extent.specs.Blocks.{SpaceView, is_free}
-use Rattle.def_bytes.specs.Arrays.{all_some}
+use Rattle.def_bytes.specs.Arrays.{all_some, blocks_of}
 use Rattle.def_bytes.specs.Manifest.{Manifest, is_lawful_manifest, is_rising}
 use Rattle.def_bytes.proofs.ManifestLemmas.{pass_at}
 use Rattle.strat_journal.specs.Log.{Log}
@@ -23,12 +26,12 @@ use Rattle.def_publish.proofs.LocalLemmas.{levels_local}
 use Rattle.def_publish.proofs.PlaceLemmas.{newest_fits}
 use Rattle.def_publish.proofs.PromotedLemmas.{sealed_ordered}
 use Rattle.def_slice.proofs.LastLemmas.{last_promotes}
-use Rattle.def_publish.proofs.OccupiedLemmas.{array_blocks_used, taken_beside, free_beside}
+use Rattle.def_publish.proofs.OccupiedLemmas.{free_beside}
 use Rattle.def_publish.specs.Appending.{IsLogOf}
 use Rattle.def_publish.specs.Contents.{Contents, contents_head, contents_state, later_part, sealed_state}
 use Rattle.strat_promote.specs.Replacing.{LeavesTheSame}
 use Rattle.def_publish.specs.Next.{AreNewArrays, IsNextOf, IsPromotion, MayBeNext, arrays_made}
-use Rattle.def_publish.specs.Occupied.{IsSpaceOf, extents_of}
+use Rattle.def_publish.specs.Occupied.{IsSpaceOf, arrays_in, extents_of}
 use Rattle.def_publish.specs.Standing.{ContentsStand, ReadsAs}
 use Rattle.def_state.specs.Level.{Level}
 use Rattle.def_state.specs.Sound.{IsSound, is_tree, is_tree_from}
@@ -39,6 +42,7 @@ use Rattle.def_bytes.specs.Layout.{newest_format}
 use Rattle.strat_base.specs.Marks.{Marks, none_dropped}
 use Rattle.strat_base.specs.Tree.{Parents}
 use Rattle.strat_publish.proofs.SealedLemmas.{oldest_counts, parents_then, undropped_front}
+use Rattle.strat_publish.proofs.SettlingLemmas.{extents_have, used_not_free}
 use Rattle.def_state.proofs.SoundLemmas.{ordered, sound_tree, sound_pruned}
 use Rattle.def_promote.proofs.LevelsLemmas.{tree_test}
 
@@ -184,22 +188,28 @@ module _ (c : Image) (old new : Contents) (target : ℕ) (made : Option LevelDes
       promotion_next c c old new made (descs_to target old.chained.manifest.levels) (descs_behind target old.chained.manifest.levels)
       reads (omega (arith, full, (newest_fits c old.slot old.sb reads.newest).mem_least)) sound next numbered promotion_here
 
+-- an array of the level that was made has blocks that are used beside contents
+made_in_use : (t : SpaceView) (x : Contents) (made : Option LevelDesc) (besides : List Extent) (b : ℕ) → IsSpaceOf t x (extents_of (arrays_made made) ++ besides)
+    → Among b (flat_map (λ (a : ArrayDesc). blocks_of a.extents) (arrays_in (option_to_list made))) → is_free t b ≡ false
+made_in_use t x made besides b is among =
+    let at = among_flat (λ (a : ArrayDesc). blocks_of a.extents) (arrays_in (option_to_list made)) b among in
+    let some = extents_have (arrays_made made) at.0 b (subst (λ (ds : List ArrayDesc). Among at.0 ds) (by_made made) at.1) at.2 in
+    used_not_free t b (omega (arith, some, is.used b, times_append (extents_of (arrays_made made)) besides b))
+  where
+    by_made : (o : Option LevelDesc) → flat_map (λ (l : LevelDesc). l.arrays) (option_to_list o) ≡ arrays_made o
+    by_made None = refl
+    by_made (Some level) = append-nil level.arrays
+
 -- what was written beside contents is computed
-module _ (v w u : DiskView) (s t r : SpaceView) (old new : Contents) (target : ℕ) (made : Option LevelDesc) (besides others : List Extent) (b : IsWrittenBeside v w u s t r old new target made besides others)
+module _ (w u : DiskView) (t r : SpaceView) (old new : Contents) (target : ℕ) (made : Option LevelDesc) (besides others : List Extent) (b : IsWrittenBeside w u t r old new target made besides others)
     (rising : is_rising (map (λ (d : LevelDesc). d.number) old.chained.manifest.levels) ≡ true) (log : Log) (is_log : IsLogOf old log) where
-  between : ContentsStand w old
-  between = free_stands (is_free s) old (free_beside s old besides b.space) v w b.promoting b.stands b.between
-
-  space_between : IsSpaceOf t old (extents_of (arrays_made made) ++ besides)
-  space_between = taken_beside s t old besides (extents_of (arrays_made made)) b.space b.taken
-
   at_end : ContentsStand u old
-  at_end = free_stands (is_free t) old (free_beside t old (extents_of (arrays_made made) ++ besides) space_between) w u b.writing between b.after
+  at_end = free_stands (is_free t) old (free_beside t old (extents_of (arrays_made made) ++ besides) b.space) w u b.writing b.stands b.after
 
   made_read : all_some (level_on at_end.content) (option_to_list made) ≡ Some b.promoted.last.says.fresh
   made_read =
-      levels_local b.content at_end.content (option_to_list made) (λ c among.
-      b.writing.content b.content at_end.content b.exposed at_end.exposed c (array_blocks_used s t made c b.taken among))
+      levels_local b.stands.content at_end.content (option_to_list made) (λ c among.
+      b.writing.content b.stands.content at_end.content b.stands.exposed at_end.exposed c (made_in_use t old made besides c b.space among))
       ∙ b.promoted.last.says.read
 
   pub computed : IsComputed u new.slot new.sb log old new

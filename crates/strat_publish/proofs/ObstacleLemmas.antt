@@ -58,3 +58,19 @@ module _ {U : Type 0} (r : Result U Obstacle) (o : Obstacle) (told : IsErrAnd r 
       let both : Err o ≡ Err (Damaged b) = sym result_is ∙ is in
       let e : o ≡ Damaged b = cc in
       not_damaged o b short e
+
+-- a fault of the device is not told as want of memory, and no bound was reached
+pub device_short : {T : Type 0} (r : Result T Obstacle) → IsErrAnd r (λ e. e ≡ Device) → IsErrAnd r (λ e. told_as e ≡ trouble.NoMemory) → ⊥
+device_short r told short =
+    let p = err_from_is_err_and r told in
+    let here : told_as p.0 ≡ trouble.NoMemory = subst (λ (x : Result _ Obstacle). IsErrAnd x (λ e. told_as e ≡ trouble.NoMemory)) p.1 short in
+    let none : trouble.Device ≡ trouble.NoMemory = sym (ap told_as p.2) ∙ here in
+    cc
+
+pub device_fit : {T : Type 0} (r : Result T Obstacle) → IsErrAnd r (λ e. e ≡ Device) → IsErrOf r Unfit → ⊥
+device_fit r told unfit =
+    let p = err_from_is_err_and r told in
+    let same : Err p.0 ≡ Err Unfit = sym p.1 ∙ unfit in
+    let e : p.0 ≡ Unfit = cc in
+    let both : Device ≡ Unfit = sym p.2 ∙ e in
+    cc

@@ -27,7 +27,6 @@ use Rattle.def_bytes.specs.Damage.{put_first}
 use Rattle.def_bytes.specs.Layout.{first_free, newest_format}
 use Rattle.def_bytes.specs.Manifest.{Manifest}
 use Rattle.strat_level.specs.Levels.{desc_for, is_for}
-use Rattle.strat_promote.specs.Spaces.{HasAmpleRoom}
 use Rattle.def_recovery.proofs.OpeningLemmas.{manifest_tests, map_some}
 use Rattle.def_recovery.proofs.PassedLemmas.{belonging_tests}
 use Rattle.def_recovery.specs.Head.{descriptors}
@@ -156,7 +155,7 @@ kept_named s whole b = by (times_in (extents_of retired) b) refl
 pub ample_room : (s : Held) (space : SpaceView) (free : ℕ) (chain : List Extent) → IsConsistent s → blocks_of chain ≡ s.chained.blocks
     → IsSpaceOf space (contents_held s []) (extents_of s.memory.cursors.retired) → length s.memory.cursors.opened ≤ 64 → length s.chained.blocks ≤ 2 ^ 21
     → free ≡ 4294967295 - space.first - used_count space
-    → ((xs : List Extent) → ((b : ℕ) → uses space b ≤ times_in xs b) → 4294967295 ≤ space.first + total_len xs + free) → HasAmpleRoom space
+    → ((xs : List Extent) → ((b : ℕ) → uses space b ≤ times_in xs b) → 4294967295 ≤ space.first + total_len xs + free) → space.first + used_count space + 2 ^ 30 < 4294967295
 ample_room s space free chain whole chain_is own few short counted least =
     let x : Contents = contents_held s [] in
     let levels : List Extent = extents_of (descriptors s.chained.manifest) in
@@ -182,7 +181,7 @@ ample_room s space free chain whole chain_is own few short counted least =
     let low : space.first ≤ 8192 = omega (arith, first, journal) in
     left_over space.first (used_count space) free (total_len (chain ++ (levels ++ named))) counted most low all
   where
-    left_over : (f used n total : ℕ) → n ≡ 4294967295 - f - used → 4294967295 ≤ f + total + n → f ≤ 8192 → total ≤ 2 ^ 21 + 2 ^ 25 + 2 ^ 31 → f + used + 2 ^ 29 < 4294967295
+    left_over : (f used n total : ℕ) → n ≡ 4294967295 - f - used → 4294967295 ≤ f + total + n → f ≤ 8192 → total ≤ 2 ^ 21 + 2 ^ 25 + 2 ^ 31 → f + used + 2 ^ 30 < 4294967295
     left_over f used n total is least' low all = omega (arith, is, least', low, all)
 
     low_first : (mem : ℕ) → mem ≤ 4096 → first_free mem ≤ 8192

@@ -2,7 +2,7 @@
 use Rattle.std.proofs.Common.{◌≡◌, ◌≤◌, ◌-◌, ◌*◌, ℕ, Bool, true, false, eqb, ◌&&◌, ◌||◌, inl, inr, ◌⊎◌, List, [], ◌∷◌, ◌++◌, length, Contains, ◌+◌, drop, take, flat_map, fold, map, Option, None, Some, refl, sym, ap, ◌∙◌, subst, arith, true≢false}
 use Rattle.std.specs.List.{list_all}
 use Rattle.std.specs.Option.{option_to_list}
-use Rattle.std.specs.Prelude.{filter_map, is_some}
+use Rattle.std.specs.Prelude.{IfSome, filter_map, is_some}
 use Rattle.std.proofs.lemmas.List.{length-append, length-drop, take-append-drop}
 use Rattle.std.proofs.lemmas.List.Folds.{list_all-append}
 use Rattle.std.proofs.lemmas.List.Sums.{fold-append}
@@ -56,17 +56,22 @@ use Rattle.strat_publish.proofs.SealedLemmas.{oldest_counts, parents_then, undro
 use Rattle.strat_publish.proofs.SettlingLemmas.{listed_arrays, named_there}
 use Rattle.strat_publish.specs.Outcomes.{IsDamagedIn, IsPublishedAs}
 use Rattle.strat_memory.specs.Filters.{LevelFilters, filters_after}
-use Rattle.strat_memory.specs.Held.{Held, AreKept, ArePlaced, IsConsistent, StandsWith, arrays_held, contents_held, head_held}
+use Rattle.strat_extent.specs.Blocks.{times_in}
+use Rattle.def_publish.specs.Occupied.{extents_of}
+use Rattle.def_slice.specs.Opened.{OpenPromotion}
+use Rattle.strat_memory.proofs.OpenLemmas.{still_going, still_open}
+use Rattle.strat_memory.specs.Held.{Held, AreKept, ArePlaced, IsConsistent, IsOpenAt, MayGoOnWith, StandsWith, arrays_held, contents_held, head_held}
 use Rattle.strat_cursor.specs.Cursors.{retired_all}
 use Rattle.strat_cursor.specs.Held.{HeldCursors}
 use Rattle.strat_cursor.specs.Looking.{AreCachedFrom, arrays_there}
-use Rattle.strat_memory.specs.Memory.{Memory, IsMemoryOf, IsReadyFrom, emptied, head_full, renewed, unsealed}
+use Rattle.strat_memory.specs.Memory.{Memory, SealedLevel, IsMemoryOf, IsReadyFrom, emptied, head_full, renewed, unsealed}
 use Rattle.strat_publish.specs.Publishing.{is_in_front}
 use Rattle.strat_publish.specs.Settling.{held_next, contents_next, MayFollow, StandApart, WritesBeside, IsReadied, ArePublishedAfter, ArePublishedTo, arrays_taken}
 
--- a store keeps what it holds as its memory is another of its head, with the cursors that it had
-memory_kept : (s : Held) (m : Memory) → IsMemoryOf (head_held s) m → m.cursors ≡ record s.memory.cursors { room = m.cursors.room } → IsConsistent s → IsConsistent (record s { memory = m })
-memory_kept s m of cursors whole =
+-- a store keeps what it holds beside a promotion as its memory is another of its head, with the cursors that it had
+memory_kept : (s : Held) (m : Memory) (p : Option OpenPromotion) → p ≡ None → IsMemoryOf (head_held s) m → m.cursors ≡ record s.memory.cursors { room = m.cursors.room } → IsConsistent s
+    → IsConsistent (record s { memory = m; promoting = p })
+memory_kept s m p none of cursors whole =
     let k : Memory = record m { cursors = record s.memory.cursors { room = m.cursors.room } } in
     let here : AreKept s.sb s.chained s.levels k = record {
       named = whole.kept.named;
@@ -88,13 +93,44 @@ memory_kept s m of cursors whole =
       memory = of;
       placed = whole.placed;
       kept = subst (λ (j : Memory). AreKept s.sb s.chained s.levels j) same here;
+      going = subst (λ (q : Option OpenPromotion). IfSome q (MayGoOnWith (record s { memory = m; promoting = p }))) (sym none) tt;
     }
 
-pub consistent_ready : (s : Held) (m : Memory) → IsReadyFrom s.sb.mem s.memory m → s.sb.mem ≤ length s.log.list → IsConsistent s → IsConsistent (record s { memory = m })
-consistent_ready s m is full whole = memory_kept s m (ready_of (head_held s) s.memory m is full whole.memory) (ready_cursors s.sb.mem s.memory m is) whole
+pub consistent_ready : (s : Held) (m : Memory) (p : Option OpenPromotion) → p ≡ None → IsReadyFrom s.sb.mem s.memory m → s.sb.mem ≤ length s.log.list → IsConsistent s → IsConsistent (record s { memory = m; promoting = p })
+consistent_ready s m p none is full whole = memory_kept s m p none (ready_of (head_held s) s.memory m is full whole.memory) (ready_cursors s.sb.mem s.memory m is) whole
 
-pub stands_ready : (v : DiskView) (s : Held) (x : Contents) (m : Memory) → StandsWith v s x → StandsWith v (record s { memory = m }) x
-stands_ready v s x m w = record { stands = w.stands; held = w.held; cached = w.cached; filtered = w.filtered }
+pub stands_ready : (v : DiskView) (s : Held) (x : Contents) (m : Memory) (p : Option OpenPromotion) → p ≡ None → StandsWith v s x → StandsWith v (record s { memory = m; promoting = p }) x
+stands_ready v s x m p none w = record {
+  stands = w.stands;
+  held = w.held;
+  cached = w.cached;
+  filtered = w.filtered;
+  open_over = subst (λ (q : Option OpenPromotion). IfSome q (IsOpenAt w.stands.content (record s { memory = m; promoting = p }) x (length s.log.list))) (sym none) tt;
+}
+
+-- what is sealed stays so as memory is made ready
+pub ready_sealed : (mem : ℕ) (m k : Memory) (z : SealedLevel) → m.sealed ≡ Some z → IsReadyFrom mem m k → k.sealed ≡ m.sealed
+ready_sealed mem m k z is (inl same) = ap (λ (j : Memory). j.sealed) same
+ready_sealed mem m k z is (inr same) = let none : None ≡ Some z = sym same.0 ∙ is in absurd (cc)
+
+-- so the open promotion, which is taken out of the store, goes on beside it
+pub going_ready : (s : Held) (m : Memory) (n : Option OpenPromotion) → IsReadyFrom s.sb.mem s.memory m → IfSome s.promoting (MayGoOnWith s) → IfSome s.promoting (MayGoOnWith (record s { memory = m; promoting = n }))
+going_ready s m n is going = by s.promoting going
+  where
+    by : (p : Option OpenPromotion) → IfSome p (MayGoOnWith s) → IfSome p (MayGoOnWith (record s { memory = m; promoting = n }))
+    by None was = tt
+    by (Some o) was =
+        let fewer : (b : ℕ) → times_in (extents_of m.cursors.retired) b ≤ times_in (extents_of s.memory.cursors.retired) b =
+        λ b. omega (arith, ap (λ (c : HeldCursors). times_in (extents_of c.retired) b) (ready_cursors s.sb.mem s.memory m is)) in
+        still_going s m n s.cached o (ready_sealed s.sb.mem s.memory m was.sealed was.sealed_is is) fewer was
+
+pub open_ready : (f : Image) (s : Held) (x : Contents) (fill : ℕ) (m : Memory) (n : Option OpenPromotion) → IsReadyFrom s.sb.mem s.memory m → IfSome s.promoting (IsOpenAt f s x fill)
+    → IfSome s.promoting (IsOpenAt f (record s { memory = m; promoting = n }) x fill)
+open_ready f s x fill m n is over = by s.promoting over
+  where
+    by : (p : Option OpenPromotion) → IfSome p (IsOpenAt f s x fill) → IfSome p (IsOpenAt f (record s { memory = m; promoting = n }) x fill)
+    by None was = tt
+    by (Some o) was = still_open f s x fill m n s.cached o (ready_sealed s.sb.mem s.memory m was.sealed was.sealed_is is) was
 
 ready_arrays : (mem : ℕ) (m k : Memory) (levels : List (Option LevelDesc)) → IsReadyFrom mem m k → arrays_held k levels ≡ arrays_held m levels
 ready_arrays mem m k levels is = ap (λ (c : HeldCursors). arrays_there levels ++ c.retired) (ready_cursors mem m k is)
@@ -172,8 +208,8 @@ cached_on f g next later arrays after c le each cached = record {
 }
 
 -- memory ran out after some blocks were written
-pub stands_beside : (v w : DiskView) (s : Held) (x : Contents) → StandsWith v s x → WritesBeside v w s → LeavesContent w → StandsWith w s x
-stands_beside v w s x stands beside leaves =
+pub stands_beside : (v w : DiskView) (s : Held) (x : Contents) → s.promoting ≡ None → StandsWith v s x → WritesBeside v w s → LeavesContent w → StandsWith w s x
+stands_beside v w s x none stands beside leaves =
     let now : ContentsStand w x = free_stands beside.free x (free_here v w s x stands beside) v w beside.tears stands.stands leaves in
     record {
       stands = now;
@@ -185,6 +221,7 @@ stands_beside v w s x stands beside leaves =
                 beside.tears.content stands.stands.content now.content stands.stands.exposed now.exposed b (beside.beside.unnamed b (array_named s a b of here)),
           )) stands.cached;
       filtered = stands.filtered;
+      open_over = subst (λ (p : Option OpenPromotion). IfSome p (IsOpenAt now.content s x (length s.log.list))) (sym none) tt;
     }
 
 -- no block of an array that a store holds is free
@@ -288,6 +325,7 @@ published_as v w u s x target sb chained levels made whole stands beside ready f
             ])
             stands.cached;
         filtered = ready.filtered;
+        open_over = tt;
       };
       table = same_table (contents_state x) (contents_state (contents_next s sb chained ready.levels)) ready.computed.says;
     }
@@ -384,6 +422,7 @@ consistent_next s target sb chained levels made whole some full follows are spel
           };
       placed = placed;
       kept = kept_next s target sb chained levels whole are follows.mem spelled belonging placed apart;
+      going = tt;
     }
 
 -- the arrays of a sound state are read whole, in order, and have as many leads as their descriptors say
@@ -430,13 +469,13 @@ none_damaged v s x b whole stands bad =
     none_bad f levels st b arrays read stands.stands.sound at (bad f stands.stands.exposed)
 
 -- and what is found of a store after a publication
-pub found_next : (s t : Held) (m : Memory) (target : ℕ) (sb : Super) (chained : Chained) (levels : List (Option LevelDesc)) (made : LevelFilters) → IsReadyFrom s.sb.mem s.memory m
+pub found_next : (s t : Held) (m : Memory) (p : Option OpenPromotion) (target : ℕ) (sb : Super) (chained : Chained) (levels : List (Option LevelDesc)) (made : LevelFilters) → IsReadyFrom s.sb.mem s.memory m
     → is_some m.sealed ≡ true → s.sb.mem ≤ length s.log.list → IsConsistent s → 1 ≤ target
-    → t ≡ held_next (record s { memory = m }) target sb chained levels made → ArePublishedTo target s.sb s.chained.manifest m sb chained.manifest
+    → t ≡ held_next (record s { memory = m; promoting = p }) target sb chained levels made → ArePublishedTo target s.sb s.chained.manifest m sb chained.manifest
     → (t.slot ≡ 1 - s.slot) × ArePublishedAfter s.sb s.chained.manifest s.memory s.filters t.sb t.chained.manifest t.memory.cursors t.filters × (t.log.list ≡ drop s.sb.mem s.log.list)
     × (t.memory ≡ record (unsealed s.memory) { entries = t.memory.entries; spare = t.memory.spare; ready = t.memory.ready; cursors = t.memory.cursors })
     × (s.memory.sealed ≡ None → t.memory ≡ record (emptied s.sb.mem s.memory) { cursors = t.memory.cursors })
-found_next s t m target sb chained levels made same some full whole low is are =
+found_next s t m p target sb chained levels made same some full whole low is are =
     let gone : List ArrayDesc = arrays_taken target s.chained.manifest in
     let memory : t.memory ≡ renewed gone m = ap (λ (h : Held). h.memory) is in (
       ap (λ (h : Held). h.slot) is,

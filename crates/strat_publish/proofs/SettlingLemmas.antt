@@ -3,7 +3,6 @@ use Rattle.std.proofs.Common.{◌≡◌, ◌≤◌, ◌<◌, ◌-◌, ◌^◌, �
 use Rattle.std.specs.List.{list_all, range_with_len}
 use Rattle.std.proofs.lemmas.Bool.{and_parts, leb-true, le-leb, lt-ltb, not-true, false_from_ne_true}
 use Rattle.std.proofs.lemmas.List.Elements.{Contains-append_right}
-use Rattle.strat_array.specs.Taking.{AreUsed}
 use Rattle.strat_base.proofs.ListFacts.{Among, all_at, all_from, each_of, among_flat, among_in_flat, among_left, range_among}
 use Rattle.strat_base.specs.declared.descriptors.ArrayDesc.{ArrayDesc}
 use Rattle.strat_base.specs.declared.descriptors.Extent.{Extent}
@@ -23,13 +22,13 @@ use Rattle.def_bytes.specs.Manifest.{Manifest, is_lawful_extent}
 use Rattle.def_bytes.proofs.ManifestLemmas.{pass_at}
 use Rattle.def_bytes.specs.SuperBlock.{Super}
 use Rattle.strat_journal.specs.Log.{Log}
-use Rattle.strat_promote.specs.Job.{IsBadInput, blocks_listed}
+use Rattle.strat_promote.specs.Job.{blocks_listed}
 use Rattle.def_recovery.specs.Head.{descriptors}
 use Rattle.def_recovery.specs.Opening.{has_own_blocks}
 use Rattle.def_split.proofs.ListLemmas.{among_map}
 use Rattle.def_publish.proofs.ListLemmas.{contained_among, among_contained}
 use Rattle.def_publish.proofs.BelongLemmas.{next_belongs}
-use Rattle.def_publish.proofs.OccupiedLemmas.{counted_some, free_beside, named_used, own_blocks, taken_beside}
+use Rattle.def_publish.proofs.OccupiedLemmas.{counted_some, own_blocks, taken_beside}
 use Rattle.def_recovery.proofs.PassedLemmas.{belonging_tests, read_passes}
 use Rattle.def_publish.proofs.PartsLemmas.{reads_state}
 use Rattle.def_publish.specs.Contents.{Contents, contents_state, named_blocks}
@@ -37,7 +36,7 @@ use Rattle.def_publish.specs.Next.{AreNewArrays, arrays_made}
 use Rattle.def_publish.specs.Occupied.{IsSpaceOf, UsesMore, arrays_in, extents_of}
 use Rattle.def_state.specs.Level.{Level}
 use Rattle.def_state.specs.State.{IsPaid}
-use Rattle.strat_publish.specs.Outcomes.{IsDamagedIn}
+use Rattle.strat_publish.specs.Promoting.{StandsMade}
 use Rattle.strat_memory.specs.Filters.{LevelFilters, filters_after}
 use Rattle.strat_memory.specs.Held.{Held, ArePlaced, IsConsistent, StandsWith, contents_held}
 use Rattle.strat_cursor.specs.Looking.{arrays_there}
@@ -71,20 +70,6 @@ used_not_free s b some = false_from_ne_true (is_free s b) (λ free.
     let none : uses s b ≡ 0 = ap {B = ℕ} (λ (u : Bool). cond u 1 0) no in
     omega (arith, some, none))
 
--- what was written is free in a space in which the blocks of a store are used
-pub written_free : (v w : DiskView) (s : Held) (space : SpaceView) → IsSpaceOf space (contents_held s []) (extents_of s.memory.cursors.retired) → TearsBlocks (is_free space) v w → WritesBeside v w s
-written_free v w s space own torn =
-    let retired : List ArrayDesc = s.memory.cursors.retired in
-    record {
-      free = is_free space;
-      beside = free_beside space (contents_held s []) (extents_of retired) own;
-      retired = λ a b of here.
-          let some = extents_have retired a b (contained_among retired a of) (contained_among (blocks_of a.extents) b here) in
-          let all = own.used b in
-          used_not_free space b (omega (arith, some, all));
-      tears = torn;
-    }
-
 -- the blocks of a store and those of the arrays that are kept
 pub space_held : (s t : SpaceView) (x : Contents) (retired : List ArrayDesc) → IsSpaceOf s x [] → UsesMore s (extents_of retired) t → IsSpaceOf t x (extents_of retired)
 space_held s t x retired own more = subst (IsSpaceOf t x) (append-nil (extents_of retired)) (taken_beside s t x [] (extents_of retired) own more)
@@ -106,31 +91,16 @@ named_there s placed b of =
     Contains-append_right s.chained.blocks (blocks_listed (descriptors s.chained.manifest)) b
     (subst (λ (rs : List ArrayDesc). Contains (blocks_listed rs) b) (listed_arrays s placed) of)
 
-pub used_held : (s : Held) (space : SpaceView) (others : List Extent) → IsSpaceOf space (contents_held s []) others → ArePlaced s.chained.manifest.levels s.levels → AreUsed space (blocks_listed (arrays_there s.levels))
-used_held s space others own placed b of =
-    let x : Contents = contents_held s [] in
-    named_used space x others own b (contained_among (named_blocks x) b (named_there s placed b of))
-
--- the block that a promotion blames is damaged
-pub blames_held : (v : DiskView) (s : Held) (space : SpaceView) (others : List Extent) (b : ℕ) → IsSpaceOf space (contents_held s []) others → ArePlaced s.chained.manifest.levels s.levels
-    → Contains (blocks_listed (arrays_there s.levels)) b
-    × ((f : Image) → Exposes v f → AreUsed space (blocks_listed (arrays_there s.levels)) → IsBadInput f (arrays_there s.levels) b)
-    → IsDamagedIn v.content s.memory s.levels b
-blames_held v s space others b own placed told = record {
-  listed = listed_left (arrays_there s.levels) s.memory.cursors.retired b told.0;
-  bad = λ f exposed. inr (told.1 f exposed (used_held s space others own placed));
-}
-
 -- the next contents are computed where a store stands, and are those of the next superblock and manifest
-pub readied : (v w : DiskView) (s : Held) (x : Contents) (space after : SpaceView) (old_chain others : List Extent) (target : ℕ) (made : Option LevelDesc) (first size : ℕ) (chain : List Extent) (m : Manifest) (filters : LevelFilters)
-    → IsConsistent s → StandsWith v s x → s.sb.mem ≤ length s.log.list → blocks_of old_chain ≡ s.chained.blocks → ((levels : List Level) → IsSpaceOf space (contents_held s levels) others)
-    → ((y : Contents) (log : Log) (besides : List Extent) → MayCompute v space s.memory s.levels log y besides → y.chained.manifest ≡ s.chained.manifest → y.sb.mem ≡ s.sb.mem
+pub readied : (v w : DiskView) (s : Held) (x : Contents) (space after : SpaceView) (old_chain : List Extent) (target : ℕ) (made : Option LevelDesc) (first size : ℕ) (chain : List Extent) (m : Manifest) (filters : LevelFilters)
+    → IsConsistent s → StandsMade v s x space target made filters → s.sb.mem ≤ length s.log.list → blocks_of old_chain ≡ s.chained.blocks
+    → ((y : Contents) (log : Log) (besides : List Extent) → MayCompute v space s.memory log y target made filters besides → y.chained.manifest ≡ s.chained.manifest
     → IsComputedBy w after y s.memory log target made first size chain besides filters)
     → m ≡ manifest_after s.chained.manifest s.memory target made
     → IsReadied w s x (super_after s.sb first size) (record { manifest = m; blocks = blocks_of chain }) (filters_after s.filters target filters) × AreNewArrays s.chained.manifest.next_array (arrays_made made)
-readied v w s x space after old_chain others target made first size chain m filters whole stands full chain_is own by m_is =
-    let here : IsSpaceOf space x others = subst (λ (y : Contents). IsSpaceOf space y others) (sym stands.held) (own x.levels) in
-    let c = by x s.log others (whole_computes v s x old_chain others space whole stands full chain_is here) (ap (λ (y : Contents). y.chained.manifest) stands.held) (ap (λ (y : Contents). y.sb.mem) stands.held) in
+readied v w s x space after old_chain target made first size chain m filters whole st full chain_is by m_is =
+    let stands = st.stands in
+    let c = by x s.log st.beside.others (whole_computes v s x old_chain space target made filters whole st full chain_is) (ap (λ (y : Contents). y.chained.manifest) stands.held) in
     let new : Contents = contents_after x s.memory target made c.levels first size (blocks_of chain) in
     let sb = super_after s.sb first size in
     let same : new ≡ contents_next s sb (record { manifest = m; blocks = blocks_of chain }) c.levels =
@@ -150,13 +120,12 @@ readied v w s x space after old_chain others target made first size chain m filt
       subst (λ (y : Contents). AreNewArrays y.chained.manifest.next_array (arrays_made made)) stands.held c.fresh,
     )
 
--- where a store stands it may compute, so what no store that may compute meets it doesn't meet
-pub computes_all : (v : DiskView) (s : Held) (x : Contents) (space : SpaceView) (old_chain others : List Extent) → IsConsistent s → StandsWith v s x → s.sb.mem ≤ length s.log.list → blocks_of old_chain ≡ s.chained.blocks
-    → ((levels : List Level) → IsSpaceOf space (contents_held s levels) others)
-    → ((y : Contents) (log : Log) (besides : List Extent) → MayCompute v space s.memory s.levels log y besides → y.chained.manifest ≡ s.chained.manifest → y.sb.mem ≡ s.sb.mem → ⊥) → ⊥
-computes_all v s x space old_chain others whole stands full chain_is own never =
-    let here : IsSpaceOf space x others = subst (λ (y : Contents). IsSpaceOf space y others) (sym stands.held) (own x.levels) in
-    never x s.log others (whole_computes v s x old_chain others space whole stands full chain_is here) (ap (λ (y : Contents). y.chained.manifest) stands.held) (ap (λ (y : Contents). y.sb.mem) stands.held)
+-- where a level was made of what a store stands with it may compute, so what no store that may compute meets it doesn't meet
+pub computes_all : (v : DiskView) (s : Held) (x : Contents) (space : SpaceView) (old_chain : List Extent) (target : ℕ) (made : Option LevelDesc) (filters : LevelFilters) → IsConsistent s
+    → StandsMade v s x space target made filters → s.sb.mem ≤ length s.log.list → blocks_of old_chain ≡ s.chained.blocks
+    → ((y : Contents) (log : Log) (besides : List Extent) → MayCompute v space s.memory log y target made filters besides → y.chained.manifest ≡ s.chained.manifest → ⊥) → ⊥
+computes_all v s x space old_chain target made filters whole st full chain_is never =
+    never x s.log st.beside.others (whole_computes v s x old_chain space target made filters whole st full chain_is) (ap (λ (y : Contents). y.chained.manifest) st.stands.held)
 
 -- the blocks of its chain have numbers
 pub chain_numbered : (v : DiskView) (s : Held) (x : Contents) → IsConsistent s → StandsWith v s x → list_all (λ b. ltb b 4294967295) s.chained.blocks ≡ true

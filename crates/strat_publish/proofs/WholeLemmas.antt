@@ -14,7 +14,7 @@ use Rattle.strat_base.specs.declared.descriptors.ArrayDesc.{ArrayDesc}
 use Rattle.strat_base.specs.declared.descriptors.Extent.{Extent}
 use Rattle.strat_base.specs.declared.descriptors.LevelDesc.{LevelDesc}
 use Rattle.strat_base.specs.declared.limits.TheConstants.{LEVELS}
-use Rattle.def_bytes.specs.Manifest.{Manifest, is_lawful_array, is_lawful_extent, is_lawful_level, versions_in}
+use Rattle.def_bytes.specs.Manifest.{Manifest, is_lawful_array, is_lawful_extent, is_lawful_level, is_lawful_manifest, versions_in}
 use Rattle.def_bytes.proofs.ManifestLemmas.{pass_at}
 use Rattle.strat_level.specs.Levels.{level_numbered, leads_if_any}
 use Rattle.strat_promote.proofs.OpeningLemmas.{level_here}
@@ -25,9 +25,8 @@ use Rattle.def_recovery.specs.Opened.{parents_in}
 use Rattle.def_recovery.specs.Opening.{array_blocks, is_filled}
 use Rattle.def_publish.proofs.DescribedLemmas.{blocks_counted}
 use Rattle.def_publish.proofs.ListLemmas.{contained_among}
-use Rattle.def_publish.specs.Contents.{Contents}
-use Rattle.def_publish.specs.Occupied.{IsSpaceOf}
-use Rattle.def_publish.specs.Standing.{ContentsStand}
+use Rattle.def_publish.specs.Appending.{IsLogOf}
+use Rattle.def_publish.specs.Contents.{Contents, contents_head}
 use Rattle.def_crash.specs.Moments.{DiskView}
 use Rattle.strat_extent.specs.Blocks.{SpaceView}
 use Rattle.def_bytes.specs.Arrays.{blocks_of}
@@ -36,12 +35,13 @@ use Rattle.def_state.proofs.UpdateLemmas.{all_among}
 use Rattle.def_state.specs.Setting.{set_all}
 use Rattle.def_state.specs.Sound.{is_accepted, are_accepted, is_there, takes_updates}
 use Rattle.def_state.specs.State.{tree_after, update_of, marks_after}
-use Rattle.strat_memory.specs.Held.{Held, IsConsistent, StandsWith, contents_held, head_held}
-use Rattle.strat_memory.specs.Memory.{oldest_entries, oldest_versions}
+use Rattle.strat_memory.specs.Filters.{LevelFilters}
+use Rattle.strat_memory.specs.Held.{Held, IsConsistent, head_held}
+use Rattle.strat_memory.specs.Memory.{IsMemoryOf, oldest_entries, oldest_versions}
 use Rattle.strat_publish.proofs.SealedLemmas.{few_left, oldest_counts, oldest_listed}
 use Rattle.strat_publish.specs.Publishing.{MayCompute}
 use Rattle.strat_cursor.specs.Looking.{arrays_there, MayBeFound, HaveOwnIds}
-use Rattle.strat_publish.specs.Promoting.{MayPromote}
+use Rattle.strat_publish.specs.Promoting.{MayPromote, StandsMade}
 use Rattle.def_promote.proofs.PaidLemmas.{updates_few}
 use Rattle.strat_publish.proofs.PartsLemmas.{accepted_front}
 use Rattle.strat_base.specs.Marks.{Marks}
@@ -215,23 +215,24 @@ whole_promotes s whole =
       first = omega (arith, next, changes, limit);
     }
 
--- a whole store that stands may compute its next contents
-pub whole_computes : (v : DiskView) (s : Held) (x : Contents) (chain others : List Extent) (space : SpaceView) → IsConsistent s → StandsWith v s x → s.sb.mem ≤ length s.log.list → blocks_of chain ≡ s.chained.blocks
-    → IsSpaceOf space x others → MayCompute v space s.memory s.levels s.log x others
-whole_computes v s x chain others space whole w full chain_is own =
-    let y : Contents = contents_held s x.levels in
-    let held : MayCompute v space s.memory s.levels s.log y others = record {
-      stands = subst (ContentsStand v) w.held w.stands;
-      full = full;
-      space = subst (λ (z : Contents). IsSpaceOf space z others) w.held own;
-      memory = whole.memory;
-      placed = whole.placed;
-      lawful = whole.spelled;
-      log_is = record { mem = whole.log.mem; active = whole.log.active; list = refl };
+-- a whole store that stands may compute its next contents, once a level was made of them
+pub whole_computes : (v : DiskView) (s : Held) (x : Contents) (chain : List Extent) (space : SpaceView) (target : ℕ) (made : Option LevelDesc) (filters : LevelFilters) → IsConsistent s
+    → (st : StandsMade v s x space target made filters) → s.sb.mem ≤ length s.log.list → blocks_of chain ≡ s.chained.blocks → MayCompute v space s.memory s.log x target made filters st.beside.others
+whole_computes v s x chain space target made filters whole st full chain_is =
+    let w = st.stands in
+    let same = sym w.held in
+    record {
+      stands = w.stands;
+      full = omega (arith, full, ap (λ (y : Contents). y.sb.mem) w.held, ap (λ (y : Contents). length y.journal) w.held);
+      promoted = st.beside.promoted w.stands.content w.stands.exposed;
+      filtered = st.filtered w.stands.content w.stands.exposed;
+      space = st.beside.space_is;
+      memory = subst (λ (y : Contents). IsMemoryOf (contents_head y) s.memory) same whole.memory;
+      lawful = subst (λ (y : Contents). is_lawful_manifest newest_format y.chained.manifest ≡ true) same whole.spelled;
+      log_is = subst (λ (y : Contents). IsLogOf y s.log) same (record { mem = whole.log.mem; active = whole.log.active; list = refl });
       chain = chain;
-      chain_is = chain_is;
-    } in
-    subst (λ (z : Contents). MayCompute v space s.memory s.levels s.log z others) (sym w.held) held
+      chain_is = chain_is ∙ ap (λ (y : Contents). y.chained.blocks) same;
+    }
 
 -- the arrays of a whole store may be read, have numbers of their own, and these are below the next one
 pub record MayBeRead (arrays : List ArrayDesc) (next : ℕ) : Type 0 where

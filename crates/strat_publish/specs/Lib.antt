@@ -3,3 +3,4 @@ pub mod Promoting
 pub mod Settling
 pub mod Counting
 pub mod Outcomes
+pub mod Advancing

@@ -1,19 +1,28 @@
 -- A promotion of what a store has in memory.
-use Rattle.std.specs.Prelude.{◌≡◌, ◌≤◌, ℕ, ◌++◌, ◌∷◌, ◌^◌, nat_lt, Bool, List, length, map, Option, IsTrue}
-use Rattle.std.specs.List.{list_all, range_with_len, sum}
+use Rattle.std.specs.Prelude.{◌≡◌, ◌≤◌, ◌<◌, ◌==◌, ℕ, ◌+◌, ◌++◌, ◌∷◌, ◌^◌, nat_lt, Bool, List, length, map, Option, IsTrue}
+use Rattle.std.specs.List.{count_by, list_all, range_with_len, sum}
+use Rattle.strat_base.specs.declared.descriptors.Extent.{Extent}
 use Rattle.strat_base.specs.declared.descriptors.LevelDesc.{LevelDesc}
+use Rattle.strat_extent.specs.Blocks.{SpaceView, times_in, used_count, uses}
+use Rattle.def_bytes.specs.Arrays.{blocks_of}
+use Rattle.def_bytes.specs.Layout.{first_free}
 use Rattle.def_crash.specs.Image.{Image}
+use Rattle.def_crash.specs.Moments.{DiskView, Exposes}
 use Rattle.strat_level.specs.Levels.{level_numbered, leads_if_any}
 use Rattle.strat_promote.specs.Job.{AreReadable}
 use Rattle.strat_promote.specs.StateInputs.{LeavesPaid}
 use Rattle.def_promote.specs.Promoted.{promoted, levels_behind}
 use Rattle.def_publish.specs.Contents.{Contents, contents_state, sealed_state}
 use Rattle.def_slice.specs.Ending.{IsLastMade}
+use Rattle.def_slice.specs.Opened.{OpenPromotion}
+use Rattle.def_publish.specs.Next.{arrays_made}
+use Rattle.def_publish.specs.Occupied.{IsSpaceOf, extents_of}
 use Rattle.def_state.specs.State.{IsPaid}
 use Rattle.strat_cursor.specs.Looking.{arrays_there}
-use Rattle.strat_memory.specs.Filters.{AreFiltersOn}
+use Rattle.strat_memory.specs.Filters.{AreFiltersOn, LevelFilters}
+use Rattle.strat_memory.specs.Held.{Held, IsOpenAt, StandsWith, blocks_named}
 use Rattle.strat_memory.specs.Memory.{Memory, oldest_entries, oldest_versions}
-use Rattle.strat_promote.specs.Promotions.{FiltersStand, arrays_promoted}
+use Rattle.strat_promote.specs.Promotions.{FiltersStand, arrays_promoted, level_of, target_of}
 use Rattle.strat_promote.specs.declared.promotion.Promotion.{Promotion}
 
 -- how many leads what is sealed has, or level 0 where nothing is, and then levels 1 to 22
@@ -51,3 +60,43 @@ pub record HasTaken (old now : Promotion) (first : ℕ) (kept : List (Option (Li
   pub ended : now.is_done ≡ old.is_done
   pub filters : (g : Image) → FiltersStand g old
       → AreFiltersOn g (arrays_promoted old) (record { first = first; kept = kept })
+
+-- a store stands with contents, and a promotion beside it is open over them
+pub record StandsOpenWith (v : DiskView) (s : Held) (x : Contents) (o : OpenPromotion)
+    : Type 0 where
+  pub stands : StandsWith v s x
+  pub over : IsOpenAt stands.stands.content s x (length s.log.list) o
+
+-- a promotion made this level of what a store holds, whatever its disk: its space has the blocks of the manifest, those of the
+-- level and those of the arrays that are kept for cursors, none of them twice
+pub record HasMade (s : Held) (space : SpaceView) (target : ℕ) (made : Option LevelDesc)
+    : Type 0 where
+  pub low : 1 ≤ target
+  pub fits : target ≤ 22
+  pub first : space.first ≡ first_free s.sb.mem
+  pub apart : (b : ℕ) → count_by (λ other. other == b) (blocks_named s.chained)
+      + (times_in (extents_of (arrays_made made)) b
+      + times_in (extents_of s.memory.cursors.retired) b) ≤ uses space b
+
+-- the level that a promotion made stands beside contents: its blocks are used beside theirs and some others, and but for its
+-- own more than 2^30 are free
+pub record IsMadeBeside (v : DiskView) (x : Contents) (space : SpaceView) (target : ℕ)
+    (made : Option LevelDesc) : Type 0 where
+  pub promoted : (g : Image) → Exposes v g → IsPromotedTo g x target made
+  pub others : List Extent
+  pub space_is : IsSpaceOf space x (extents_of (arrays_made made) ++ others)
+  pub room : space.first + used_count space + 2 ^ 30
+      < 4294967295 + length (blocks_of (extents_of (arrays_made made)))
+
+-- a store stands with contents, and what a promotion made that has ended stands beside them, with its filters
+pub record StandsEnded (v : DiskView) (s : Held) (x : Contents) (o : OpenPromotion) : Type 0 where
+  pub stands : StandsWith v s x
+  pub beside : IsMadeBeside v x o.space (target_of o.promotion) (level_of o.promotion)
+  pub filtered : (g : Image) → Exposes v g → FiltersStand g o.promotion
+
+-- a store stands with contents, and a level that was made of them stands beside them, with filters of its arrays
+pub record StandsMade (v : DiskView) (s : Held) (x : Contents) (space : SpaceView) (target : ℕ)
+    (made : Option LevelDesc) (filters : LevelFilters) : Type 0 where
+  pub stands : StandsWith v s x
+  pub beside : IsMadeBeside v x space target made
+  pub filtered : (g : Image) → Exposes v g → AreFiltersOn g (arrays_made made) filters

@@ -15,14 +15,13 @@ use Rattle.def_bytes.specs.SuperBlock.{Super, newest_in}
 use Rattle.strat_journal.specs.Log.{Log}
 use Rattle.def_recovery.specs.Head.{parent_numbers}
 use Rattle.strat_memory.specs.Memory.{Memory, IsMemoryOf, oldest_changes, oldest_parents, oldest_updates}
-use Rattle.strat_memory.specs.Filters.{LevelFilters, AreFiltersOf, filters_after}
-use Rattle.strat_memory.specs.Held.{ArePlaced}
+use Rattle.strat_memory.specs.Filters.{LevelFilters, AreFiltersOf, AreFiltersOn, filters_after}
 use Rattle.def_state.specs.State.{IsPaid}
 use Rattle.def_promote.specs.Promoted.{SaysTheSame, levels_behind}
 use Rattle.def_publish.specs.Appending.{IsLogOf}
 use Rattle.def_publish.specs.Contents.{Contents, contents_head, contents_state, later_part}
 use Rattle.def_publish.specs.Next.{AreNewArrays, IsNextOf, MayBeNext, HasManifest, arrays_made}
-use Rattle.def_publish.specs.Occupied.{IsSpaceOf, UsesMore, extents_of, arrays_in}
+use Rattle.def_publish.specs.Occupied.{IsSpaceOf, extents_of, arrays_in}
 use Rattle.def_publish.specs.Standing.{LeavesContent, ContentsStand}
 use Rattle.def_state.specs.Level.{Level}
 use Rattle.strat_publish.specs.Promoting.{IsPromotedTo}
@@ -121,37 +120,35 @@ contents_after old m target made levels first size blocks = record {
   levels = levels;
 }
 
--- a level was promoted and then a manifest was written, in blocks that were free, and the old contents stood before, whose
--- journal fills its region: the space before, the one between and the one after. Some blocks that contents do not name were
--- used before, and some are after
-pub record IsWrittenBeside (v w u : DiskView) (s t r : SpaceView) (old new : Contents)
-    (target : ℕ) (made : Option LevelDesc) (besides others : List Extent) : Type 0 where
-  pub stands : ContentsStand v old
+-- a level was made of contents that stand, whose journal fills its region, and then a manifest was written, in blocks that were
+-- free: the space before that and the one after. Some blocks that contents do not name were used before, beside those of the
+-- level, and some are after
+pub record IsWrittenBeside (w u : DiskView) (t r : SpaceView) (old new : Contents) (target : ℕ)
+    (made : Option LevelDesc) (besides others : List Extent) : Type 0 where
+  pub stands : ContentsStand w old
   pub full : old.sb.mem ≤ length old.journal
-  pub space : IsSpaceOf s old besides
-  pub promoting : TearsBlocks (is_free s) v w
-  pub taken : UsesMore s (extents_of (arrays_made made)) t
+  pub promoted : IsPromotedTo stands.content old target made
+  pub space : IsSpaceOf t old (extents_of (arrays_made made) ++ besides)
   pub writing : TearsBlocks (is_free t) w u
-  pub between : LeavesContent w
   pub after : LeavesContent u
   pub used : IsSpaceOf r new others
   pub manifest : (g : Image) → Exposes u g → HasManifest g new
   pub next : IsNextOf old new made (descs_to target old.chained.manifest.levels)
       (descs_behind target old.chained.manifest.levels)
-  pub content : Image
-  pub exposed : Exposes w content
-  pub promoted : IsPromotedTo content old target made
   pub levels : new.levels ≡ promoted.last.says.fresh ++ levels_behind target old.levels
 
--- a store may compute its next contents: its contents stand, their journal fills its region, memory is theirs, the space has
--- their blocks and some others used, and their chain is of these extents
-pub record MayCompute (v : DiskView) (s : SpaceView) (m : Memory) (levels : List (Option LevelDesc))
-    (log : Log) (x : Contents) (others : List Extent) : Type 0 where
+-- a store may compute its next contents: its contents stand, their journal fills its region, memory is theirs, a level that was
+-- made of them stands beside them, with filters of its arrays, the space has their blocks, those of the level and some others
+-- used, and their chain is of these extents
+pub record MayCompute (v : DiskView) (s : SpaceView) (m : Memory) (log : Log) (x : Contents)
+    (target : ℕ) (made : Option LevelDesc) (filters : LevelFilters) (others : List Extent)
+    : Type 0 where
   pub stands : ContentsStand v x
   pub full : x.sb.mem ≤ length x.journal
-  pub space : IsSpaceOf s x others
+  pub promoted : IsPromotedTo stands.content x target made
+  pub filtered : AreFiltersOn stands.content (arrays_made made) filters
+  pub space : IsSpaceOf s x (extents_of (arrays_made made) ++ others)
   pub memory : IsMemoryOf (contents_head x) m
-  pub placed : ArePlaced x.chained.manifest.levels levels
   pub lawful : IsTrue (is_lawful_manifest newest_format x.chained.manifest)
   pub log_is : IsLogOf x log
   pub chain : List Extent

@@ -1,5 +1,5 @@
 -- A publication of a store: what takes the place of what the store holds.
-use Rattle.std.specs.Prelude.{◌≡◌, ◌≢◌, ◌⊎◌, ◌≤◌, ◌<◌, ◌==◌, ℕ, ◌+◌, ◌-◌, ◌^◌, ◌&&◌, nat_le, nat_lt, Bool, true, false, List, [], drop, length, Contains, Option, IsTrue}
+use Rattle.std.specs.Prelude.{◌≡◌, ◌≢◌, ◌⊎◌, ◌≤◌, ◌<◌, ◌==◌, ℕ, ◌+◌, ◌-◌, ◌^◌, ◌&&◌, nat_le, nat_lt, Bool, true, false, List, [], drop, length, Contains, Option, None, Some, IsTrue}
 use Rattle.std.specs.List.{count_by, list_all}
 use Rattle.strat_base.specs.declared.descriptors.ArrayDesc.{ArrayDesc}
 use Rattle.strat_base.specs.declared.descriptors.LevelDesc.{LevelDesc}
@@ -28,7 +28,9 @@ use Rattle.def_publish.specs.Contents.{Contents, contents_state}
 use Rattle.def_publish.specs.Next.{arrays_made}
 use Rattle.def_publish.specs.Occupied.{arrays_in, extents_of}
 use Rattle.def_publish.specs.Standing.{AreFree}
+use Rattle.def_slice.specs.Opened.{OpenPromotion}
 use Rattle.def_state.specs.Level.{Level}
+use Rattle.def_state.specs.Sound.{journal_max}
 use Rattle.def_state.specs.State.{IsPaid}
 use Rattle.strat_memory.specs.Filters.{LevelFilters, AreFiltersOf, filters_after}
 use Rattle.strat_memory.specs.Held.{Held, IsOnDisk, StandsWith, arrays_held, blocks_named, contents_held}
@@ -52,8 +54,8 @@ super_after sb first size = record sb {
 abbrev pub arrays_taken : ℕ → Manifest → List ArrayDesc
 arrays_taken target m = arrays_in (descs_to target m.levels)
 
--- what a store holds after a publication of this superblock, manifest and levels: what was sealed is let go of, the journal
--- has what came since, the arrays of the levels down to a target are kept where a cursor names them, and of the filters of these
+-- what a store holds after a publication of this superblock, manifest and levels: what was sealed is let go of, no promotion is
+-- open, the journal has what came since, the arrays of the levels down to a target are kept where a cursor names them, and of the filters of these
 -- levels those of the arrays that were made take the place
 abbrev pub held_next : Held → ℕ → Super → Chained → List (Option LevelDesc) → LevelFilters → Held
 held_next s target sb chained levels made = record {
@@ -64,6 +66,7 @@ held_next s target sb chained levels made = record {
   memory = renewed (arrays_taken target s.chained.manifest) s.memory;
   levels = levels;
   filters = filters_after s.filters target made;
+  promoting = None;
   cached = s.cached;
   spent = false;
 }
@@ -153,6 +156,23 @@ pub record ArePublishedAfter (sb : Super) (m : Manifest) (memory : Memory)
       ≡ record (retired_all (arrays_taken target m) memory.cursors) { room = cursors.room }
   pub filters_are : left ≡ filters_after filters target made
 
+-- a store holds what a publication left of another, down to some target
+pub record IsInstalled (old new : Held) : Type 0 where
+  pub target : ℕ
+  pub sb : Super
+  pub chained : Chained
+  pub levels : List (Option LevelDesc)
+  pub made : LevelFilters
+  pub low : 1 ≤ target
+  pub next : new ≡ held_next old target sb chained levels made
+  pub are : ArePublishedTo target old.sb old.chained.manifest old.memory sb chained.manifest
+
+-- a store holds what it held beside an open promotion, and that is its own; its journal has room for a change
+pub record TakesOpen (old new : Held) : Type 0 where
+  pub promotion : OpenPromotion
+  pub held : new ≡ record old { promoting = Some promotion }
+  pub room : length old.log.list < journal_max old.sb.mem
+
 -- a store holds the superblock and the manifest that it held, with their levels and the filters of these
 pub record KeepsPublished (old new : Held) : Type 0 where
   pub slot : new.slot ≡ old.slot
@@ -161,12 +181,21 @@ pub record KeepsPublished (old new : Held) : Type 0 where
   pub levels : new.levels ≡ old.levels
   pub filters : new.filters ≡ old.filters
 
--- a store whose journal was full holds those that a publication left
+-- a store whose journal was full holds those that a publication left, and has no promotion open
 pub record HasPublished (old new : Held) : Type 0 where
   pub full : old.log.mem ≤ length old.log.list
+  pub closed : new.promoting ≡ None
   pub slot : new.slot ≡ 1 - old.slot
   pub after : ArePublishedAfter old.sb old.chained.manifest old.memory old.filters new.sb
       new.chained.manifest new.memory.cursors new.filters
+
+-- a store whose journal was full, but had room for a change, holds those that it held, and has a promotion open
+pub record IsPromoting (old new : Held) : Type 0 where
+  pub full : old.log.mem ≤ length old.log.list
+  pub room : length old.log.list < journal_max old.sb.mem
+  pub keeps : KeepsPublished old new
+  pub promotion : OpenPromotion
+  pub open_is : new.promoting ≡ Some promotion
 
 -- a store has the cursors that it had, with the arrays that are kept for them
 abbrev pub KeepsCursors : Held → Held → Type 0
@@ -178,13 +207,15 @@ abbrev pub carries_out : Request → Reply → Bool
 carries_out request told = is_change request && accepts told
 
 -- what a command leaves of the superblock and the manifest of a store: a change that was carried out at a full journal
--- published once, one that met a fault of the device there may have, and no other command did. Unless the device failed,
+-- published once, or left a promotion open, one that met a fault of the device there may have published, and no other command
+-- did. Unless the device failed,
 -- those that the store then holds are on the disk, where they were before
 pub record LeavesPublished (before now : DiskView) (old : Held) (carried : Bool) (told : Reply)
     (new : Held) : Type 0 where
   pub either : KeepsPublished old new ⊎ HasPublished old new
   pub kept : carried ≡ false → told ≢ reply.Refused why.DeviceFault → KeepsPublished old new
-  pub next : carried ≡ true → old.log.mem ≤ length old.log.list → HasPublished old new
+  pub next : carried ≡ true → old.log.mem ≤ length old.log.list
+      → HasPublished old new ⊎ IsPromoting old new
   pub on_disk : told ≢ reply.Refused why.DeviceFault → IsOnDisk before old → IsOnDisk now new
   -- and so are the blocks of all arrays that it held, those of its levels and those that are kept for cursors
   pub beside : told ≢ reply.Refused why.DeviceFault → (f g : Image) → Exposes before f

@@ -1,7 +1,7 @@
-//! A checkpoint of a store, whole: what fills the active region of its journal goes into its levels.
+//! The checkpoint at the end of a promotion: what it made is named by a new manifest, and that becomes the store's.
 
 ghost use Rattle.std.specs.List.{list_all};
-ghost use Rattle.std.specs.Prelude.{◌≡◌, ◌<◌, ◌≤◌, ℕ, ◌+◌, ◌-◌, ◌*◌, ◌^◌, List, [], ◌∷◌, length, drop, min, nat_le, nat_lt, is_some, None, IfOk, OnOk, OnErr, IsErrOf, IsTrue};
+ghost use Rattle.std.specs.Prelude.{◌≡◌, ◌<◌, ◌≤◌, ℕ, ◌+◌, ◌-◌, ◌^◌, [], ◌∷◌, length, min, nat_le, is_some, true, None, IfOk, OnOk, OnErr, IsErrOf, IsTrue};
 ghost use Rattle.strat_array.specs.Kept.{Blocks};
 ghost use Rattle.def_crash.specs.Blocks.{TearsBlocks, AgreeOn};
 ghost use Rattle.def_crash.specs.Faults.{CountsFaults, HasCause};
@@ -15,33 +15,32 @@ ghost use Rattle.def_bytes.specs.SuperBlock.{IsLawful};
 ghost use Rattle.strat_gate.specs.SuperView.{super_of};
 ghost use Rattle.strat_manifest.specs.ManifestView.{manifest_of};
 ghost use Rattle.strat_promote.specs.Job.{blocks_listed};
-ghost use Rattle.strat_promote.specs.Spaces.{HasAmpleRoom};
+ghost use Rattle.strat_promote.specs.Promotions.{entries_if_any, has_ended, level_of, target_of};
 ghost use Rattle.strat_promote.specs.declared.obstacle.Obstacle.TheVariants as obstacle;
 ghost use Rattle.strat_promote.specs.declared.obstacle.Obstacle.TheVariants.{Device, Damaged};
 ghost use Rattle.def_meaning.specs.StateTable.{table_of};
 ghost use Rattle.def_publish.specs.Contents.{Contents, contents_state};
 ghost use Rattle.def_publish.specs.Next.{AreNewArrays, arrays_made};
-ghost use Rattle.def_publish.specs.Occupied.{IsSpaceOf, arrays_in, extents_of};
+ghost use Rattle.def_publish.specs.Occupied.{arrays_in};
 ghost use Rattle.def_publish.specs.Standing.{ShowsTable, ContentsStand};
-ghost use Rattle.def_state.specs.Level.{Level};
 ghost use Rattle.def_state.specs.State.{IsPaid};
-ghost use Rattle.strat_publish.specs.Outcomes.{IsDamagedIn, IsPublishedAs, IsOkOrShort, RanShort};
+ghost use Rattle.strat_publish.specs.Outcomes.{IsPublishedAs, IsOkOrShort, RanShort};
 ghost use Rattle.strat_memory.specs.Filters.{filters_after};
-ghost use Rattle.strat_memory.specs.Held.{IsConsistent, IsOnDisk, StandsWith, arrays_held, contents_held};
+ghost use Rattle.strat_memory.specs.Held.{IsConsistent, IsOnDisk, StandsWith, arrays_held};
 ghost use Rattle.strat_cursor.specs.Cursors.{retired_all};
-ghost use Rattle.strat_cursor.specs.Looking.{arrays_there};
-ghost use Rattle.strat_memory.specs.Memory.{emptied, IsReadyFrom, unsealed};
+ghost use Rattle.strat_memory.specs.Memory.{IsReadyFrom};
 ghost use Rattle.strat_memory.specs.Paying.{ArePaidSince};
 ghost use Rattle.strat_publish.specs.Counting.{CountsWritten};
 ghost use Rattle.strat_publish.specs.Publishing.{IsComputed, LaysSuperblock, WritesManifest, descs_to, is_in_front, manifest_after};
 ghost use Rattle.strat_memory.specs.Admitting.{chained_of, IsAdmitted};
-ghost use Rattle.strat_memory.specs.RecoveredFields.{held_of};
-ghost use Rattle.strat_publish.specs.Settling.{super_after, held_next, ArePublishedAfter, ArePublishedTo, KeepsCursors, KeepsPublished, MayBeAdmitted, MayFollow, StandApart, WritesBeside, IsReadied};
+ghost use Rattle.strat_memory.specs.RecoveredFields.{held_of, open_of};
+ghost use Rattle.strat_publish.specs.Promoting.{HasMade, StandsEnded, StandsMade};
+ghost use Rattle.strat_publish.specs.Settling.{super_after, held_next, ArePublishedTo, IsInstalled, KeepsPublished, MayBeAdmitted, MayFollow, StandApart, WritesBeside, IsReadied};
 ghost use Rattle.def_bytes.specs.Layout.{newest_format};
 
 use crate::lay::lay_next;
+use crate::made::{Made, take_made};
 use crate::next_manifest::{Computed, compute_next};
-use crate::promote::Made;
 use std::alloc::Global;
 use std::mem;
 use strat_base::{ArrayDesc, Arrays, Failed, LevelDesc, NoMemory};
@@ -50,10 +49,9 @@ use strat_extent::Space;
 use strat_gate::SuperBlock;
 use strat_manifest::LevelList;
 use strat_memory::admitting::{Published, admit};
-use strat_memory::belonging::{mark_arrays, space_if_blocks_distinct};
 use strat_memory::filters::LevelFilters;
 use strat_memory::memory::Memory;
-use strat_memory::open_store::OpenStore;
+use strat_memory::open_store::{OpenStore, Promoting};
 use strat_promote::obstacle::{Obstacle, Unfit};
 
 /// The superblock after one, with this manifest, unless no number is left for its generation: no store comes so far.
@@ -78,49 +76,22 @@ fn next_super(old: &SuperBlock, first: u32, length: u32) -> Result<SuperBlock, U
     })
 }
 
-/// The space in which just the blocks of a store are used, those of the arrays that are kept for cursors among them.
-/// `Unfit`: a block of all these stands twice, or has no number; none does where the store stands.
-fn used_space(alloc: Global, held: &OpenStore) -> Result<Space, Obstacle>
-    requires kept { (cached : Blocks) → IsConsistent (held_of held.now cached) }
-    ensures ok { IfOk result (λ space. (cached : Blocks) (levels : List Level)
-        → IsSpaceOf space (contents_held (held_of held.now cached) levels)
-        (extents_of held.now.memory.cursors.retired)) }
-    ensures room { IfOk result (λ space. length (chained_of held.now.published).blocks ≤ 2 ^ 21
-        → HasAmpleRoom space) }
-    ensures err { IsErrOf result obstacle.Unfit → IsTrue (list_all (λ b. nat_lt b 4294967295)
-        (chained_of held.now.published).blocks) → ⊥ }
-    ensures cause { IsOkOrShort result }
-{
-    let levels = held.published.manifest.levels.as_slice();
-    let Some(mut space) = space_if_blocks_distinct(
-        alloc,
-        held.sb.mem,
-        &held.published.chain,
-        levels,
-    )?
-    else {
-        return Err(Obstacle::Unfit);
-    };
-    if !mark_arrays(&mut space, held.memory.retired())? {
-        return Err(Obstacle::Unfit);
-    }
-    // For the proof: no more blocks are used than were marked.
-    let _ = space.free();
-    Ok(space)
-}
-
-/// Computes the next contents of a store but for their superblock: nothing is written but blocks that are free beside
-/// what it holds. Errors are those of `compute_next`, and want of memory for the blocks that are used; `Unfit` never comes
-/// where the store stands.
+/// Computes the next contents of a store but for their superblock, from what a promotion made: nothing is written but blocks
+/// that are free beside what it holds. Errors are those of `compute_next`; `Unfit` never comes where the store stands.
 fn compute_beside<D: Disk>(
     alloc: Global,
     held: &OpenStore,
+    made: Made,
+    space: &mut Space,
     disk: &mut D,
 ) -> Result<Computed, Obstacle>
-    requires kept { (cached : Blocks) → IsConsistent (held_of held.now cached) }
-    requires len { held.now.sb.mem ≤ length held.now.journal.list }
+    requires kept { (cached : Blocks) → IsConsistent (held_of held.now cached)
+        × HasMade (held_of held.now cached) space.old made.target made.level }
+    requires len { (held.now.sb.mem ≤ length held.now.journal.list)
+        × (made.entries ≡ min (entries_if_any made.level) (2 ^ 64 - 1)) }
     ensures ok { IfOk result (λ r. (x : Contents) (cached : Blocks)
-        → StandsWith (D.view disk.old) (held_of held.now cached) x
+        → StandsMade (D.view disk.old) (held_of held.now cached) x space.old made.target made.level
+        made.filters
         → IsReadied (D.view disk.new) (held_of held.now cached) x
         (super_after (super_of held.now.sb) r.first r.length)
         (record { manifest = manifest_of r.manifest; blocks = blocks_of r.chain })
@@ -137,27 +108,22 @@ fn compute_beside<D: Disk>(
     ensures fits { IfOk result (λ r. (places.first_free held.now.sb.mem ≤ r.first)
         × (r.first < 4294967295) × (29 ≤ r.length)
         × IsTrue (is_lawful_manifest newest_format (manifest_of r.manifest))
-        × (1 ≤ r.made.target) × (r.made.target ≤ 22)) }
+        × (r.made ≡ made)) }
     ensures err { IsErrOf result obstacle.Unfit → (x : Contents) (cached : Blocks)
-        → StandsWith (D.view disk.old) (held_of held.now cached) x → ⊥ }
+        → StandsMade (D.view disk.old) (held_of held.now cached) x space.old made.target made.level
+        made.filters → ⊥ }
     ensures images { (cached : Blocks)
         → WritesBeside (D.view disk.old) (D.view disk.new) (held_of held.now cached) }
     ensures cause { HasCause Device (D.faults disk.old) (D.faults disk.new) result }
-    ensures damaged { (b : ℕ) → IsErrOf result (Damaged b) → IsDamagedIn
-        (D.view disk.old).content held.now.memory held.now.published.levels b
-        × ((x : Contents) (cached : Blocks)
-        → StandsWith (D.view disk.old) (held_of held.now cached) x → ⊥) }
-    ensures reads { D.reads disk.new ≤ D.reads disk.old
-        + 2 * length (blocks_listed (arrays_there held.now.published.levels)) }
+    ensures damaged { (b : ℕ) → IsErrOf result (Damaged b) → ⊥ }
+    ensures reads { D.reads disk.new ≡ D.reads disk.old }
 {
-    let mut space = used_space(alloc, held)?;
     compute_next(
         alloc,
         &held.published.manifest,
         &held.memory,
-        &held.published.levels,
-        held.sb.mem,
-        &mut space,
+        made,
+        space,
         disk,
     )
 }
@@ -239,12 +205,17 @@ fn admit_next(alloc: Global, held: &OpenStore, computed: Computed) -> Result<Nex
 fn prepare_next<D: Disk>(
     alloc: Global,
     held: &OpenStore,
+    made: Made,
+    space: &mut Space,
     disk: &mut D,
 ) -> Result<NextContents, Obstacle>
-    requires kept { (cached : Blocks) → IsConsistent (held_of held.now cached) }
-    requires len { held.now.sb.mem ≤ length held.now.journal.list }
+    requires kept { (cached : Blocks) → IsConsistent (held_of held.now cached)
+        × HasMade (held_of held.now cached) space.old made.target made.level }
+    requires len { (held.now.sb.mem ≤ length held.now.journal.list)
+        × (made.entries ≡ min (entries_if_any made.level) (2 ^ 64 - 1)) }
     ensures ok { IfOk result (λ next. (x : Contents) (cached : Blocks)
-        → StandsWith (D.view disk.old) (held_of held.now cached) x
+        → StandsMade (D.view disk.old) (held_of held.now cached) x space.old made.target made.level
+        made.filters
         → IsReadied (D.view disk.new) (held_of held.now cached) x (super_of next.sb)
         (chained_of next.published)
         (filters_after held.now.filters next.target next.filters)) }
@@ -260,18 +231,15 @@ fn prepare_next<D: Disk>(
         → StandApart next.target (held_of held.now cached) (chained_of next.published))
         × (1 ≤ next.target) × (next.target ≤ 22)) }
     ensures err { IsErrOf result obstacle.Unfit → (x : Contents) (cached : Blocks)
-        → StandsWith (D.view disk.old) (held_of held.now cached) x → ⊥ }
+        → StandsMade (D.view disk.old) (held_of held.now cached) x space.old made.target made.level
+        made.filters → ⊥ }
     ensures images { (cached : Blocks)
         → WritesBeside (D.view disk.old) (D.view disk.new) (held_of held.now cached) }
     ensures cause { HasCause Device (D.faults disk.old) (D.faults disk.new) result }
-    ensures damaged { (b : ℕ) → IsErrOf result (Damaged b) → IsDamagedIn
-        (D.view disk.old).content held.now.memory held.now.published.levels b
-        × ((x : Contents) (cached : Blocks)
-        → StandsWith (D.view disk.old) (held_of held.now cached) x → ⊥) }
-    ensures reads { D.reads disk.new ≤ D.reads disk.old
-        + 2 * length (blocks_listed (arrays_there held.now.published.levels)) }
+    ensures damaged { (b : ℕ) → IsErrOf result (Damaged b) → ⊥ }
+    ensures reads { D.reads disk.new ≡ D.reads disk.old }
 {
-    let computed = compute_beside(alloc, held, disk)?;
+    let computed = compute_beside(alloc, held, made, space, disk)?;
     let next = admit_next(alloc, held, computed)?;
     Ok(next)
 }
@@ -290,7 +258,7 @@ fn count_arrays(levels: &[LevelDesc]) -> usize
 /// Takes the memory that a checkpoint needs beside its promotion, and seals level 0, if that is not sealed: room for all
 /// arrays of these levels among those that are kept, which stays for the next time, and a new level 0. The only error is
 /// want of memory, before anything is sealed.
-fn seal_for_next(
+pub(crate) fn seal_for_next(
     alloc: Global,
     memory: &mut Memory,
     mem: u32,
@@ -354,7 +322,7 @@ fn install<D: Disk>(
     requires room { length held.old.memory.cursors.retired
         + length (arrays_in (manifest_of held.old.published.manifest).levels)
         ≤ held.old.memory.cursors.room }
-    requires same { next.sb.mem ≡ held.old.sb.mem }
+    requires same { (next.sb.mem ≡ held.old.sb.mem) × (held.old.promoting ≡ None) }
     ensures ok { OnOk result ((cached : Blocks) → held_of held.new cached
         ≡ held_next (held_of held.old cached) next.target (super_of next.sb)
         (chained_of next.published) next.published.levels next.filters) }
@@ -367,7 +335,8 @@ fn install<D: Disk>(
         → ArePaidSince (D.view disk.new) (D.view disk.old).moment) }
     ensures disk { OnOk result (LaysSuperblock (D.view disk.old) (D.view disk.new)
         held.old.journal.mem (1 - held.old.slot) (super_of next.sb)) }
-    ensures err { OnErr result ((held.new.memory ≡ held.old.memory) × ((cached : Blocks)
+    ensures err { OnErr result ((held.new.memory ≡ held.old.memory)
+        × (held.new.promoting ≡ held.old.promoting) × ((cached : Blocks)
         → KeepsPublished (held_of held.old cached) (held_of held.new cached))) }
     ensures same { held.new.sb.mem ≡ held.old.sb.mem }
     ensures images { TearsBlocks (is_in_front held.old.journal.mem)
@@ -385,38 +354,33 @@ fn install<D: Disk>(
     Ok(())
 }
 
-/// Makes a checkpoint: level 0 is sealed, if it isn't, what is sealed and the shallow levels become one new level, a new
-/// manifest names it, and a new superblock makes that the store's. The journal has then what was behind the full region, and
-/// nothing is sealed. It reads each block of the merged arrays twice at most, writes each block of the new arrays and of the manifest once, and
-/// syncs five times at most.
-///
-/// All memory is taken before the superblock is laid: without it the store is as it was, but that level 0 may be sealed.
-/// The next checkpoint goes on with that. `Unfit`: too few blocks are free, an array would have more than 2^25 entries, or
-/// another bound of our own was reached. No store that stands on its disk reaches one, and the store is as it was then,
-/// too. `Damaged` names a block of the store's arrays that is no block of entries, or is out of order: no store that stands
-/// on its disk has one. After `Device` only recovery can tell which contents the disk holds; both mean the same table.
-pub fn publish<D: Disk>(alloc: Global, held: &mut OpenStore, disk: &mut D) -> Result<(), Obstacle>
-    requires kept { ((cached : Blocks) → IsConsistent (held_of held.old cached))
-        × (held.old.sb.mem ≤ length held.old.journal.list) }
+/// Publishes what a promotion made that has ended: a new manifest names it, and a new superblock makes that the store's. The
+/// journal has then what was behind the full region, and nothing is sealed. It writes each block of the manifest once, and
+/// syncs five times at most. All memory is taken before the superblock is laid; without it the store is as it was, but that
+/// what was made is given up. `Unfit` never comes where the store stands. After `Device` only recovery can tell which contents
+/// the disk holds; both mean the same table.
+pub(crate) fn publish_made<D: Disk>(
+    alloc: Global,
+    held: &mut OpenStore,
+    promoting: Promoting,
+    disk: &mut D,
+) -> Result<(), Obstacle>
+    requires kept { ((cached : Blocks) → IsConsistent (held_of held.old cached)
+        × HasMade (held_of held.old cached) promoting.space (target_of promoting.promotion)
+        (level_of promoting.promotion))
+        × (has_ended promoting.promotion ≡ true) × (held.old.promoting ≡ None) }
+    requires len { held.old.sb.mem ≤ length held.old.journal.list }
+    requires found { IsTrue (is_some held.old.memory.sealed) }
+    requires room { length held.old.memory.cursors.retired
+        + length (arrays_in (manifest_of held.old.published.manifest).levels)
+        ≤ held.old.memory.cursors.room }
     ensures ok { OnOk result ((x : Contents) (cached : Blocks)
-        → StandsWith (D.view disk.old) (held_of held.old cached) x
+        → StandsEnded (D.view disk.old) (held_of held.old cached) x (open_of promoting)
         → IsPublishedAs (D.view disk.new) x (held_of held.new cached)
         × CountsWritten (manifest_of held.old.published.manifest)
         (manifest_of held.new.published.manifest)) }
-    ensures found { OnOk result ((held.new.slot ≡ 1 - held.old.slot)
-        × ArePublishedAfter (super_of held.old.sb) (manifest_of held.old.published.manifest)
-        held.old.memory held.old.filters (super_of held.new.sb)
-        (manifest_of held.new.published.manifest) held.new.memory.cursors held.new.filters
-        × (held.new.journal.list ≡ drop held.old.sb.mem held.old.journal.list)
-        × (held.new.memory ≡ record (unsealed held.old.memory) {
-          entries = held.new.memory.entries;
-          spare = held.new.memory.spare;
-          ready = held.new.memory.ready;
-          cursors = held.new.memory.cursors;
-        })
-        × (held.old.memory.sealed ≡ None
-        → held.new.memory ≡ record (emptied held.old.sb.mem held.old.memory)
-        { cursors = held.new.memory.cursors })) }
+    ensures found { OnOk result ((cached : Blocks)
+        → IsInstalled (held_of held.old cached) (held_of held.new cached)) }
     ensures disk { (IsErrOf result Device → ⊥) → (cached : Blocks)
         → IsOnDisk (D.view disk.old) (held_of held.old cached)
         → IsOnDisk (D.view disk.new) (held_of held.new cached) }
@@ -424,38 +388,30 @@ pub fn publish<D: Disk>(alloc: Global, held: &mut OpenStore, disk: &mut D) -> Re
         → StandsWith (D.view disk.old) (held_of held.old cached) x
         → StandsWith (D.view disk.new) (held_of held.new cached) x }
     ensures trail { (x : Contents) (cached : Blocks)
-        → StandsWith (D.view disk.old) (held_of held.old cached) x
+        → StandsEnded (D.view disk.old) (held_of held.old cached) x (open_of promoting)
         → Trail ShowsTable (D.view disk.new) (D.view disk.old).moment
         (table_of (contents_state x) ∷ []) 0
-        × (held.old.sb.mem ≤ length held.old.journal.list → IsPaid (contents_state x)
-        → ArePaidSince (D.view disk.new) (D.view disk.old).moment) }
-    ensures kept { IsOkOrShort result → (cached : Blocks)
-        → IsConsistent (held_of held.new cached) }
+        × (IsPaid (contents_state x) → ArePaidSince (D.view disk.new) (D.view disk.old).moment) }
+    ensures kept { OnOk result ((cached : Blocks) → IsConsistent (held_of held.new cached)) }
     ensures same { (held.new.sb.mem ≡ held.old.sb.mem)
-        × (held.new.memory.parents ≡ held.old.memory.parents)
-        × (RanShort result → (held.new.journal ≡ held.old.journal)
-        × IsReadyFrom held.old.sb.mem held.old.memory held.new.memory)
-        × OnErr result ((cached : Blocks)
-        → KeepsPublished (held_of held.old cached) (held_of held.new cached)
-        × KeepsCursors (held_of held.old cached) (held_of held.new cached)) }
+        × (RanShort result → held.new ≡ held.old)
+        × OnErr result ((held.new.memory ≡ held.old.memory) × (held.new.promoting ≡ None)
+        × ((cached : Blocks) → KeepsPublished (held_of held.old cached) (held_of held.new cached))) }
     ensures err { IsErrOf result obstacle.Unfit → (x : Contents) (cached : Blocks)
-        → StandsWith (D.view disk.old) (held_of held.old cached) x → ⊥ }
+        → StandsEnded (D.view disk.old) (held_of held.old cached) x (open_of promoting) → ⊥ }
     ensures images { Passes (D.view disk.old) (D.view disk.new)
         × ((f g : Image) → Exposes (D.view disk.old) f → Exposes (D.view disk.new) g
         → AgreeOn (blocks_listed (arrays_held held.old.memory held.old.published.levels)) f g) }
     ensures cause { HasCause Device (D.faults disk.old) (D.faults disk.new) result }
-    ensures damaged { (b : ℕ) → IsErrOf result (Damaged b)
-        → IsDamagedIn (D.view disk.old).content held.old.memory held.old.published.levels b
-        × ((x : Contents) (cached : Blocks)
-        → StandsWith (D.view disk.old) (held_of held.old cached) x → ⊥) }
+    ensures damaged { (b : ℕ) → IsErrOf result (Damaged b) → ⊥ }
 {
-    seal_for_next(
+    let mut space = promoting.space;
+    let made = take_made(
         alloc,
-        &mut held.memory,
-        held.sb.mem,
-        held.published.manifest.levels.as_slice(),
-    )?;
-    let next = prepare_next(alloc, held, disk)?;
+        promoting.promotion,
+        held.published.manifest.next_array,
+    );
+    let next = prepare_next(alloc, held, made, &mut space, disk)?;
     install(alloc, held, next, disk)?;
     Ok(())
 }

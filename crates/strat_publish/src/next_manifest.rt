@@ -2,40 +2,35 @@
 
 ghost use Rattle.std.specs.Prelude.{◌≡◌, ◌≤◌, ◌<◌, ℕ, ◌+◌, ◌-◌, ◌*◌, ◌^◌, List, ◌++◌, Contains, filter, length, take, min, nat_lt, IsSome, IsTrue, IfOk, OnOk, OnErr, IsErrOf};
 ghost use Rattle.std.specs.Option.{option_to_list};
-ghost use Rattle.strat_array.specs.Taking.{AreUsed};
 ghost use Rattle.strat_base.specs.declared.descriptors.Extent.{Extent};
 ghost use Rattle.def_crash.specs.Blocks.{TearsBlocks};
 ghost use Rattle.def_crash.specs.Faults.{HasCause};
 ghost use Rattle.def_crash.specs.Image.{Image};
 ghost use Rattle.def_crash.specs.Moments.{Exposes};
-ghost use Rattle.strat_extent.specs.Blocks.{is_free};
+ghost use Rattle.strat_extent.specs.Blocks.{is_free, used_count};
 ghost use Rattle.def_bytes.specs.Arrays.{blocks_of};
 ghost use Rattle.def_bytes.specs.Manifest.{is_lawful_manifest, manifest_bytes};
 ghost use Rattle.strat_extent.specs.Change.{IsMarked, SameBlocks};
 ghost use Rattle.strat_journal.specs.Log.{Log};
 ghost use Rattle.strat_manifest.specs.ManifestView.{manifest_of};
-ghost use Rattle.strat_promote.specs.Job.{IsBadInput, blocks_listed};
 ghost use Rattle.strat_promote.specs.Promotions.{entries_if_any};
-ghost use Rattle.strat_promote.specs.Spaces.{HasAmpleRoom, HasFewFree};
+ghost use Rattle.strat_promote.specs.Spaces.{HasFewFree};
 ghost use Rattle.strat_promote.specs.declared.obstacle.Obstacle.TheVariants as obstacle;
 ghost use Rattle.strat_promote.specs.declared.obstacle.Obstacle.TheVariants.{Device, Damaged};
 ghost use Rattle.def_recovery.specs.Head.{parent_numbers};
 ghost use Rattle.def_publish.specs.Contents.{Contents};
 ghost use Rattle.def_publish.specs.Next.{HasManifest, arrays_made};
-ghost use Rattle.def_publish.specs.Occupied.{UsesMore, extents_of};
-ghost use Rattle.strat_cursor.specs.Looking.{arrays_there};
+ghost use Rattle.def_publish.specs.Occupied.{extents_of};
 ghost use Rattle.strat_publish.specs.Outcomes.{IsOkOrShort};
-ghost use Rattle.strat_publish.specs.Promoting.{MayPromote};
 ghost use Rattle.strat_publish.specs.Publishing.{IsWrittenTo, MayBeWritten, MayCompute, IsComputedBy, WritesManifest, manifest_after};
 ghost use Rattle.def_bytes.specs.Layout.{newest_format};
 
 use crate::lay::write_next;
-use crate::promote::{Made, promote};
+use crate::made::Made;
 use std::alloc::Global;
 use strat_base::{Extents, LevelDesc, NoMemory};
 use strat_disk::Disk;
 use strat_extent::Space;
-use strat_level::Levels;
 use strat_manifest::{LevelList, Manifest, Parents, is_writable};
 use strat_memory::copying::add_copy;
 use strat_memory::memory::Memory;
@@ -220,51 +215,48 @@ pub(crate) struct Computed {
     pub(crate) chain: Extents,
 }
 
-/// Promotes what is sealed and the shallow levels, and writes the manifest after that: all of the next contents but their
-/// superblock.
-/// Nothing is written but free blocks, so the old contents stand as they did, whatever comes of it. After an error the space
-/// is not to be used again. Errors are those of `promote` and of `write_next`; `Unfit` never comes where the store stands.
+/// Writes the manifest that names what a promotion made, and the deeper levels: all of the next contents but their superblock
+/// is written then. Nothing is written but free blocks, so the old contents stand as they did, whatever comes of it. After an
+/// error the space is as it was. Errors are those of `write_next`, and want of memory; `Unfit` never comes where the store
+/// stands.
 pub(crate) fn compute_next<D: Disk>(
     alloc: Global,
     old: &Manifest,
     memory: &Memory,
-    levels: &Levels,
-    mem: u32,
+    made: Made,
     space: &mut Space,
     disk: &mut D,
 ) -> Result<Computed, Obstacle>
-    requires kept { MayPromote memory.now levels.now old.now.next_array }
-    requires fits { (4 ≤ mem) × (mem ≤ 4096) × (1 ≤ space.old.first) }
+    requires len { made.entries ≡ min (entries_if_any made.level) (2 ^ 64 - 1) }
+    requires fits { (1 ≤ space.old.first) × (1 ≤ made.target) }
     ensures ok { IfOk result (λ r. (x : Contents) (log : Log) (others : List Extent)
-        → MayCompute (D.view disk.old) space.old memory.now levels.now log x others
-        → x.chained.manifest ≡ manifest_of old.now → x.sb.mem ≡ mem
+        → MayCompute (D.view disk.old) space.old memory.now log x made.target made.level
+        made.filters others
+        → x.chained.manifest ≡ manifest_of old.now
         → IsComputedBy (D.view disk.new) space.new x memory.now log
         r.made.target r.made.level r.first r.length r.chain others r.made.filters) }
     ensures found { IfOk result (λ r. manifest_of r.manifest
         ≡ manifest_after (manifest_of old.now) memory.now r.made.target r.made.level) }
+    ensures same { IfOk result (λ r. r.made ≡ made) }
     ensures disk { IfOk result (λ r. WritesManifest (D.view disk.old) (D.view disk.new)
         r.first r.length
         (record { manifest = manifest_of r.manifest; blocks = blocks_of r.chain })) }
-    ensures room { IfOk result (λ r.
-        UsesMore space.old (r.chain ++ extents_of (arrays_made r.made.level)) space.new) }
-    ensures fits { IfOk result (λ r. (1 ≤ r.made.target) × (r.made.target ≤ 22)
-        × (space.old.first ≤ r.first) × (r.first < 4294967295) × (29 ≤ r.length)
+    ensures room { IfOk result (λ r. IsMarked space.old r.chain space.new) }
+    ensures fits { IfOk result (λ r. (space.old.first ≤ r.first) × (r.first < 4294967295)
+        × (29 ≤ r.length)
         × IsTrue (is_lawful_manifest newest_format (manifest_of r.manifest))) }
-    ensures err { IsErrOf result obstacle.Unfit → HasAmpleRoom space.old
+    ensures err { IsErrOf result obstacle.Unfit
+        → space.old.first + used_count space.old + 2 ^ 30
+        < 4294967295 + length (blocks_of (extents_of (arrays_made made.level)))
         → (x : Contents) (log : Log) (others : List Extent)
-        → MayCompute (D.view disk.old) space.old memory.now levels.now log x others
-        → x.chained.manifest ≡ manifest_of old.now → x.sb.mem ≡ mem → ⊥ }
+        → MayCompute (D.view disk.old) space.old memory.now log x made.target made.level
+        made.filters others
+        → x.chained.manifest ≡ manifest_of old.now → ⊥ }
     ensures images { TearsBlocks (is_free space.old) (D.view disk.old) (D.view disk.new) }
     ensures cause { HasCause Device (D.faults disk.old) (D.faults disk.new) result }
-    ensures damaged { (b : ℕ) → IsErrOf result (Damaged b)
-        → Contains (blocks_listed (arrays_there levels.now)) b
-        × ((f : Image) → Exposes (D.view disk.old) f
-        → AreUsed space.old (blocks_listed (arrays_there levels.now))
-        → IsBadInput f (arrays_there levels.now) b) }
-    ensures reads { D.reads disk.new
-        ≤ D.reads disk.old + 2 * length (blocks_listed (arrays_there levels.now)) }
+    ensures damaged { (b : ℕ) → IsErrOf result (Damaged b) → ⊥ }
+    ensures reads { D.reads disk.new ≡ D.reads disk.old }
 {
-    let made = promote(alloc, memory, levels, mem, old.next_array, space, disk)?;
     let (manifest, first, length, chain) = write_next_manifest(
         alloc, old, memory, &made, space, disk,
     )?;

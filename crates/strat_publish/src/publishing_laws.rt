@@ -10,11 +10,11 @@ ghost use Rattle.strat_journal.specs.Log.{Log};
 ghost use Rattle.def_publish.specs.Appending.{IsLogOf};
 ghost use Rattle.def_publish.specs.Contents.{Contents, contents_head, contents_state};
 ghost use Rattle.def_publish.specs.Next.{IsNextOf};
-ghost use Rattle.def_publish.specs.Occupied.{IsSpaceOf};
 ghost use Rattle.def_state.specs.Level.{Level};
 ghost use Rattle.def_state.specs.Sound.{IsSound};
-ghost use Rattle.strat_memory.specs.Held.{Held, IsConsistent, StandsWith};
-ghost use Rattle.strat_publish.specs.Promoting.{MayPromote};
+ghost use Rattle.strat_memory.specs.Filters.{LevelFilters};
+ghost use Rattle.strat_memory.specs.Held.{Held, IsConsistent};
+ghost use Rattle.strat_publish.specs.Promoting.{MayPromote, StandsMade};
 ghost use Rattle.strat_memory.specs.Memory.{Memory, IsMemoryOf};
 ghost use Rattle.strat_publish.specs.Counting.{CountsWritten, manifest_with_array};
 ghost use Rattle.strat_publish.specs.Publishing.{IsComputed, IsWrittenBeside, MayCompute, contents_after, descs_to, descs_behind};
@@ -28,14 +28,14 @@ pub fn a_whole_store_may_promote()
         → MayPromote s.memory s.levels s.chained.manifest.next_array }
 {}
 
-/// Where such a store stands on its disk and its journal fills its region, its next contents may be computed, in a space in
-/// which just its blocks are used and some others, as those of arrays that are kept for cursors. Of the extents of its
-/// manifest's chain only the blocks are known.
+/// Where such a store stands on its disk, its journal fills its region, and a level was made of that beside it, its next
+/// contents may be computed, in the space of the level. Of the extents of its manifest's chain only the blocks are known.
 pub fn a_store_that_stands_may_compute<D: Viewed>()
-    ensures ok { (d : D) (s : Held) (x : Contents) (chain others : List Extent) (space : SpaceView)
-        → IsConsistent s → StandsWith (D.view d) s x → s.sb.mem ≤ length s.log.list
-        → blocks_of chain ≡ s.chained.blocks → IsSpaceOf space x others
-        → MayCompute (D.view d) space s.memory s.levels s.log x others }
+    ensures ok { (d : D) (s : Held) (x : Contents) (chain : List Extent) (space : SpaceView)
+        (target : ℕ) (made : Option LevelDesc) (filters : LevelFilters) → IsConsistent s
+        → (m : StandsMade (D.view d) s x space target made filters) → s.sb.mem ≤ length s.log.list
+        → blocks_of chain ≡ s.chained.blocks
+        → MayCompute (D.view d) space s.memory s.log x target made filters m.beside.others }
 {}
 
 /// The contents whose manifest `next_manifest` makes follow those whose manifest and memory it was made of: they take the
@@ -50,12 +50,12 @@ pub fn the_next_manifest_makes_the_next_contents()
         (descs_behind target old.chained.manifest.levels) }
 {}
 
-/// Once a level was promoted and the next manifest was written, in free blocks, the next contents are computed: `lay_next`
-/// may make them those of the disk.
+/// Once a level was made of contents that stand and the next manifest was written, in free blocks, the next contents are
+/// computed: `lay_next` may make them those of the disk.
 pub fn what_was_written_beside_is_computed<D: Viewed>()
-    ensures ok { (v w u : D) (s t r : SpaceView) (old new : Contents) (target : ℕ)
+    ensures ok { (w u : D) (t r : SpaceView) (old new : Contents) (target : ℕ)
         (made : Option LevelDesc) (besides others : List Extent) (log : Log)
-        → IsWrittenBeside (D.view v) (D.view w) (D.view u) s t r old new target made besides others
+        → IsWrittenBeside (D.view w) (D.view u) t r old new target made besides others
         → IsTrue (is_lawful_manifest newest_format old.chained.manifest) → IsLogOf old log
         → IsComputed (D.view u) new.slot new.sb log old new }
 {}

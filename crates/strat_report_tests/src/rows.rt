@@ -22,11 +22,11 @@ pub const THIRTEEN_PUTS: &[u8] = b"\
 \x00\x00\x00\x11\x00\x00\x00\x0d\x01\x00\x00\x00\x00\x00\x03k13\x00\x011";
 /// The report after these.
 pub const OF_THIRTEEN: &[u8] = b"\
-store generation 4 mem 4 changes 13 of 100 versions 1 of 10\n\
-journal changes 1 updates 1\n\
-level 2 horizon 1 leads 12 entries 12\n\
-array 3 density 12/12 lead 12/12 versions 0\n\
-stored 13 updates 13 written 24\n";
+store generation 3 mem 4 changes 13 of 100 versions 1 of 10\n\
+journal changes 5 updates 5\n\
+level 1 horizon 1 leads 8 entries 8\n\
+array 2 density 8/8 lead 8/8 versions 0\n\
+stored 13 updates 13 written 12\n";
 /// Puts `a` thirteen times.
 const ONE_KEY: &[u8] = b"\
 \x00\x00\x00\x0f\x00\x00\x00\x01\x01\x00\x00\x00\x00\x00\x01a\x00\x011\
@@ -44,26 +44,27 @@ const ONE_KEY: &[u8] = b"\
 \x00\x00\x00\x0f\x00\x00\x00\x0d\x01\x00\x00\x00\x00\x00\x01a\x00\x011";
 /// The report after these.
 const OF_ONE_KEY: &[u8] = b"\
-store generation 4 mem 4 changes 13 of 100 versions 1 of 10\n\
-journal changes 1 updates 1\n\
+store generation 3 mem 4 changes 13 of 100 versions 1 of 10\n\
+journal changes 5 updates 5\n\
 level 1 horizon 1 leads 1 entries 1\n\
-array 3 density 1/1 lead 1/1 versions 0\n\
-stored 2 updates 13 written 3\n";
-/// A line of clones, with `a` at version 1 and `b` at version 3.
+array 2 density 1/1 lead 1/1 versions 0\n\
+stored 6 updates 13 written 2\n";
+/// A line of clones, with `a` at version 1 and `b` twice at version 3.
 const LINE: &[u8] = b"\
 \x00\x00\x00\x09\x00\x00\x00\x01\x04\x00\x00\x00\x00\
 \x00\x00\x00\x0f\x00\x00\x00\x02\x01\x00\x00\x00\x01\x00\x01a\x00\x011\
 \x00\x00\x00\x09\x00\x00\x00\x03\x04\x00\x00\x00\x01\
 \x00\x00\x00\x09\x00\x00\x00\x04\x04\x00\x00\x00\x02\
-\x00\x00\x00\x0f\x00\x00\x00\x05\x01\x00\x00\x00\x03\x00\x01b\x00\x011";
+\x00\x00\x00\x0f\x00\x00\x00\x05\x01\x00\x00\x00\x03\x00\x01b\x00\x011\
+\x00\x00\x00\x0f\x00\x00\x00\x06\x01\x00\x00\x00\x03\x00\x01b\x00\x011";
 /// The report after these.
 const OF_LINE: &[u8] = b"\
-store generation 2 mem 4 changes 5 of 100 versions 4 of 10\n\
-journal changes 1 updates 1\n\
+store generation 2 mem 4 changes 6 of 100 versions 4 of 10\n\
+journal changes 2 updates 2\n\
 level 1 horizon 4 leads 1 entries 1\n\
 array 1 density 1/1 lead 1/1 versions 1-3\n\
-stored 2 updates 2 written 1\n";
-/// Two keys at version 0, of which three versions are made that get a key each; then another of version 1.
+stored 3 updates 3 written 1\n";
+/// Two keys at version 0, of which three versions are made that get a key each; then another of version 1, four times.
 const FAN: &[u8] = b"\
 \x00\x00\x00\x0f\x00\x00\x00\x01\x01\x00\x00\x00\x00\x00\x01a\x00\x011\
 \x00\x00\x00\x0f\x00\x00\x00\x02\x01\x00\x00\x00\x00\x00\x01b\x00\x011\
@@ -73,44 +74,49 @@ const FAN: &[u8] = b"\
 \x00\x00\x00\x0f\x00\x00\x00\x06\x01\x00\x00\x00\x01\x00\x01c\x00\x011\
 \x00\x00\x00\x0f\x00\x00\x00\x07\x01\x00\x00\x00\x02\x00\x01c\x00\x011\
 \x00\x00\x00\x0f\x00\x00\x00\x08\x01\x00\x00\x00\x03\x00\x01c\x00\x011\
-\x00\x00\x00\x0f\x00\x00\x00\x09\x01\x00\x00\x00\x01\x00\x01d\x00\x011";
+\x00\x00\x00\x0f\x00\x00\x00\x09\x01\x00\x00\x00\x01\x00\x01d\x00\x011\
+\x00\x00\x00\x0f\x00\x00\x00\x0a\x01\x00\x00\x00\x01\x00\x01d\x00\x011\
+\x00\x00\x00\x0f\x00\x00\x00\x0b\x01\x00\x00\x00\x01\x00\x01d\x00\x011\
+\x00\x00\x00\x0f\x00\x00\x00\x0c\x01\x00\x00\x00\x01\x00\x01d\x00\x011";
 /// The report after these.
 const OF_FAN: &[u8] = b"\
-store generation 2 mem 8 changes 9 of 100 versions 4 of 10\n\
-journal changes 1 updates 1\n\
+store generation 2 mem 8 changes 12 of 100 versions 4 of 10\n\
+journal changes 4 updates 4\n\
 level 1 horizon 4 leads 5 entries 7\n\
 array 1 density 2/3 lead 3/3 versions 0-1\n\
 array 2 density 3/4 lead 2/4 versions 2-3\n\
-stored 8 updates 6 written 7\n";
-/// A key that is deleted at version 1, and a key at its child.
+stored 11 updates 9 written 7\n";
+/// A key that is deleted at version 1, and a key at its child, twice.
 const HIDDEN: &[u8] = b"\
 \x00\x00\x00\x0f\x00\x00\x00\x01\x01\x00\x00\x00\x00\x00\x01a\x00\x011\
 \x00\x00\x00\x09\x00\x00\x00\x02\x04\x00\x00\x00\x00\
 \x00\x00\x00\x0c\x00\x00\x00\x03\x02\x00\x00\x00\x01\x00\x01a\
 \x00\x00\x00\x09\x00\x00\x00\x04\x04\x00\x00\x00\x01\
-\x00\x00\x00\x0f\x00\x00\x00\x05\x01\x00\x00\x00\x02\x00\x01z\x00\x011";
+\x00\x00\x00\x0f\x00\x00\x00\x05\x01\x00\x00\x00\x02\x00\x01z\x00\x011\
+\x00\x00\x00\x0f\x00\x00\x00\x06\x01\x00\x00\x00\x02\x00\x01z\x00\x011";
 /// The report after these.
 const OF_HIDDEN: &[u8] = b"\
-store generation 2 mem 4 changes 5 of 100 versions 3 of 10\n\
-journal changes 1 updates 1\n\
+store generation 2 mem 4 changes 6 of 100 versions 3 of 10\n\
+journal changes 2 updates 2\n\
 level 1 horizon 3 leads 2 entries 3\n\
 array 1 density 1/1 lead 1/1 versions 0\n\
 array 2 density 1/2 lead 1/2 versions 1-2\n\
-stored 4 updates 3 written 3\n";
-/// Deletes `x`, which was never put, and puts four keys.
+stored 5 updates 4 written 3\n";
+/// Deletes `x`, which was never put, and puts five keys.
 const UNUSED: &[u8] = b"\
 \x00\x00\x00\x0c\x00\x00\x00\x01\x02\x00\x00\x00\x00\x00\x01x\
 \x00\x00\x00\x0f\x00\x00\x00\x02\x01\x00\x00\x00\x00\x00\x01a\x00\x011\
 \x00\x00\x00\x0f\x00\x00\x00\x03\x01\x00\x00\x00\x00\x00\x01b\x00\x011\
 \x00\x00\x00\x0f\x00\x00\x00\x04\x01\x00\x00\x00\x00\x00\x01c\x00\x011\
-\x00\x00\x00\x0f\x00\x00\x00\x05\x01\x00\x00\x00\x00\x00\x01d\x00\x011";
+\x00\x00\x00\x0f\x00\x00\x00\x05\x01\x00\x00\x00\x00\x00\x01d\x00\x011\
+\x00\x00\x00\x0f\x00\x00\x00\x06\x01\x00\x00\x00\x00\x00\x01e\x00\x011";
 /// The report after these.
 const OF_UNUSED: &[u8] = b"\
-store generation 2 mem 4 changes 5 of 100 versions 1 of 10\n\
-journal changes 1 updates 1\n\
+store generation 2 mem 4 changes 6 of 100 versions 1 of 10\n\
+journal changes 2 updates 2\n\
 level 1 horizon 1 leads 3 entries 3\n\
 array 1 density 3/3 lead 3/3 versions 0\n\
-stored 4 updates 5 written 3\n";
+stored 5 updates 6 written 3\n";
 /// Two settings, and two clones of them with a change each.
 const SETTINGS: &[u8] = b"\
 \x00\x00\x00\x1b\x00\x00\x00\x01\x01\x00\x00\x00\x00\x00\x0buser/1/name\x00\x03Ann\
@@ -137,9 +143,9 @@ levels 0 arrays 0 stored 0 written 0\n\
 density none\n";
 /// The summary of the fan, as if a workload had made it.
 const SUMMARY_OF_FAN: &[u8] = b"\
-workload seed 18446744073709551615 changes 9\n\
-versions 4 updates 6 clones 3\n\
-levels 1 arrays 2 stored 8 written 7\n\
+workload seed 18446744073709551615 changes 12\n\
+versions 4 updates 9 clones 3\n\
+levels 1 arrays 2 stored 11 written 7\n\
 density 2/3\n";
 
 /// Whether a store that was served these frames is reported so, and is sound.
@@ -221,7 +227,7 @@ fn workloads_are_summed_up(rt: HostRuntime) {
             new_store(rt.alloc(), 8, 100, 10),
             FAN,
             18_446_744_073_709_551_615,
-            9,
+            12,
             SUMMARY_OF_FAN
         )
     );

@@ -1,5 +1,5 @@
 -- A serving run over a disk that shows a table, in words of tables and of crashes.
-use Rattle.std.proofs.Common.{◌≡◌, ◌≢◌, ◌≤◌, ◌<◌, ◌+◌, ◌*◌, ℕ, zero, suc, eqb, eqb-true, cond, Bool, true, false, List, [], ◌∷◌, ◌++◌, length, take, map, Option, Some, None, refl, sym, ap, subst, ◌∙◌, inl, inr, append-nil, length-append, true≢false, arith}
+use Rattle.std.proofs.Common.{◌≡◌, ◌≢◌, ◌≤◌, ◌<◌, ◌+◌, ◌-◌, ◌*◌, ℕ, zero, suc, eqb, eqb-true, cond, Bool, true, false, List, [], ◌∷◌, ◌++◌, length, take, map, Option, Some, None, refl, sym, ap, subst, ◌∙◌, inl, inr, append-nil, length-append, true≢false, arith}
 use Rattle.std.specs.Prelude.{option_map, slice_get, IfSome, IsSome}
 use Rattle.std.specs.List.{flat_map, list_all, AllByRecursion}
 use Rattle.std.proofs.lemmas.Bool.{and_from, cases_lt, eq-eqb, lt-ltb, le-ltb}
@@ -20,7 +20,7 @@ use Rattle.strat_model.specs.declared.replies.Refusal.TheVariants as why
 use Rattle.strat_model.specs.Answer.{Answer, refusal}
 use Rattle.strat_model.specs.Batch.{Continuation, tables_continued}
 use Rattle.strat_model.specs.Ended.{status_of}
-use Rattle.strat_model.specs.Run.{Position, Response, Exchange, Interruption, Transcript, IsTranscript, bodies_of, responses_of, of_interruption, sent_bytes}
+use Rattle.strat_model.specs.Run.{MayFill, Position, Response, Exchange, Interruption, Transcript, IsTranscript, bodies_of, responses_of, of_interruption, sent_bytes}
 use Rattle.strat_model.specs.Stream.{frame, Splits, Whole, Rest, Long, ending_of, is_partial, is_too_long}
 use Rattle.strat_model.specs.Table.{Table}
 use Rattle.def_publish.specs.Standing.{ShowsTable}
@@ -31,9 +31,8 @@ use Rattle.strat_memory.specs.Paying.{IsPaidIn}
 use Rattle.strat_loop.specs.Session.{AreNextIn, Begins, Session, AnswersAll, WaitsForNone, EndsWithFault, EndsFor}
 use Rattle.strat_serve.specs.Serving.{AreAnsweredBy, RespondsTo, SendsAllButBatch, Served, FollowsRun, all_responses, listed_response, last_output, output, too_long_bytes}
 use Rattle.strat_serve.specs.Tables.{AnswersAllTaken, AnswersUntilFault, AnswersUntilCut, RefusesNext, AnswersUntil, AnswersAsTable, EndsAtTables, GoesThroughTables, IsThrifty, KeepsSpace, begins_at}
-use Rattle.strat_loop.specs.Spoken.{EmptiesFullRegion}
+use Rattle.strat_loop.specs.Spoken.{FitsBothRegions}
 use Rattle.strat_loop.specs.World.{Streams, beside}
-use Rattle.def_slice.specs.Filling.{IsFillFrom}
 
 -- less than a whole frame is few bytes
 partial_short : (bytes : List ℕ) → is_partial bytes ≡ true → length bytes < 2052
@@ -157,9 +156,8 @@ module _ (f : Image) (t : Table) (shows : ShowsTable f t) (mem : ℕ) (start : P
       let fill : start.fill ≡ length shows.state.journal = begins.fill ∙ ap (λ (u : State). length u.journal) state_is in
       (λ i. record { table = table i; fill = fill i })
 
-  pub region_there : (run : Transcript) → EmptiesFullRegion mem start run → EmptiesFullRegion shows.state.mem (begins_at f t shows) run
-  region_there run empties =
-      subst (λ (m : ℕ). EmptiesFullRegion m (begins_at f t shows) run) mem_is (subst (λ (p : Position). EmptiesFullRegion mem p run) start_is empties)
+  pub region_there : (run : Transcript) → FitsBothRegions mem run → FitsBothRegions shows.state.mem run
+  region_there run fits = subst (λ (m : ℕ). FitsBothRegions m run) mem_is fits
 
   pub begins_there : (run : Transcript) → IsTranscript mem start run → IsTranscript shows.state.mem (begins_at f t shows) run
   begins_there run is =
@@ -426,17 +424,21 @@ fits_few bodies [] all = omega arith
 fits_few [] (t ∷ ts) all = absurd all
 fits_few (b ∷ bs) (t ∷ ts) all = omega (arith, fits_few bs ts all.1)
 
--- at each place of positions of which none has more changes in the journal than a region takes, or as many as first
-pub few_at : (mem first : ℕ) (ps : List Position) (i : ℕ) (p : Position) → AllByRecursion (λ (q : Position). IsFillFrom mem first q.fill) ps → slice_get ps i ≡ Some p → IsFillFrom mem first p.fill
-few_at mem first [] i p each there = absurd (let e : ◌≡◌ {A = Option Position} None (Some p) = there in cc)
-few_at mem first (q ∷ ps) zero p each there =
-    let same : q ≡ p = (let e : ◌≡◌ {A = Option Position} (Some q) (Some p) = there in cc) in subst (λ (r : Position). IsFillFrom mem first r.fill) same each.0
-few_at mem first (q ∷ ps) (suc i) p each there = few_at mem first ps i p each.1 there
+-- how many changes the journal has after one more, where it has two fewer than both regions take, or the first has room
+pub fill_full : (mem before after : ℕ) → 1 ≤ mem → before ≡ 2 * mem - 2 → MayFill mem before after → after ≡ mem - 1
+fill_full mem before after some full (inl more) = absurd (omega (arith, full, more.0))
+fill_full mem before after some full (inr anew) = omega (arith, some, full, anew.1)
 
--- then there are no more than a region takes, where there were no more first
-pub few_of : (mem first fill : ℕ) → first ≤ mem → IsFillFrom mem first fill → fill ≤ mem
-few_of mem first fill few (inl is) = is
-few_of mem first fill few (inr same) = omega (arith, few, same)
+pub fill_short : (mem before after : ℕ) → before < mem → MayFill mem before after → after ≡ before + 1
+fill_short mem before after low (inl more) = more.1
+fill_short mem before after low (inr anew) = absurd (omega (arith, low, anew.0))
+
+-- at each place of positions of which none has more changes in the journal than so many
+pub few_at : (most : ℕ) (ps : List Position) (i : ℕ) (p : Position) → AllByRecursion (λ (q : Position). q.fill ≤ most) ps → slice_get ps i ≡ Some p → p.fill ≤ most
+few_at most [] i p each there = absurd (let e : ◌≡◌ {A = Option Position} None (Some p) = there in cc)
+few_at most (q ∷ ps) zero p each there =
+    let same : q ≡ p = (let e : ◌≡◌ {A = Option Position} (Some q) (Some p) = there in cc) in subst (λ (r : Position). r.fill ≤ most) same each.0
+few_at most (q ∷ ps) (suc i) p each there = few_at most ps i p each.1 there
 
 -- no response of these tells of a fault
 pub calm_at : (answers : List Response) (i : ℕ) (r : Response) → AllByRecursion (λ (t : Response). fault_told t.answer.reply ≡ None) answers → slice_get answers i ≡ Some r → fault_told r.answer.reply ≡ None

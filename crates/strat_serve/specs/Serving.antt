@@ -1,5 +1,5 @@
 -- A serving run of commands and replies: what it answered, what it sent, and what it left on the disk.
-use Rattle.std.specs.Prelude.{◌≡◌, ◌≤◌, ◌⊎◌, ℕ, ◌+◌, ◌==◌, ◌&&◌, Bool, true, false, if◌then◌else◌, List, [], ◌∷◌, ◌++◌, length, take, map, Option, Some, None, IfSome, IsSome, option_map, Ok}
+use Rattle.std.specs.Prelude.{◌≡◌, ◌≤◌, ◌⊎◌, ℕ, ◌+◌, ◌-◌, ◌*◌, ◌==◌, ◌&&◌, Bool, true, false, if◌then◌else◌, List, [], ◌∷◌, ◌++◌, length, take, map, Option, Some, None, IfSome, IsSome, option_map, Ok}
 use Rattle.std.specs.List.{AllByRecursion}
 use Rattle.strat_base.specs.declared.failures.Fault.TheVariants as fault
 use Rattle.def_crash.specs.Faults.{Rose}
@@ -27,9 +27,8 @@ use Rattle.strat_store.specs.Applying.{is_fault, may_write}
 use Rattle.strat_open.specs.Following.{ChangesGateAlone, FollowsFrom}
 use Rattle.strat_memory.specs.Held.{Held, IsConsistent, IsOnDisk}
 use Rattle.strat_store.specs.Ranging.{HasPairsFor}
-use Rattle.strat_loop.specs.Spoken.{EmptiesFullRegion}
+use Rattle.strat_loop.specs.Spoken.{FitsBothRegions}
 use Rattle.strat_loop.specs.World.{World}
-use Rattle.def_slice.specs.Filling.{IsFillFrom}
 use Rattle.strat_loop.specs.Session.{Took, SendsPrefix, IsFoundAs, IsFoundDamaged, Begins, Session, WaitsForNone, EndsWithFault, EndsFor, AreNextIn, GaveUp}
 
 -- the reply to a frame that is too long
@@ -138,8 +137,8 @@ pub record FollowsRun (before now : DiskView) (f : Image) (t : Table) (s : Sessi
   -- which is the device's: a disk that shows a table is never found damaged
   pub transcript : Transcript
   pub is : IsTranscript mem start transcript
-  -- a full region of the journal was emptied at once
-  pub region : EmptiesFullRegion mem start transcript
+  -- the journal fitted its two regions throughout
+  pub region : FitsBothRegions mem transcript
   pub front : take (length (bodies_of transcript)) s.bodies ≡ bodies_of transcript
   pub answers_are : s.answers ≡ map (λ x. x.response) transcript.exchanges
   pub broken_is : s.broken ≡ option_map (λ h. h.response) transcript.interruption
@@ -172,11 +171,11 @@ pub record Served (budget : ℕ) (how : Ended) (before now : World) : Type 0 whe
       → IsFoundDamaged before.disk now.disk block
   -- where the disk exposes its content, each crash at the end leaves the superblock and the manifest
   -- of a store as an opening may find it, unless the device failed at a command; where that content shows
-  -- a table, its journal too, of no more changes than a region takes, or of as many as the content's
+  -- a table, its journal too, of at most two changes fewer than both its regions take
   pub left : (EndsWithFault session.broken fault.Device → ⊥) → (f : Image)
       → Exposes before.disk f → (store : Held) × IsConsistent store × IsOnDisk now.disk store
       × ((t : Table) (shows : ShowsTable f t) → IsFoundAs now.disk store
-      × IsFillFrom store.sb.mem (length shows.state.journal) (length store.log.list))
+      × (length store.log.list ≤ 2 * store.sb.mem - 2))
   -- and where no change has a response after which a store may have written, a crash leaves what it
   -- might have left before, or the content but for one gate
   pub still : AreCalm session.bodies (all_responses session) → (f : Image) → Exposes before.disk f

@@ -23,7 +23,7 @@ use Rattle.def_state.specs.State.{State, stored, updates_of, versions_of}
 use Rattle.strat_memory.specs.Paying.{IsPaidIn}
 use Rattle.strat_loop.specs.Session.{Took, AreNextIn, IsAtEnd, WaitsForNone}
 use Rattle.strat_serve.specs.Serving.{too_long_bytes}
-use Rattle.strat_loop.specs.Spoken.{EmptiesFullRegion}
+use Rattle.strat_loop.specs.Spoken.{FitsBothRegions}
 use Rattle.strat_loop.specs.World.{Streams}
 
 -- a run answered every frame that was taken whole, none of them by a fault, and a rest with no whole frame was taken
@@ -124,7 +124,7 @@ pub record AnswersAsTable (budget mem : ℕ) (start : Position) (status : ℕ) (
   pub ended : status ≡ status_of how
   pub run : Transcript
   pub is : IsTranscript mem start run
-  pub region : EmptiesFullRegion mem start run
+  pub region : FitsBothRegions mem run
   pub broken : BreaksForFault run before now
   pub taken : List ℕ
   pub took : Took before.left now.left taken

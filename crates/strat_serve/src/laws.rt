@@ -2,7 +2,7 @@
 //! that does nothing.
 
 ghost use Rattle.std.specs.List.{flat_map};
-ghost use Rattle.std.specs.Prelude.{◌≡◌, ◌≢◌, ◌<◌, ◌≤◌, ◌⊎◌, ◌+◌, ℕ, List, [], ◌++◌, Contains, IsSome, None, Ok, Some, length, map, slice_get, take, true};
+ghost use Rattle.std.specs.Prelude.{◌≡◌, ◌≢◌, ◌<◌, ◌≤◌, ◌⊎◌, ◌+◌, ◌-◌, ◌*◌, ℕ, List, [], ◌++◌, Contains, IsSome, None, Ok, Some, length, map, slice_get, take, true};
 ghost use Rattle.strat_base.specs.declared.descriptors.ArrayDesc.{ArrayDesc};
 ghost use Rattle.def_crash.specs.Blocks.{AgreeOn};
 ghost use Rattle.def_crash.specs.Faults.{Rose};
@@ -21,7 +21,7 @@ ghost use Rattle.strat_model.specs.Answer.{refusal};
 ghost use Rattle.strat_model.specs.Ended.{status_of};
 ghost use Rattle.strat_model.specs.Request.{Request};
 ghost use Rattle.strat_model.specs.Batch.{tables_continued};
-ghost use Rattle.strat_model.specs.Run.{Position, Response, Transcript, bodies_of, positions_of, reaches_disk, takes_memory};
+ghost use Rattle.strat_model.specs.Run.{IsAfter, Position, Response, Transcript, bodies_of, is_carried_out, positions_of, reaches_disk, takes_memory};
 ghost use Rattle.strat_model.specs.Spelling.{Spells, IsRefusedAs};
 ghost use Rattle.strat_model.specs.Stream.{Splits, frame};
 ghost use Rattle.strat_model.specs.Table.{Table, bare};
@@ -66,16 +66,18 @@ pub fn a_served_run_is_a_run_of_its_table<D: Viewed>()
         → KeepsSpace f (D.view d) (D.view e) }
 {}
 
-/// Where a run begins with no more changes in its journal than one region takes, it never has more: a full region is emptied
-/// by the next change. Where it begins with more, it has just these until a change is carried out, and then no more than one
-/// region takes.
-pub fn a_run_uses_one_region_of_its_journal()
-    ensures one { (budget mem status i : ℕ) (start p : Position) (x y : Streams)
-        (a : AnswersAsTable budget mem start status x y) → start.fill ≤ mem
-        → slice_get (positions_of a.run) i ≡ Some p → p.fill ≤ mem }
+/// At no position of a run does its journal have more changes than two fewer than both regions take. With so many the next
+/// change empties a region: one fewer than a region takes are left. While the first region has room, a change is one more.
+pub fn a_run_keeps_its_journal_within_both_regions()
     ensures most { (budget mem status i : ℕ) (start p : Position) (x y : Streams)
         (a : AnswersAsTable budget mem start status x y)
-        → slice_get (positions_of a.run) i ≡ Some p → (p.fill ≤ mem) ⊎ (p.fill ≡ start.fill) }
+        → slice_get (positions_of a.run) i ≡ Some p → p.fill ≤ 2 * mem - 2 }
+    ensures full { (mem : ℕ) (at after : Position) (request : Request) → 1 ≤ mem
+        → at.fill ≡ 2 * mem - 2 → IsAfter mem at request after
+        → is_carried_out at request ≡ true → after.fill ≡ mem - 1 }
+    ensures room { (mem : ℕ) (at after : Position) (request : Request) → at.fill < mem
+        → IsAfter mem at request after → is_carried_out at request ≡ true
+        → after.fill ≡ at.fill + 1 }
 {}
 
 /// Whatever the disk shows, fewer than 6,148 bytes were taken behind the frames that were answered otherwise than
@@ -117,8 +119,8 @@ pub fn a_response_fits_its_body()
 
 /// Whatever a disk shows that exposes its content: a run was served only where recovery finds a store; the disk's count of
 /// faults rose where it ended the run, and nowhere else but where the sink did; unless the device failed the superblock
-/// and the manifest of a store are left, and where the disk showed a table a journal of no more changes than one region
-/// takes, or of as many as it had; and commands that change nothing leave the disk but for one gate.
+/// and the manifest of a store are left, and where the disk showed a table a journal of at most two changes fewer than both
+/// regions take; and commands that change nothing leave the disk but for one gate.
 pub fn a_served_run_finds_and_leaves_a_store<D: Viewed>()
     ensures found { (x y : Streams) (d e : D) (budget : ℕ) (how : Ended) (f : Image)
         → Served budget how (beside x (D.view d)) (beside y (D.view e)) → Exposes (D.view d) f
@@ -134,12 +136,10 @@ pub fn a_served_run_finds_and_leaves_a_store<D: Viewed>()
         → how ≢ ended.Device → how ≢ ended.Sink
         → (store : Held) × IsConsistent store × IsOnDisk (D.view e) store }
     ensures journal { (x y : Streams) (d e : D) (budget : ℕ) (how : Ended) (f : Image) (t : Table)
-        (shows : ShowsTable f t)
-        → Served budget how (beside x (D.view d)) (beside y (D.view e)) → Exposes (D.view d) f
-        → how ≢ ended.Device → how ≢ ended.Sink → (c : Image)
+        → ShowsTable f t → Served budget how (beside x (D.view d)) (beside y (D.view e))
+        → Exposes (D.view d) f → how ≢ ended.Device → how ≢ ended.Sink → (c : Image)
         → Images (D.view e) c → (head : Head) × (recover c ≡ Ok (Some head))
-        × ((length head.journal ≤ head.sb.mem)
-        ⊎ (length head.journal ≡ length shows.state.journal)) }
+        × (length head.journal ≤ 2 * head.sb.mem - 2) }
     ensures still { (x y : Streams) (d e : D) (budget : ℕ) (how : Ended) (f : Image)
         (s : Served budget how (beside x (D.view d)) (beside y (D.view e)))
         → AreCalm s.session.bodies (all_responses s.session) → Exposes (D.view d) f

@@ -1,4 +1,4 @@
-//! A store whose only array is damaged behind its back, in block 7.
+//! A store whose only array is damaged behind its back, in block 6.
 
 use crate::scripts::{Script, block_blamed, command, told};
 use crate::support::{THIRTEEN_PUTS, is_done, small_store};
@@ -12,22 +12,22 @@ use strat_store::Store;
 
 /// Asks for `k01` at version 0, under tag 1.
 const GET: &[u8] = b"\x00\x00\x00\x0e\x00\x00\x00\x01\x03\x00\x00\x00\x00\x00\x03k01";
-/// Its reply where block 7 is damaged.
-const DAMAGED: &[u8] = b"\x00\x00\x00\x09\x00\x00\x00\x01\x22\x00\x00\x00\x07";
+/// Its reply where block 6 is damaged.
+const DAMAGED: &[u8] = b"\x00\x00\x00\x09\x00\x00\x00\x01\x22\x00\x00\x00\x06";
 
-/// A store of thirteen puts, of which twelve are in block 7.
+/// A store of thirteen puts, of which eight are in block 6.
 fn thirteen(alloc: Global) -> Option<MemDisk> {
     let mut disk = small_store(alloc)?;
     is_done(alloc, &mut disk, THIRTEEN_PUTS).then_some(disk)
 }
 
-/// Sets how many entries block 7 says that it has, where it is there.
+/// Sets how many entries block 6 says that it has, where it is there.
 fn say_entries(disk: &mut MemDisk, entries: u8) -> bool {
-    if disk.bytes().len() < 28674 {
+    if disk.bytes().len() < 24578 {
         return false;
     }
-    disk.alter(28672, 0);
-    disk.alter(28673, entries);
+    disk.alter(24576, 0);
+    disk.alter(24577, entries);
     true
 }
 
@@ -51,14 +51,14 @@ fn is_blamed(alloc: Global, disk: &mut MemDisk) -> Option<bool> {
     };
     Some(
         say_entries(disk, 0)
-            && blames_block_7(alloc, disk, &Command::Stat, &get)?
-            && blames_block_7(alloc, disk, &Command::Stat, &scan)?
-            && blames_block_7(alloc, disk, &open, &next)?,
+            && blames_block_6(alloc, disk, &Command::Stat, &get)?
+            && blames_block_6(alloc, disk, &Command::Stat, &scan)?
+            && blames_block_6(alloc, disk, &open, &next)?,
     )
 }
 
-/// Whether a store that is opened and takes one command names block 7 as it is asked for another, and is spent.
-fn blames_block_7(
+/// Whether a store that is opened and takes one command names block 6 as it is asked for another, and is spent.
+fn blames_block_6(
     alloc: Global,
     disk: &mut MemDisk,
     first: &Command<'_>,
@@ -68,7 +68,7 @@ fn blames_block_7(
     let mut out = PairBuf::new(alloc).ok()?;
     let taken = told(&mut store, disk, &mut out, first);
     let blamed = block_blamed(&mut store, disk, &mut out, second);
-    Some(taken.is_some() && blamed == Some(7) && store.is_spent())
+    Some(taken.is_some() && blamed == Some(6) && store.is_spent())
 }
 
 #[test]

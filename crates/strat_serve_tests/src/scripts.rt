@@ -20,6 +20,8 @@ pub enum Script {
     Paging,
     /// Changes that are all accepted, over several versions.
     Changes,
+    /// These changes, with a command about a cursor after each two: openings, pages and closings, all accepted.
+    Slicing,
     /// Puts of thirteen keys at version 0.
     Thirteen,
     /// Looks up all that the changes may have set in nine versions.
@@ -34,6 +36,8 @@ pub enum Script {
 
 /// How many of the changes a run makes: they end with nine versions.
 pub const CHANGES: u32 = 40;
+/// How many commands these are with those about cursors between them.
+pub const SLICING: u32 = 60;
 /// How many commands look these up.
 pub const LOOKS: u32 = 48;
 
@@ -175,6 +179,40 @@ fn change(n: u32) -> Command<'static> {
     }
 }
 
+/// Command number n about a cursor, behind so many changes: of four, one opens a cursor and two ask for a page of it or of the
+/// first one; every other cursor is closed, but the first ones of a pair stay open.
+fn about_cursors(n: u32, changes: u32) -> Command<'static> {
+    let cursor = 1 + u64::from(n / 4);
+    match n % 4 {
+        0 => Command::OpenCursor {
+            version: mixed(n) % versions_before(changes),
+            lo: b"",
+            hi: b"",
+        },
+        1 => Command::NextPairs { cursor, limit: 1 },
+        3 if n % 8 == 7 => Command::CloseCursor { cursor },
+        _ => Command::NextPairs {
+            cursor: 1,
+            limit: 1,
+        },
+    }
+}
+
+/// Command number n of the changes with commands about cursors between them.
+fn slicing(n: u32) -> Command<'static> {
+    let before = changes_among(n);
+    if n % 3 == 2 {
+        about_cursors(n / 3, before)
+    } else {
+        change(before)
+    }
+}
+
+/// How many changes are among the first so many of these commands.
+pub fn changes_among(n: u32) -> u32 {
+    n.saturating_sub(n / 3)
+}
+
 /// Asks what is told of one of ten versions, for one of four keys there, or for the counts.
 fn look(n: u32) -> Command<'static> {
     let version = n % 48 / 5;
@@ -222,6 +260,7 @@ pub fn command(script: Script, n: u32) -> Command<'static> {
         Script::Any => any(n),
         Script::Paging => paging(n),
         Script::Changes => change(n),
+        Script::Slicing => slicing(n),
         Script::Thirteen => Command::Put {
             version: 0,
             key: thirteen(n),

@@ -3,8 +3,8 @@
 ghost use Rattle.std.specs.Prelude.{◌≤◌, ◌+◌, ◌^◌};
 
 use crate::scripts::{
-    Beside, CHANGES, LOOKS, Script, all_accepted, changes_of, count_accepted, fresh_beside,
-    stay_alike,
+    Beside, CHANGES, LOOKS, SLICING, Script, all_accepted, changes_among, changes_of,
+    count_accepted, fresh_beside, stay_alike,
 };
 use crate::support::{THIRTEEN_PUTS, new_store, run, small_store};
 use std::alloc::Global;
@@ -13,9 +13,10 @@ use strat_disk::{Disk, FuseDisk, MemDisk};
 use strat_store::{AttachFault, Store};
 
 /// A list of changes, how many they are, those that look up what they set, and how many of the changes become durable
-/// together at most.
+/// together at most; and the commands of the run that is stopped, with which the changes come.
 #[derive(Clone, Copy)]
 pub(crate) struct Plan {
+    pub run: Run,
     pub script: Script,
     pub most: u32,
     pub look: Script,
@@ -23,11 +24,33 @@ pub(crate) struct Plan {
     pub batch: u32,
 }
 
-/// How many commands a store on a disk acknowledges: none where the disk fails as it is opened.
+/// What a run is given that is stopped.
+#[derive(Clone, Copy)]
+pub(crate) enum Run {
+    /// The changes alone.
+    Changes,
+    /// The changes with commands about cursors between them.
+    Slicing,
+}
+
+/// How many of the changes of a run a store accepts, where it is asked for all of them.
+fn changes_accepted<D: Disk>(
+    store: &mut Store,
+    disk: &mut D,
+    out: &mut PairBuf,
+    plan: Plan,
+) -> u32 {
+    match plan.run {
+        Run::Changes => count_accepted(store, disk, out, plan.script, plan.most),
+        Run::Slicing => changes_among(count_accepted(store, disk, out, Script::Slicing, SLICING)),
+    }
+}
+
+/// How many changes a store on a disk acknowledges: none where the disk fails as it is opened.
 fn acknowledged<D: Disk>(alloc: Global, disk: &mut D, plan: Plan) -> Option<u32> {
     let mut out = PairBuf::new(alloc).ok()?;
     match Store::attach(alloc, disk) {
-        Ok(mut store) => Some(count_accepted(&mut store, disk, &mut out, plan.script, plan.most)),
+        Ok(mut store) => Some(changes_accepted(&mut store, disk, &mut out, plan)),
         Err(AttachFault::Device) => Some(0),
         Err(_) => None,
     }
@@ -144,20 +167,72 @@ fn stops(alloc: Global, store: &MemDisk, plan: Plan) -> Option<u64> {
     None
 }
 
+/// The changes over levels, alone or with commands about cursors between them.
+fn changes_over_levels(run: Run) -> Plan {
+    Plan {
+        run,
+        script: Script::Changes,
+        most: CHANGES,
+        look: Script::Look,
+        looks: LOOKS,
+        batch: 1,
+    }
+}
+
+// A region takes four changes: a promotion is one slice, or two.
 #[test]
 fn a_crash_leaves_a_prefix_of_changes_over_levels(rt: HostRuntime) {
     let Some(store) = new_store(rt.alloc(), 4, 300, 40) else {
         assert!(rt; false);
         return;
     };
-    let plan = Plan {
-        script: Script::Changes,
-        most: CHANGES,
-        look: Script::Look,
-        looks: LOOKS,
-        batch: 1,
+    let plan = changes_over_levels(Run::Slicing);
+    assert!(rt; stops(rt.alloc(), &store, plan).is_some_and(|calls| calls > 200));
+}
+
+// It takes five: a promotion is up to three slices.
+#[test]
+fn a_crash_leaves_a_prefix_of_changes_over_slices(rt: HostRuntime) {
+    let Some(store) = new_store(rt.alloc(), 5, 300, 40) else {
+        assert!(rt; false);
+        return;
     };
-    assert!(rt; stops(rt.alloc(), &store, plan).is_some_and(|calls| calls > 20));
+    let plan = changes_over_levels(Run::Slicing);
+    assert!(rt; stops(rt.alloc(), &store, plan).is_some_and(|calls| calls > 200));
+}
+
+/// Whether a store that took so many changes in one run, and is then opened, has just these, and takes the others as the plain
+/// table does, opened again after each.
+fn opens_after(alloc: Global, store: &MemDisk, plan: Plan, taken: u32) -> Option<bool> {
+    let mut disk = store.crash(0).ok()?;
+    let mut out = PairBuf::new(alloc).ok()?;
+    let mut first = Store::attach(alloc, &mut disk).ok()?;
+    let accepted = count_accepted(&mut first, &mut disk, &mut out, plan.script, taken);
+    Some(accepted == taken && has_prefix(alloc, &mut disk, plan, taken, true) == Some(true))
+}
+
+/// Whether it is so of each number of changes, and so of each fill that a run leaves.
+fn opens_after_each(alloc: Global, store: &MemDisk, plan: Plan) -> bool {
+    for taken in 0..CHANGES + 1 {
+        if opens_after(alloc, store, plan, taken) != Some(true) {
+            return false;
+        }
+    }
+    true
+}
+
+#[test]
+fn a_store_is_opened_at_each_fill(rt: HostRuntime) {
+    let plan = changes_over_levels(Run::Changes);
+    let (Some(four), Some(five)) = (
+        new_store(rt.alloc(), 4, 300, 40),
+        new_store(rt.alloc(), 5, 300, 40),
+    ) else {
+        assert!(rt; false);
+        return;
+    };
+    assert!(rt; opens_after_each(rt.alloc(), &four, plan));
+    assert!(rt; opens_after_each(rt.alloc(), &five, plan));
 }
 
 /// How many of the thirteen puts a run on a disk that fails after so many calls answers as done, where each crash then
@@ -196,6 +271,7 @@ fn a_crash_leaves_every_put_that_was_acknowledged(rt: HostRuntime) {
         return;
     };
     let plan = Plan {
+        run: Run::Changes,
         script: Script::Thirteen,
         most: 13,
         look: Script::LookThirteen,

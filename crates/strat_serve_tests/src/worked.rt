@@ -1,8 +1,8 @@
-//! A worked stream: fourteen changes, which fill the journal three times, with a cursor that is opened, paged through and closed
-//! among them. Each call of its source, its sink and its disk fails in turn, and its bytes are cut at each place.
+//! A worked stream: fourteen changes, which fill the journal three times and empty it twice, with a cursor that is opened, paged
+//! through and closed among them. Each call of its source, its sink and its disk fails in turn, and its bytes are cut at each place.
 
 use crate::scripts::Script;
-use crate::stops::{Plan, has_prefix};
+use crate::stops::{Plan, Run, has_prefix};
 use crate::support::{run_in_pieces, small_store};
 use std::alloc::Global;
 use strat_disk::{Disk, FuseDisk, MemDisk};
@@ -87,6 +87,7 @@ const BUDGET: u64 = 100_000;
 /// replies to sixteen wait for a sink.
 pub(crate) fn plan(batch: u32) -> Plan {
     Plan {
+        run: Run::Changes,
         script: Script::Worked,
         most: 14,
         look: Script::LookWorked,

@@ -184,7 +184,6 @@ module _ (v now : DiskView) (s new : Held) (x : Contents) (rows : List Cursor) (
             fill = λ done. is.place.fill (sym carried ∙ done);
             same = λ off. is.place.same (sym carried ∙ off);
           };
-          fill = λ done. is.fill (sym carried ∙ done);
         })
         | inr (inl is) ↦ inr (inl (record {
           takes = takes_for c;

@@ -45,8 +45,8 @@ use Rattle.def_publish.proofs.PartsLemmas.{reads_head, reads_state}
 use Rattle.def_publish.specs.Contents.{Contents, contents_head, contents_state}
 use Rattle.def_publish.specs.Standing.{LeavesContent, ShowsTable}
 use Rattle.strat_memory.proofs.MemoryLawLemmas.{version_told, store_told_with, version_unknown}
-use Rattle.def_slice.proofs.FillingLemmas.{empties_nothing}
 use Rattle.strat_store.proofs.AppliedLemmas.{next_later}
+use Rattle.strat_store.proofs.GoingLemmas.{goes_spent, open_as}
 use Rattle.strat_store.proofs.CursoringLemmas.{looks_wider, stands_now, stands_still, still_going}
 use Rattle.strat_store.specs.Applying.{IsLookedUp, IsUntouched, FailsAsTold, FollowsStep, TellsTroubleOf, change_wanted, refusal_of_look, is_fault, ran_short, table_left}
 use Rattle.strat_store.specs.Cursoring.{IsAppliedAt, is_of_cursor}
@@ -381,7 +381,6 @@ told_at now s new x rows r answer other none log memory spent told stands =
       place = stays s.log.mem (position_at s x rows) (position_at new x rows) r off
           ((λ i. record (table_of (contents_state x)) { cursors = rows; next_cursor = (memory i).cursors.next }) ∙ sym (look_kept t r other none))
           (ap (λ (l : Log). length l.list) log);
-      fill = empties_nothing s.log.mem (position_at s x rows) (position_at new x rows) r off;
     })
 
 -- without a look at the disk
@@ -389,7 +388,7 @@ pub memory_applied : (v : DiskView) (s : Held) (x : Contents) (rows : List Curso
     → answer ≡ (step (table_at s x rows) r).answer → IsAppliedAt v s x rows r answer (record s { spent = is_fault answer.reply })
 memory_applied v s x rows whole at r answer other none told =
     told_at v s (record s { spent = is_fault answer.reply }) x rows r answer other none refl refl refl told
-    (stands_still v s x rows whole at s.memory (is_fault answer.reply) rows at.rows_are at.going)
+    (stands_still v s x rows whole at s.memory (is_fault answer.reply) rows refl at.rows_are at.going)
 
 -- and with one
 pub look_applied : (v now : DiskView) (s : Held) (x : Contents) (rows : List Cursor) (d : Blocks) (whole : IsConsistent s) (at : StandsAt v s x rows) (looks : LooksThrough v now (arrays_there s.levels) s.cached d) (leaves : LeavesContent now)
@@ -399,7 +398,7 @@ look_applied v now s x rows d whole at looks leaves r answer other none same loo
   | inl answered ↦
       let wider = looks_wider v now (arrays_there s.levels) (arrays_held s.memory s.levels) s.cached d (λ a of. Contains-append_left (arrays_there s.levels) s.memory.cursors.retired a of) looks in
       told_at now s (record s { cached = d; spent = is_fault answer.reply }) x rows r answer other none refl refl refl (answered.0 ∙ sym same)
-      (stands_now v s x rows whole at now d wider leaves s.memory (is_fault answer.reply) rows at.rows_are (still_going v s x rows whole at now d wider leaves))
+      (stands_now v s x rows whole at now d wider leaves s.memory (is_fault answer.reply) rows refl at.rows_are (still_going v s x rows whole at now d wider leaves))
   | inr failed ↦ inr (inr (record {
     reached = failed.1;
     acceptable = ap (λ (a : Answer). accepts a.reply) same ∙ failed.2;
@@ -472,6 +471,7 @@ spent_consistent s b whole = record {
   memory = whole.memory;
   placed = whole.placed;
   kept = whole.kept;
+  going = goes_spent s b whole.going;
 }
 
 -- a scan of lawful sizes asks for 1 to 256 pairs
@@ -491,7 +491,13 @@ next_fits cursor limit lawful =
 -- a store stands with its cursors whether it is spent or not
 pub spent_at : (v : DiskView) (s : Held) (x : Contents) (rows : List Cursor) (b : Bool) → StandsAt v (record s { spent = b }) x rows → StandsAt v s x rows
 spent_at v s x rows b at = record {
-  stands = record { stands = at.stands.stands; held = at.stands.held; cached = at.stands.cached; filtered = at.stands.filtered };
+  stands = record {
+    stands = at.stands.stands;
+    held = at.stands.held;
+    cached = at.stands.cached;
+    filtered = at.stands.filtered;
+    open_over = open_as at.stands.stands.content (record s { spent = b }) s x (length s.log.list) s.promoting refl refl at.stands.open_over;
+  };
   rows_are = at.rows_are;
   going = at.going;
 }

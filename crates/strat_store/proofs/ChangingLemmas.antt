@@ -1,9 +1,9 @@
 -- A change that is carried out on a store that stands.
-use Rattle.std.proofs.Common.{◌≡◌, ◌≢◌, ◌<◌, ◌+◌, ◌-◌, ◌*◌, ℕ, suc, Bool, true, false, inl, inr, not, if◌then◌else◌, List, [], ◌∷◌, ◌++◌, length, Option, Some, None, refl, sym, ap, ◌∙◌, subst, true≢false, arith, length-append}
+use Rattle.std.proofs.Common.{◌≡◌, ◌≢◌, ◌≤◌, ◌<◌, ◌+◌, ◌-◌, ◌*◌, ℕ, suc, Bool, true, false, inl, inr, not, if◌then◌else◌, List, [], ◌∷◌, ◌++◌, length, Option, Some, None, refl, sym, ap, ◌∙◌, subst, true≢false, arith, length-append}
 use Rattle.std.specs.List.{list_all}
 use Rattle.std.proofs.lemmas.Bool.{and_parts, and_from, le-ltb}
 use Rattle.std.proofs.lemmas.List.Folds.{list_all-append}
-use Rattle.std.specs.Prelude.{fold, is_some, option_map, flat_map}
+use Rattle.std.specs.Prelude.{IfSome, fold, is_some, option_map, flat_map}
 use Rattle.strat_array.specs.Kept.{Blocks}
 use Rattle.strat_base.specs.Change.{Change, is_lawful}
 use Rattle.strat_base.specs.Change as change
@@ -23,7 +23,7 @@ use Rattle.def_bytes.specs.Chained.{Chained}
 use Rattle.def_bytes.specs.Layout.{first_free}
 use Rattle.def_bytes.specs.SuperBlock.{Super}
 use Rattle.strat_gate.specs.SuperView.{super_of}
-use Rattle.strat_journal.specs.Log.{Log}
+use Rattle.strat_journal.specs.Log.{Log, batch_region}
 use Rattle.strat_model.specs.Answer.{plain, accepts}
 use Rattle.strat_model.specs.Run.{is_carried_out, is_change, reaches_disk}
 use Rattle.strat_model.proofs.FillLemmas.{carried}
@@ -46,17 +46,18 @@ use Rattle.def_state.specs.Level.{Level}
 use Rattle.def_state.specs.Sound.{is_accepted, are_accepted, accepts_change, Takes}
 use Rattle.def_state.specs.State.{tree_after, marks_after}
 use Rattle.strat_store.specs.Applying.{IsAppliedTo, FollowsStep, is_fault, ran_short, table_left}
-use Rattle.strat_memory.specs.Held.{AreKept, Held, head_held, contents_held, IsConsistent, StandsWith, position_with}
+use Rattle.strat_memory.specs.Held.{AreKept, Held, IsOpenAt, head_held, contents_held, IsConsistent, StandsWith, position_with}
 use Rattle.strat_cursor.specs.Looking.{AreCachedFrom}
 use Rattle.strat_memory.specs.Memory.{HasRoomFor, KeepsRows, Memory, refusal_of_change, memory_after, reply_to, IsMemoryOf}
 use Rattle.strat_publish.specs.Publishing.{is_in_front}
 use Rattle.strat_memory.specs.Admitting.{chained_of}
-use Rattle.strat_memory.specs.RecoveredFields.{held_of}
+use Rattle.strat_memory.specs.RecoveredFields.{held_of, open_of}
 use Rattle.strat_store.specs.Applying.{held_after}
 use Rattle.strat_memory.specs.declared.open_store.OpenStore.{OpenStore}
 use Rattle.strat_publish.proofs.KeptLemmas.{named_behind}
-use Rattle.def_slice.proofs.FillingLemmas.{left_below}
-use Rattle.strat_memory.proofs.MemoryLawLemmas.{accepted_same, change_answered, change_taken, memory_follows, room_for}
+use Rattle.strat_store.proofs.GoingLemmas.{going_more, open_more, sealed_stay}
+use Rattle.strat_store.proofs.LoggingLemmas.{batch_low}
+use Rattle.strat_memory.proofs.MemoryLawLemmas.{accepted_same, change_answered, change_taken, memory_follows, room_behind}
 use Rattle.strat_base.specs.Marks.{Marks}
 
 -- a command that asks for a change reaches the disk, and is one
@@ -133,8 +134,8 @@ pub cached_behind : (f g : Image) (s : Held) → IsConsistent s → KeepsTaken (
 cached_behind f g s whole keeps was = cached_still f g s.chained s.cached (λ b of. keeps b (le-ltb b (first_free s.sb.mem) (named_behind s whole b of))) was
 
 -- level 0 has room for a change where the journal has
-pub room_kept : (s : Held) → IsConsistent s → (c : Change) → length s.log.list < s.sb.mem → HasRoomFor s.memory c
-room_kept s whole c room = room_for (head_held s) s.memory whole.memory c room
+pub room_kept : (s : Held) → IsConsistent s → (c : Change) → length s.log.list < 2 * s.sb.mem - 2 → (s.memory.sealed ≡ None → length s.log.list < s.sb.mem) → HasRoomFor s.memory c
+room_kept s whole c room newer = room_behind (head_held s) s.memory whole.memory c newer room
 
 module _ (r : OpenStore) (cached : Blocks) (kept : IsConsistent (held_of r cached)) where
   -- the journal is that of the contents that the store holds
@@ -146,8 +147,12 @@ module _ (r : OpenStore) (cached : Blocks) (kept : IsConsistent (held_of r cache
       list = sym (ap (λ (y : Contents). y.journal) held);
     }
 
+  -- the region that takes the next change is one of the two
+  pub region_low : batch_region r.journal ≤ 1
+  region_low = batch_low r.journal (omega (arith, kept.log.active, kept.lawful.region_most))
+
   -- a change that is not refused leaves a store consistent
-  module _ (c : Change) (lawful : is_lawful c ≡ true) (free : refusal_of_change r.memory c ≡ None) (room : length r.journal.list < r.sb.mem) where
+  module _ (c : Change) (lawful : is_lawful c ≡ true) (free : refusal_of_change r.memory c ≡ None) (room : length r.journal.list < 2 * r.sb.mem - 2) (newer : r.memory.sealed ≡ None → length r.journal.list < r.sb.mem) where
     accepted_last : are_accepted r.sb.changes_max r.sb.versions_max (parents_in (chained_of r.published).manifest) (chained_of r.published).manifest.marks (chained_of r.published).manifest.changes (r.journal.list ++ c ∷ []) ≡ true
     accepted_last =
         let marks : Marks = head_marks (head_held (held_of r cached)) in
@@ -169,17 +174,18 @@ module _ (r : OpenStore) (cached : Blocks) (kept : IsConsistent (held_of r cache
             mem = ap (λ (l : Log). l.mem) grown ∙ kept.log.mem;
             active = ap (λ (l : Log). l.active) grown ∙ kept.log.active;
             batch = ap (λ (l : Log). l.batch) grown ∙ kept.log.batch;
-            few = omega (arith, room, ap length list, length-append r.journal.list (c ∷ []), kept.lawful.mem_least);
+            few = omega (arith, room, ap length list, length-append r.journal.list (c ∷ []));
             lawful = subst (λ (cs : List Change). list_all is_lawful cs ≡ true) list
                 (list_all-append is_lawful r.journal.list (c ∷ []) ∙ and_from (list_all is_lawful r.journal.list) (list_all is_lawful (c ∷ [])) kept.log.lawful (and_from (is_lawful c) true lawful refl));
           };
           accepted = subst (λ (cs : List Change). are_accepted r.sb.changes_max r.sb.versions_max (parents_in (chained_of r.published).manifest) (chained_of r.published).manifest.marks (chained_of r.published).manifest.changes cs ≡ true) list accepted_last;
           memory =
-              let of : IsMemoryOf (record (head_held (held_of r cached)) { journal = r.journal.list ++ c ∷ [] }) (memory_after r.memory c) = memory_follows (head_held (held_of r cached)) r.memory kept.memory c free (λ unsealed. room) in
+              let of : IsMemoryOf (record (head_held (held_of r cached)) { journal = r.journal.list ++ c ∷ [] }) (memory_after r.memory c) = memory_follows (head_held (held_of r cached)) r.memory kept.memory c free newer in
               subst (λ (m : Memory). IsMemoryOf (record (head_held (held_of r cached)) { journal = j.list }) m) (sym follows)
               (subst (λ (cs : List Change). IsMemoryOf (record (head_held (held_of r cached)) { journal = cs }) (memory_after r.memory c)) list of);
           placed = kept.placed;
           kept = kept_still (super_of r.sb) (chained_of r.published) r.published.levels r.memory m (ap (λ (k : Memory). k.cursors) follows ∙ cursors_stay r.memory c) kept.kept;
+          going = going_more (held_of r cached) j m c (sym list) (ap (λ (k : Memory). k.sealed) follows ∙ sealed_stay r.memory c) (ap (λ (k : Memory). k.cursors) follows ∙ cursors_stay r.memory c) kept.going;
         }
 
   -- and what stands on the disk answers as its table does
@@ -203,12 +209,12 @@ module _ (r : OpenStore) (cached : Blocks) (kept : IsConsistent (held_of r cache
       pub breaks : (r' : OpenStore) (w : DiskView) → IsAppliedTo w (held_of r cached) x (request_for c) (plain (reply.Refused why.DeviceFault)) (held_after r' cached (reply.Refused why.DeviceFault))
       breaks r' w = inr (inr (record { reached = reached c; acceptable = acceptable; told = refl; spent = refl }))
 
-      module _ (room : length r.journal.list < r.sb.mem) where
+      module _ (room : length r.journal.list < 2 * r.sb.mem - 2) where
         pub takes : Takes (contents_state x) c
         takes = record {
           sound = stands.stands.sound;
           accepted = taken;
-          room = omega (arith, room, kept.lawful.mem_least, ap (λ (y : Contents). length y.journal) stands.held, ap (λ (y : Contents). y.sb.mem) stands.held);
+          room = omega (arith, room, ap (λ (y : Contents). length y.journal) stands.held, ap (λ (y : Contents). y.sb.mem) stands.held);
         }
 
         steps : table_of (contents_state (with_batch x (c ∷ []))) ≡ bare (step (table_of (contents_state x)) (request_for c)).table
@@ -237,34 +243,40 @@ module _ (r : OpenStore) (cached : Blocks) (kept : IsConsistent (held_of r cache
         one_more : (j : Log) → j ≡ record r.journal { list = r.journal.list ++ c ∷ [] } → length j.list ≡ length r.journal.list + 1
         one_more j grown = ap (λ (l : Log). length l.list) grown ∙ length-append r.journal.list (c ∷ [])
 
-        under : length r.journal.list < r.journal.mem
-        under = omega (arith, room, kept.log.mem)
-
         low : length r.journal.list < 2 * r.journal.mem - 2
-        low = omega (arith, room, kept.log.mem, kept.lawful.mem_least)
+        low = omega (arith, room, kept.log.mem)
 
         done_so : is_carried_out (position_with (held_of r cached) x) (request_for c) ≡ true
         done_so = carried (position_with (held_of r cached) x) (request_for c) (changes_it c) acceptable
 
+        -- the blocks behind the journal stay
+        behind : (w : DiskView) (now : ContentsStand w (with_batch x (c ∷ []))) → ((f g : Image) → Exposes v f → Exposes w g → KeepsTaken (is_in_front r.journal.mem) f g)
+            → KeepsTaken (is_in_front r.sb.mem) stands.stands.content now.content
+        behind w now keeps =
+            subst (λ (n : ℕ). KeepsTaken (is_in_front n) stands.stands.content now.content) kept.log.mem (keeps stands.stands.content now.content stands.stands.exposed now.exposed)
+
         -- the change is carried out
-        pub carries : (w : DiskView) (j : Log) (m : Memory) (told : Reply) → j ≡ record r.journal { list = r.journal.list ++ c ∷ [] } → told ≡ reply_to r.memory c → ContentsStand w (with_batch x (c ∷ []))
+        pub carries : (w : DiskView) (j : Log) (m : Memory) (told : Reply) → IfSome (option_map open_of r.promoting) (IsOpenAt stands.stands.content (held_of r cached) x (length r.journal.list + 1))
+            → j ≡ record r.journal { list = r.journal.list ++ c ∷ [] } → m ≡ memory_after r.memory c → told ≡ reply_to r.memory c → ContentsStand w (with_batch x (c ∷ []))
             → ((f g : Image) → Exposes v f → Exposes w g → KeepsTaken (is_in_front r.journal.mem) f g)
             → IsAppliedTo w (held_of r cached) x (request_for c) (plain told) (held_after (record r { journal = j; memory = m }) cached told)
-        carries w j m told grown tells now keeps = inl (record {
+        carries w j m told next grown follows tells now keeps = inl (record {
           told = ap plain tells ∙ sym answered;
           going = ap is_fault tells ∙ (told_well r.memory c).1;
           after = with_batch x (c ∷ []);
           stands = record {
             stands = now;
             held = more_held j grown;
-            cached = cached_behind stands.stands.content now.content (held_of r cached) kept
-                (subst (λ (n : ℕ). KeepsTaken (is_in_front n) stands.stands.content now.content) kept.log.mem (keeps stands.stands.content now.content stands.stands.exposed now.exposed)) stands.cached;
+            cached = cached_behind stands.stands.content now.content (held_of r cached) kept (behind w now keeps) stands.cached;
             filtered = stands.filtered;
+            open_over = open_more stands.stands.content now.content (held_of r cached) (held_after (record r { journal = j; memory = m }) cached told) x c (option_map open_of r.promoting)
+                (stands.stands.reads stands.stands.content stands.stands.left) (ap (λ (y : Contents). length y.journal) stands.held) (one_more j grown)
+                (subst (λ (y : Contents). KeepsTaken (is_in_front y.sb.mem) stands.stands.content now.content) (sym stands.held) (behind w now keeps))
+                (ap (λ (k : Memory). k.sealed) follows ∙ sealed_stay r.memory c) refl next;
           };
           place = record {
             table = sym (steps_to (contents_state x) c takes);
             fill = λ done. inl (low, one_more j grown);
             same = λ off. absurd (true≢false (sym done_so ∙ off));
           };
-          fill = λ done. one_more j grown ∙ sym (left_below r.journal.mem (length r.journal.list) under);
         })

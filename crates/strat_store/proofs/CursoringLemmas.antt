@@ -1,6 +1,6 @@
 -- A store with open cursors, as it answers a command.
 use Rattle.std.proofs.Common.{◌≡◌, ◌≢◌, ◌<◌, ◌+◌, ℕ, Bool, true, false, eqb, not, inl, inr, ◌⊎◌, if◌then◌else◌, List, [], ◌∷◌, ◌++◌, length, Contains, flat_map, Option, Some, None, Result, Ok, Err, refl, sym, ap, subst, ◌∙◌, arith, true≢false}
-use Rattle.std.specs.Prelude.{IfOk, OnErr, IsErrOf, filter, find, ◌↔◌}
+use Rattle.std.specs.Prelude.{IfOk, IfSome, OnErr, IsErrOf, filter, find, ◌↔◌}
 use Rattle.std.specs.List.{list_any, slice_get}
 use Rattle.std.specs.Option.{option_map_or}
 use Rattle.std.proofs.lemmas.Bool.{eqb-true, eq-eqb, ne_eqb}
@@ -45,13 +45,14 @@ use Rattle.def_publish.proofs.ListLemmas.{among_contained, contained_among}
 use Rattle.def_publish.specs.Contents.{Contents, contents_state}
 use Rattle.def_publish.specs.Standing.{ContentsStand, LeavesContent}
 use Rattle.def_state.specs.Level.{Level}
+use Rattle.strat_store.proofs.GoingLemmas.{open_as}
 use Rattle.strat_store.proofs.GettingLemmas.{blamed, cached, known, none_damaged, ordered}
 use Rattle.strat_publish.proofs.WholeLemmas.{whole_read}
 use Rattle.strat_store.proofs.RangingLemmas.{map_seen, page_told, table_asked}
 use Rattle.strat_store.specs.Applying.{FailsAsTold, is_fault}
 use Rattle.strat_publish.specs.Outcomes.{IsDamagedIn}
 use Rattle.strat_store.specs.Cursoring.{IsAppliedAt, cursors_after, reply_of_close, reply_of_next, reply_of_start}
-use Rattle.strat_memory.specs.Held.{Held, IsConsistent, StandsAt, StandsWith, arrays_held, contents_held, position_at, table_at}
+use Rattle.strat_memory.specs.Held.{Held, IsConsistent, IsOpenAt, StandsAt, StandsWith, arrays_held, contents_held, position_at, table_at}
 use Rattle.strat_memory.specs.Memory.{Memory, cursor_from, with_cursor, lists_in_memory}
 use Rattle.strat_store.specs.Ranging.{HasPairs, TellsOfCursor, TellsOfOpening, TellsOfVersion}
 use Rattle.strat_cursor.proofs.ThroughLemmas.{id_names}
@@ -123,10 +124,16 @@ module _ (v : DiskView) (s : Held) (x : Contents) (rows : List Cursor) (whole : 
   listed = ap (flat_map (λ (l : LevelDesc). l.arrays)) whole.placed.listed_are
 
   -- it stands as it did with other cursors, as these give the table's
-  pub stands_still : (m : Memory) (b : Bool) (left : List Cursor) → AreRowsOf f m.parents m.cursors.opened left
+  pub stands_still : (m : Memory) (b : Bool) (left : List Cursor) → m.sealed ≡ s.memory.sealed → AreRowsOf f m.parents m.cursors.opened left
       → ((c : HeldCursor) → Contains m.cursors.opened c → MayGoOn f next c s.cached) → StandsAt v (record s { memory = m; spent = b }) x left
-  stands_still m b left rows_are going = record {
-    stands = record { stands = at.stands.stands; held = at.stands.held; cached = at.stands.cached; filtered = at.stands.filtered };
+  stands_still m b left sealed rows_are going = record {
+    stands = record {
+      stands = at.stands.stands;
+      held = at.stands.held;
+      cached = at.stands.cached;
+      filtered = at.stands.filtered;
+      open_over = open_as f s (record s { memory = m; spent = b }) x (length s.log.list) s.promoting sealed refl at.stands.open_over;
+    };
     rows_are = rows_are;
     going = going;
   }
@@ -158,10 +165,17 @@ module _ (v : DiskView) (s : Held) (x : Contents) (rows : List Cursor) (whole : 
         (beside (descriptors s.chained.manifest)
         (λ a of. Contains-append_left (arrays_there s.levels) s.memory.cursors.retired a (subst (λ (rs : List ArrayDesc). Contains rs a) (sym listed) of)) at.stands.cached)
 
-    pub stands_now : (m : Memory) (b : Bool) (left : List Cursor) → AreRowsOf f m.parents m.cursors.opened left
+    pub stands_now : (m : Memory) (b : Bool) (left : List Cursor) → m.sealed ≡ s.memory.sealed → AreRowsOf f m.parents m.cursors.opened left
         → ((c : HeldCursor) → Contains m.cursors.opened c → MayGoOn f next c d) → StandsAt now (record s { memory = m; cached = d; spent = b }) x left
-    stands_now m b left rows_are going = record {
-      stands = record { stands = later; held = at.stands.held; cached = still_cached; filtered = at.stands.filtered };
+    stands_now m b left sealed rows_are going = record {
+      stands = record {
+        stands = later;
+        held = at.stands.held;
+        cached = still_cached;
+        filtered = at.stands.filtered;
+        open_over = subst (λ (g : Image). IfSome s.promoting (IsOpenAt g (record s { memory = m; cached = d; spent = b }) x (length s.log.list))) same_content
+            (open_as f s (record s { memory = m; cached = d; spent = b }) x (length s.log.list) s.promoting sealed refl at.stands.open_over);
+      };
       rows_are = subst (λ (g : Image). AreRowsOf g m.parents m.cursors.opened left) same_content rows_are;
       going = λ c of. subst (λ (g : Image). MayGoOn g next c d) same_content (going c of);
     }
@@ -254,9 +268,8 @@ module _ (v : DiskView) (s : Held) (x : Contents) (rows : List Cursor) (whole : 
         going = refl;
         after = x;
         left = rows;
-        stands = stands_still s.memory false rows at.rows_are at.going;
+        stands = stands_still s.memory false rows refl at.rows_are at.going;
         place = place_of s.log.mem (position_at s x rows) (OpenCursor n lo hi) (refuses t why.UnknownVersion) o refl;
-        fill = λ done. absurd (true≢false (sym done));
       })
 
   known_opened : (n : ℕ) (lo hi : List ℕ) (r : Result ℕ CursorFault) (m : Memory) → is_known s.memory.parents n ≡ true
@@ -271,10 +284,9 @@ module _ (v : DiskView) (s : Held) (x : Contents) (rows : List Cursor) (whole : 
         going = refl;
         after = x;
         left = started n lo hi;
-        stands = stands_still (one_more n lo hi) false (started n lo hi)
+        stands = stands_still (one_more n lo hi) false (started n lo hi) refl
             (table_started f s.memory.parents opened rows (cursor_from s.memory s.levels n lo hi) lo (pairs_at t n) at.rows_are refl (reads_map n lo hi is)) (all_go_on n lo hi);
         place = place_of s.log.mem (position_at s x rows) (OpenCursor n lo hi) (outcome_of_start n lo hi) o refl;
-        fill = λ done. absurd (true≢false (sym done));
       }))
   known_opened n lo hi (Err start_fault.CursorLimit) m is opens same limit =
       let o = refused_of_limit n lo hi is (limit.0 refl) in
@@ -284,9 +296,8 @@ module _ (v : DiskView) (s : Held) (x : Contents) (rows : List Cursor) (whole : 
         going = refl;
         after = x;
         left = rows;
-        stands = stands_still s.memory false rows at.rows_are at.going;
+        stands = stands_still s.memory false rows refl at.rows_are at.going;
         place = place_of s.log.mem (position_at s x rows) (OpenCursor n lo hi) (refuses t why.CursorLimit) o refl;
-        fill = λ done. absurd (true≢false (sym done));
       }))
   known_opened n lo hi (Err start_fault.NoMemory) m is opens same limit =
       let room : length opened ≢ 64 = λ full. (let e : ◌≡◌ {A = Result ℕ CursorFault} (Err start_fault.NoMemory) (Err start_fault.CursorLimit) = limit.1 full in cc) in
@@ -298,7 +309,7 @@ module _ (v : DiskView) (s : Held) (x : Contents) (rows : List Cursor) (whole : 
         full = λ change. absurd (true≢false (sym change));
         told = refl;
         going = refl;
-        stands = stands_still s.memory false rows at.rows_are at.going;
+        stands = stands_still s.memory false rows refl at.rows_are at.going;
         place = refl;
       })))
 
@@ -312,9 +323,8 @@ module _ (v : DiskView) (s : Held) (x : Contents) (rows : List Cursor) (whole : 
         going = refl;
         after = x;
         left = rows;
-        stands = stands_still s.memory false rows at.rows_are at.going;
+        stands = stands_still s.memory false rows refl at.rows_are at.going;
         place = place_of s.log.mem (position_at s x rows) (CloseCursor n) (refuses t why.UnknownCursor) o refl;
-        fill = λ done. absurd (true≢false (sym done));
       })
 
   closed_done : (n : ℕ) → is_opened n opened ≡ true → IsAppliedAt v s x rows (CloseCursor n) (plain reply.Done) (record s { memory = record s.memory { cursors = closed_at n s.memory.cursors }; spent = false })
@@ -326,10 +336,9 @@ module _ (v : DiskView) (s : Held) (x : Contents) (rows : List Cursor) (whole : 
         going = refl;
         after = x;
         left = filter (λ (c : Cursor). not (eqb c.number n)) rows;
-        stands = stands_still (record s.memory { cursors = closed_at n s.memory.cursors }) false (filter (λ (c : Cursor). not (eqb c.number n)) rows)
+        stands = stands_still (record s.memory { cursors = closed_at n s.memory.cursors }) false (filter (λ (c : Cursor). not (eqb c.number n)) rows) refl
             (rows_less f s.memory.parents n opened rows at.rows_are) (goes_on_without f next s.cached n opened at.going);
         place = place_of s.log.mem (position_at s x rows) (CloseCursor n) (record { answer = plain reply.Done; table = record t { cursors = filter (λ (c : Cursor). not (eqb c.number n)) rows } }) o refl;
-        fill = λ done. absurd (true≢false (sym done));
       })
 
   -- so the answers say which of these it was
@@ -414,11 +423,10 @@ module _ (v : DiskView) (s : Held) (x : Contents) (rows : List Cursor) (whole : 
           going = refl;
           after = x;
           left = advanced rows n limit;
-          stands = stands_now now d looks leaves (record s.memory { cursors = record s.memory.cursors { opened = moved_at n more out opened } }) false (advanced rows n limit) told.1
+          stands = stands_now now d looks leaves (record s.memory { cursors = record s.memory.cursors { opened = moved_at n more out opened } }) false (advanced rows n limit) refl told.1
               (goes_on_moved f next d n more out opened (still_going now d looks leaves));
           place = place_of s.log.mem (position_at s x rows) (NextPairs n limit)
               (record { answer = as_told (reply.Pairs more) out; table = record t { cursors = advanced rows n limit } }) told.0 refl;
-          fill = λ done. absurd (true≢false (sym done));
         }))
       where
         by_open : (b : Bool) → (b ≡ false → IsErrOf (Ok more) next_fault.UnknownCursor) → b ≡ true
@@ -432,9 +440,8 @@ module _ (v : DiskView) (s : Held) (x : Contents) (rows : List Cursor) (whole : 
           going = refl;
           after = x;
           left = rows;
-          stands = stands_now now d looks leaves s.memory false rows at.rows_are (still_going now d looks leaves);
+          stands = stands_now now d looks leaves s.memory false rows refl at.rows_are (still_going now d looks leaves);
           place = place_of s.log.mem (position_at s x rows) (NextPairs n limit) (refuses t why.UnknownCursor) o refl;
-          fill = λ done. absurd (true≢false (sym done));
         }))
     page_applied n limit out (Err next_fault.Device) m tells moves unknown same names =
         let on : is_opened n opened ≡ true = by_open (is_opened n opened) unknown.1 in

@@ -1,5 +1,5 @@
 -- What a store says of a key: level 0 and its levels answer as its table.
-use Rattle.std.proofs.Common.{◌≡◌, ◌+◌, ℕ, Bool, true, false, eqb, inl, inr, List, [], ◌∷◌, ◌++◌, length, if◌then◌else◌, Contains, flat_map, Option, Some, None, Result, Ok, Err, IfOk, OnErr, IsErrOf, refl, sym, ap, ◌∙◌, subst, true≢false}
+use Rattle.std.proofs.Common.{◌≡◌, ◌+◌, ℕ, Bool, true, false, eqb, inl, inr, List, [], ◌∷◌, ◌++◌, length, if◌then◌else◌, Contains, flat_map, Option, Some, None, Result, Ok, Err, IfOk, IfSome, OnErr, IsErrOf, refl, sym, ap, ◌∙◌, subst, true≢false}
 use Rattle.std.proofs.lemmas.Bool.{eqb-true}
 use Rattle.std.proofs.lemmas.List.Elements.{Contains-append_left}
 use Rattle.std.specs.Option.{option_and_then, option_map}
@@ -46,12 +46,13 @@ use Rattle.strat_store.specs.Filtering.{AreNumberedByPlace, asked_filtered, on_d
 use Rattle.strat_publish.specs.Outcomes.{IsDamagedIn}
 use Rattle.strat_store.specs.Getting.{reply_of_get}
 use Rattle.strat_memory.specs.Filters.{LevelFilters}
-use Rattle.strat_memory.specs.Held.{Held, IsConsistent, StandsWith, arrays_held, contents_held, head_held}
+use Rattle.strat_memory.specs.Held.{Held, IsConsistent, IsOpenAt, StandsWith, arrays_held, contents_held, head_held}
 use Rattle.strat_cursor.specs.Looking.{levels_there, arrays_asked, arrays_there, AreInOrder, AreCachedFrom, LooksThrough, NamesNoBlock, HaveOwnIds}
 use Rattle.strat_memory.specs.Memory.{Memory, lists_in_memory}
 use Rattle.strat_cursor.proofs.HoldingLemmas.{asked_cached, asked_ordered}
 use Rattle.strat_cursor.proofs.ThroughLemmas.{still_cached}
 use Rattle.strat_publish.proofs.WholeLemmas.{whole_read}
+use Rattle.strat_store.proofs.GoingLemmas.{open_as}
 
 -- what is told of what was found is the answer
 answer_of : (e : Option Entry) (key : List ℕ) (out : TheirPairs) (told : Seen) → TellsFound e key [] out told → as_told (reply_of_get (Ok told)) out ≡ found key (option_and_then (λ x. x.value) e)
@@ -222,6 +223,8 @@ module _ (v : DiskView) (s : Held) (levels : List Level) (whole : IsConsistent s
           cached = subst (λ (f : Image). AreCachedFrom f s.chained.manifest.next_array (descriptors s.chained.manifest) d) same
               (subst (λ (rs : List ArrayDesc). AreCachedFrom w.stands.content s.chained.manifest.next_array rs d) listed kept);
           filtered = w.filtered;
+          open_over = subst (λ (f : Image). IfSome s.promoting (IsOpenAt f (record s { cached = d }) y (length s.log.list))) same
+              (open_as w.stands.content s (record s { cached = d }) y (length s.log.list) s.promoting refl refl w.open_over);
         }
 
     not_there : (n : ℕ) (key : List ℕ) → is_known s.memory.parents n ≡ false → IsLookedUp now (record s { cached = d }) y (Get n key) (as_told (reply.Refused why.UnknownVersion) [])

@@ -34,6 +34,7 @@ use Rattle.strat_memory.specs.Memory.{Memory, cursor_from, with_cursor}
 use Rattle.strat_memory.specs.Admitting.{chained_of}
 use Rattle.strat_memory.specs.RecoveredFields.{held_of}
 use Rattle.strat_memory.specs.declared.open_store.OpenStore.{OpenStore}
+use Rattle.strat_store.proofs.GoingLemmas.{going_with}
 
 -- some of the arrays have no more blocks than all
 times_filtered : (p : ArrayDesc → Bool) (arrays : List ArrayDesc) (b : ℕ) → times_in (extents_of (filter p arrays)) b ≤ times_in (extents_of arrays) b
@@ -132,10 +133,14 @@ module _ (sb : Super) (chained : Chained) (levels : List (Option LevelDesc)) (m 
                 (among_right (arrays_there levels) m.cursors.retired a (contained_among m.cursors.retired a (closed_from m.cursors n a (among_contained left a one))))
           ]
 
+-- cursors keep no array more than others
+abbrev KeepsFewer : HeldCursors → HeldCursors → Type 0
+KeepsFewer old new = (b : ℕ) → times_in (extents_of new.retired) b ≤ times_in (extents_of old.retired) b
+
 -- so a store stays consistent
-consistent_with : (r : OpenStore) (m : Memory) (cached : Blocks) (c : HeldCursors) → IsConsistent (held_of r cached) → m ≡ record r.memory { cursors = c }
+consistent_with : (r : OpenStore) (m : Memory) (cached : Blocks) (c : HeldCursors) → IsConsistent (held_of r cached) → m ≡ record r.memory { cursors = c } → KeepsFewer r.memory.cursors c
     → AreKept (super_of r.sb) (chained_of r.published) r.published.levels (record r.memory { cursors = c }) → IsConsistent (held_of (record r { memory = m }) cached)
-consistent_with r m cached c whole is kept =
+consistent_with r m cached c whole is fewer kept =
     subst (λ (z : Memory). IsConsistent (held_of (record r { memory = z }) cached)) (sym is)
     (record {
       slot = whole.slot;
@@ -156,18 +161,35 @@ consistent_with r m cached c whole is kept =
       };
       placed = whole.placed;
       kept = kept;
+      going = going_with (held_of r cached) c fewer whole.going;
     })
 
 -- after any command that asks for no change
 pub consistent_after : (r : OpenStore) (m : Memory) (request : Request) (answer : Answer) → ((cached : Blocks) → IsConsistent (held_of r cached))
     → m ≡ record r.memory { cursors = cursors_after r.memory r.published.levels request answer } → (cached : Blocks) → IsConsistent (held_of (record r { memory = m }) cached)
-consistent_after r m request answer whole is cached = consistent_with r m cached (cursors_after r.memory r.published.levels request answer) (whole cached) is (by request answer)
+consistent_after r m request answer whole is cached = consistent_with r m cached (cursors_after r.memory r.published.levels request answer) (whole cached) is (few request answer) (by request answer)
   where
     Kept : HeldCursors → Type 0
     Kept c = AreKept (super_of r.sb) (chained_of r.published) r.published.levels (record r.memory { cursors = c })
 
     kept : Kept r.memory.cursors
     kept = (whole cached).kept
+
+    few_accept : (b : Bool) (c : HeldCursors) → KeepsFewer r.memory.cursors c → KeepsFewer r.memory.cursors (if b then c else r.memory.cursors)
+    few_accept true c fewer = fewer
+    few_accept false c fewer = λ b. omega arith
+
+    few_page : (n : ℕ) (told : Reply) (pairs : Pairs) → KeepsFewer r.memory.cursors (paged_at n told pairs r.memory.cursors)
+    few_page n (reply.Pairs more) pairs = λ b. omega arith
+    few_page n _ pairs = λ b. omega arith
+
+    few : (request : Request) (answer : Answer) → KeepsFewer r.memory.cursors (cursors_after r.memory r.published.levels request answer)
+    few (OpenCursor v lo hi) answer = few_accept (accepts answer.reply) (with_cursor r.memory.cursors (cursor_from r.memory r.published.levels v lo hi)) (λ b. omega arith)
+    few (NextPairs n limit) answer = few_page n answer.reply answer.pairs
+    few (CloseCursor n) answer =
+        few_accept (accepts answer.reply) (closed_at n r.memory.cursors)
+        (λ b. times_filtered (λ (a : ArrayDesc). is_array_named (without_cursor n r.memory.cursors.opened) a.id) r.memory.cursors.retired b)
+    few _ answer = λ b. omega arith
 
     by_accept : (b : Bool) (c : HeldCursors) → Kept c → Kept (if b then c else r.memory.cursors)
     by_accept true c more = more

@@ -1,11 +1,14 @@
 -- What a command leaves of the superblock and the manifest of a store.
-use Rattle.std.proofs.Common.{◌≡◌, ◌≢◌, ◌≤◌, ◌<◌, ◌-◌, ◌&&◌, ℕ, Bool, true, false, inl, inr, List, length, Contains, Option, Some, None, refl, sym, ap, ◌∙◌, subst, arith, true≢false}
-use Rattle.std.proofs.lemmas.List.Elements.{Contains-append_right}
+use Rattle.std.proofs.Common.{◌≡◌, ◌≢◌, ◌≤◌, ◌<◌, ◌+◌, ◌-◌, ◌*◌, ◌&&◌, ℕ, Bool, true, false, inl, inr, List, length, Contains, Option, Some, None, refl, sym, ap, ◌∙◌, subst, arith, true≢false}
+use Rattle.std.specs.Prelude.{IfSome, option_map}
+use Rattle.std.proofs.lemmas.Grind.{flat_map-append}
+use Rattle.std.proofs.lemmas.List.Elements.{Contains-append_left, Contains-append_right}
 use Rattle.strat_array.specs.Kept.{Blocks}
 use Rattle.strat_base.specs.Change.{Change}
 use Rattle.strat_base.specs.Change as change
 use Rattle.strat_base.specs.Tree.{Parents}
 use Rattle.strat_base.specs.declared.descriptors.ArrayDesc.{ArrayDesc}
+use Rattle.strat_base.specs.declared.descriptors.LevelDesc.{LevelDesc}
 use Rattle.strat_base.specs.declared.failures.Trouble.{Trouble}
 use Rattle.strat_base.specs.declared.failures.Trouble.TheVariants as trouble
 use Rattle.def_crash.proofs.BlockLemmas.{keeps_trans}
@@ -16,8 +19,9 @@ use Rattle.strat_cursor.proofs.RetiredLemmas.{retired_rest}
 use Rattle.strat_cursor.specs.Cursors.{retired_all}
 use Rattle.strat_cursor.specs.Held.{AreRowsOf, HeldCursor, HeldCursors}
 use Rattle.strat_cursor.specs.Looking.{arrays_there}
+use Rattle.def_bytes.specs.Arrays.{blocks_of}
 use Rattle.def_bytes.specs.Chained.{Chained}
-use Rattle.def_bytes.specs.Layout.{region_at, region_size}
+use Rattle.def_bytes.specs.Layout.{first_free, region_at, region_size}
 use Rattle.def_bytes.specs.Manifest.{Manifest}
 use Rattle.def_bytes.specs.SuperBlock.{Super}
 use Rattle.strat_gate.specs.SuperView.{super_of}
@@ -30,31 +34,56 @@ use Rattle.strat_model.specs.declared.replies.Refusal.TheVariants as why
 use Rattle.strat_model.specs.declared.replies.Reply.{Reply}
 use Rattle.strat_model.specs.declared.replies.Reply.TheVariants as reply
 use Rattle.strat_store.specs.Applying.{HoldsTheSame, IsUntouched, change_wanted, is_fault, may_write, refusal_of_trouble}
-use Rattle.strat_promote.specs.Job.{blocks_listed}
+use Rattle.strat_promote.specs.Job.{arrays_to, blocks_listed}
+use Rattle.strat_promote.specs.Promotions.{ReadsOf, target_of}
 use Rattle.def_meaning.specs.StateTable.{request_for}
 use Rattle.def_publish.specs.Contents.{Contents, contents_state}
+use Rattle.def_slice.specs.Opened.{OpenPromotion}
 use Rattle.def_state.specs.State.{IsPaid}
 use Rattle.strat_store.specs.Cursoring.{LeavesCursors}
-use Rattle.strat_memory.specs.Held.{Held, ArePlaced, IsConsistent, IsOnDisk, StandsWith, arrays_held}
+use Rattle.strat_memory.specs.Held.{HasReadFrom, Held, ArePlaced, IsConsistent, IsOnDisk, StandsWith, arrays_held}
 use Rattle.strat_memory.specs.Memory.{IsReadyFrom, KeepsRows, Memory, refusal_of_change, reply_to}
 use Rattle.strat_memory.specs.Paying.{ArePaidSince}
 use Rattle.strat_publish.specs.Counting.{CountsWritten}
-use Rattle.strat_memory.specs.RecoveredFields.{held_of}
+use Rattle.strat_memory.specs.RecoveredFields.{held_of, open_of}
+use Rattle.strat_memory.specs.declared.open_store.Promoting.{Promoting}
+use Rattle.strat_publish.specs.Advancing.{StaysOpen}
 use Rattle.strat_store.specs.Applying.{held_after}
 use Rattle.strat_publish.specs.Publishing.{is_in_front}
 use Rattle.strat_memory.specs.Filters.{LevelFilters}
 use Rattle.strat_publish.specs.Settling.{ArePublishedAfter, KeepsCursors, KeepsPublished, HasPublished, LeavesPublished, arrays_taken, carries_out}
 use Rattle.strat_memory.specs.declared.open_store.OpenStore.{OpenStore}
+use Rattle.strat_publish.proofs.AdvancingLemmas.{read_open}
 use Rattle.strat_publish.proofs.KeptLemmas.{behind_kept, left_held}
 use Rattle.strat_publish.proofs.LaidLemmas.{kept_on}
-use Rattle.strat_memory.proofs.OnDiskLemmas.{read_on, logged_on, some_told, told_some}
+use Rattle.def_publish.proofs.PlaceLemmas.{places}
+use Rattle.strat_memory.proofs.OnDiskLemmas.{behind_read, read_on, some_told, told_some, torn_on}
 use Rattle.strat_memory.proofs.PayingLemmas.{paid_reads}
+use Rattle.strat_publish.proofs.SealedLemmas.{ready_cursors}
 use Rattle.strat_publish.proofs.SettledLemmas.{agree_once}
 
+-- in one of the journal's regions, where all behind the journal stays
+logged_in : (v w : DiskView) (s : Held) (region : ℕ) → IsConsistent s → region ≤ 1 → TearsOnly v w (region_at s.log.mem region) (region_size s.log.mem) → Passes v w
+    → ((f g : Image) → Exposes v f → Exposes w g → KeepsTaken (is_in_front s.sb.mem) f g) → IsOnDisk v s → IsOnDisk w s
+logged_in v w s region whole low torn time keeps on =
+    let p = places s.log.mem region low in
+    torn_on v w s (region_at s.log.mem region) (region_size s.log.mem) whole.belonging p.behind_slots
+    (subst (λ (n : ℕ). region_at s.log.mem region + region_size s.log.mem ≤ 4096 * first_free n) whole.log.mem p.in_front) torn time
+    (λ f g was now. behind_read f g s whole (keeps f g was now)) on
+
+-- what an open promotion has read, where the store keeps it and its levels
+pub read_same : (f : Image) (s t : Held) → KeepsPublished s t → t.promoting ≡ s.promoting → HasReadFrom f s → HasReadFrom f t
+read_same f s t same going read =
+    let one = subst (λ (ls : List (Option LevelDesc)). IfSome s.promoting (λ o. ReadsOf f (arrays_to ls (target_of o.promotion)) o.promotion)) (sym same.levels) read in
+    subst (λ (p : Option OpenPromotion). IfSome p (λ o. ReadsOf f (arrays_to t.levels (target_of o.promotion)) o.promotion)) (sym going) one
+
+pub same_on : (v : DiskView) (s t : Held) → KeepsPublished s t → t.promoting ≡ s.promoting → IsOnDisk v s → IsOnDisk v t
+same_on v s t same going on = kept_on v s t same (λ f now. read_same f s t same going (read_open v s on f now)) on
+
 -- a change that was logged
-pub logged_leaves : (v w : DiskView) (s t : Held) → IsConsistent s → KeepsPublished s t → TearsOnly v w (region_at s.log.mem s.log.active) (region_size s.log.mem) → Passes v w
-    → KeepsPublished s t × (IsOnDisk v s → IsOnDisk w t)
-logged_leaves v w s t whole same torn time = (same, λ on. kept_on w s t same (logged_on v w s whole torn time on))
+pub logged_leaves : (v w : DiskView) (s t : Held) (region : ℕ) → IsConsistent s → region ≤ 1 → KeepsPublished s t → t.promoting ≡ s.promoting → TearsOnly v w (region_at s.log.mem region) (region_size s.log.mem) → Passes v w
+    → ((f g : Image) → Exposes v f → Exposes w g → KeepsTaken (is_in_front s.sb.mem) f g) → IsOnDisk v s → IsOnDisk w t
+logged_leaves v w s t region whole low same going torn time keeps on = same_on w s t same going (logged_in v w s region whole low torn time keeps on)
 
 -- what is told of a change that is accepted is no refusal
 pub taken_well : (m : Memory) (c : Change) (told : Reply) → told ≡ reply_to m c → (accepts told ≡ false → told ≡ reply.Refused why.DeviceFault) × (may_write told ≡ true)
@@ -83,10 +112,10 @@ wanted_change (Clone v) c wanted = refl
 wanted_change (DropVersion v) c wanted = refl
 wanted_change _ c wanted = absurd (cc)
 
--- a store that keeps what is published, its journal and its memory, but for what is ready, holds the same
+-- a store that keeps what is published, its journal and its memory, but for what is ready, holds the same once it has given up its promotion
 pub holds_the_same : (r new : OpenStore) (cached : Blocks) (told : Reply) → KeepsPublished (held_of r cached) (held_of new cached) → new.journal ≡ r.journal
-    → IsReadyFrom r.sb.mem r.memory new.memory → HoldsTheSame (held_of r cached) (held_after new cached told)
-holds_the_same r new cached told keeps journal memory = (
+    → IsReadyFrom r.sb.mem r.memory new.memory → new.promoting ≡ None → HoldsTheSame (held_of r cached) (held_after new cached told)
+holds_the_same r new cached told keeps journal memory none = (
   memory,
   λ i. record {
     slot = keeps.slot i;
@@ -96,6 +125,7 @@ holds_the_same r new cached told keeps journal memory = (
     memory = new.memory;
     levels = keeps.levels i;
     filters = keeps.filters i;
+    promoting = ap (λ (o : Option Promoting). option_map open_of o) none i;
     cached = cached;
     spent = is_fault told;
   },
@@ -130,6 +160,12 @@ untouched_by v w request c r new cached told wanted refuses writes same = record
 abbrev pub KeepsArrays : DiskView → DiskView → Held → Type 0
 KeepsArrays v w s = (f g : Image) → Exposes v f → Exposes w g → AgreeOn (blocks_listed (arrays_held s.memory s.levels)) f g
 
+-- those of the levels are among them
+pub held_there : (s : Held) (b : ℕ) → Contains (blocks_listed (arrays_there s.levels)) b → Contains (blocks_listed (arrays_held s.memory s.levels)) b
+held_there s b of =
+    subst (λ (bs : List ℕ). Contains bs b) (sym (flat_map-append (λ (a : ArrayDesc). blocks_of a.extents) (arrays_there s.levels) s.memory.cursors.retired))
+    (Contains-append_left (blocks_listed (arrays_there s.levels)) (blocks_listed s.memory.cursors.retired) b of)
+
 read_keeps : (v w : DiskView) (s : Held) → OnlyReads v w → KeepsArrays v w s
 read_keeps v w s reads f g was now = agree_once v f g (blocks_listed (arrays_held s.memory s.levels)) was (sym reads.same ∙ now)
 
@@ -144,11 +180,11 @@ both_keep v u w s mem whole mem_is time first second f g was now b of =
     keeps_trans b f mid.0 g (first f mid.0 was mid.1 b of) (behind_kept s mem mid.0 g whole mem_is (second mid.0 g mid.1 now) b of)
 
 -- a store that is spent or not holds the same
-keeps_spent : (s t : Held) (b : Bool) → KeepsPublished s t → KeepsPublished s (record t { spent = b })
+pub keeps_spent : (s t : Held) (b : Bool) → KeepsPublished s t → KeepsPublished s (record t { spent = b })
 keeps_spent s t b same = record { slot = same.slot; sb = same.sb; chained = same.chained; levels = same.levels; filters = same.filters }
 
-on_spent : (v : DiskView) (s : Held) (b : Bool) → IsOnDisk v s → IsOnDisk v (record s { spent = b })
-on_spent v s b on = record { content = on.content; exposed = on.exposed; newest = on.newest; chain = on.chain }
+pub on_spent : (v : DiskView) (s : Held) (b : Bool) → IsOnDisk v s → IsOnDisk v (record s { spent = b })
+on_spent v s b on = record { content = on.content; exposed = on.exposed; newest = on.newest; chain = on.chain; read = on.read }
 
 -- nothing was carried out
 pub left_alone : (v w : DiskView) (s : Held) (carried : Bool) (told : Reply) (b : Bool) → carried ≡ false → OnlyReads v w → LeavesPublished v w s carried told (record s { spent = b })
@@ -176,14 +212,14 @@ left_queried v w r new m old now carried told b is none reads =
       either = inl same;
       kept = λ _ _. same;
       next = λ done full. absurd (true≢false (sym done ∙ none));
-      on_disk = λ other on. kept_on w s t same (read_on v w s on reads);
+      on_disk = λ other on. same_on w s t same refl (read_on v w s on reads);
       beside = λ other. read_keeps v w s reads;
       paid = λ x stands paid. paid_reads v w x stands.stands reads paid;
       counted = λ x stands. inl refl;
     })
 
 -- a change was carried out, or met a fault, where the journal had room
-pub leaves_room : (v w : DiskView) (s t : Held) (carried : Bool) (told : Reply) (b : Bool) → length s.log.list < s.log.mem → KeepsPublished s t → (IsOnDisk v s → IsOnDisk w t)
+pub leaves_room : (v w : DiskView) (s t : Held) (carried : Bool) (told : Reply) (b : Bool) → length s.log.list < s.log.mem → KeepsPublished s t → (told ≢ reply.Refused why.DeviceFault → IsOnDisk v s → IsOnDisk w t)
     → ((x : Contents) → StandsWith v s x → IsPaid (contents_state x) → ArePaidSince w v.moment) → (told ≢ reply.Refused why.DeviceFault → KeepsArrays v w s)
     → LeavesPublished v w s carried told (record t { spent = b })
 leaves_room v w s t carried told b room same still pays agree =
@@ -192,7 +228,7 @@ leaves_room v w s t carried told b room same still pays agree =
       either = inl all;
       kept = λ _ _. all;
       next = λ done full. absurd (omega (arith, full, room));
-      on_disk = λ other on. on_spent w t b (still on);
+      on_disk = λ other on. on_spent w t b (still other on);
       beside = agree;
       paid = pays;
       counted = λ x stands. inl (ap (λ (c : Chained). c.manifest) same.chained);
@@ -215,50 +251,85 @@ gives_up v w r new cached t told is same still pays agree =
       counted = λ x stands. inl (ap (λ (c : Chained). c.manifest) same.chained);
     }
 
--- a publication, and then a change that leaves what was published
-pub has_published : (r mid new : OpenStore) (cached : Blocks) (told : Reply) → r.journal.mem ≤ length r.journal.list → mid.slot ≡ 1 - r.slot
-    → ArePublishedAfter (super_of r.sb) (manifest_of r.published.manifest) r.memory r.filters (super_of mid.sb) (manifest_of mid.published.manifest) mid.memory.cursors mid.filters
-    → KeepsPublished (held_of mid cached) (held_of new cached) → new.memory.cursors ≡ mid.memory.cursors → HasPublished (held_of r cached) (held_after new cached told)
-has_published r mid new cached told full slot after same cursors =
-    let manifest_is : manifest_of new.published.manifest ≡ manifest_of mid.published.manifest = ap (λ (c : Chained). c.manifest) same.chained in
-    let gone : List ArrayDesc = arrays_taken after.target (manifest_of r.published.manifest) in
+-- what a publication left stays behind a change
+pub still_published : (s mid t : Held) → HasPublished s mid → KeepsPublished mid t → t.memory.cursors ≡ mid.memory.cursors → t.promoting ≡ mid.promoting → HasPublished s t
+still_published s mid t has same cursors going =
+    let manifest_is : t.chained.manifest ≡ mid.chained.manifest = ap (λ (c : Chained). c.manifest) same.chained in
+    let gone : List ArrayDesc = arrays_taken has.after.target s.chained.manifest in
     record {
-      full = full;
-      slot = same.slot ∙ slot;
+      full = has.full;
+      closed = going ∙ has.closed;
+      slot = same.slot ∙ has.slot;
       after = record {
-        target = after.target;
-        made = after.made;
-        low = after.low;
+        target = has.after.target;
+        made = has.after.made;
+        low = has.after.low;
         are = record {
-          made = after.are.made;
-          first = after.are.first;
-          size = after.are.size;
-          numbered = after.are.numbered;
-          manifest_is = manifest_is ∙ after.are.manifest_is;
-          sb_is = same.sb ∙ after.are.sb_is;
+          made = has.after.are.made;
+          first = has.after.are.first;
+          size = has.after.are.size;
+          numbered = has.after.are.numbered;
+          manifest_is = manifest_is ∙ has.after.are.manifest_is;
+          sb_is = same.sb ∙ has.after.are.sb_is;
         };
-        cursors_are = subst (λ (cs : HeldCursors). cs ≡ record (retired_all gone r.memory.cursors) { room = cs.room }) (sym cursors) after.cursors_are;
-        filters_are = same.filters ∙ after.filters_are;
+        cursors_are = subst (λ (cs : HeldCursors). cs ≡ record (retired_all gone s.memory.cursors) { room = cs.room }) (sym cursors) has.after.cursors_are;
+        filters_are = same.filters ∙ has.after.filters_are;
       };
     }
 
-pub renews : (v u w : DiskView) (r mid new : OpenStore) (cached : Blocks) (told : Reply) → HasPublished (held_of r cached) (held_after new cached told)
-    → KeepsPublished (held_of mid cached) (held_of new cached) × (IsOnDisk u (held_of mid cached) → IsOnDisk w (held_of new cached))
-    → (accepts told ≡ false → told ≡ reply.Refused why.DeviceFault) → (IsOnDisk v (held_of r cached) → IsOnDisk u (held_of mid cached))
-    → ((x : Contents) → StandsWith v (held_of r cached) x → IsPaid (contents_state x) → ArePaidSince w v.moment)
-    → ((x : Contents) → StandsWith v (held_of r cached) x → CountsWritten (manifest_of r.published.manifest) (manifest_of mid.published.manifest))
-    → (told ≢ reply.Refused why.DeviceFault → KeepsArrays v w (held_of r cached))
-    → LeavesPublished v w (held_of r cached) (accepts told) told (held_after new cached told)
-renews v u w r mid new cached told has keeps refused still pays counts agree =
-    let manifest_is : manifest_of new.published.manifest ≡ manifest_of mid.published.manifest = ap (λ (c : Chained). c.manifest) keeps.0.chained in
+pub renews : (v u w : DiskView) (s mid t : Held) (told : Reply) → HasPublished s mid → KeepsPublished mid t × (told ≢ reply.Refused why.DeviceFault → IsOnDisk u mid → IsOnDisk w t) → t.memory.cursors ≡ mid.memory.cursors → t.promoting ≡ mid.promoting
+    → (accepts told ≡ false → told ≡ reply.Refused why.DeviceFault) → (IsOnDisk v s → IsOnDisk u mid)
+    → ((x : Contents) → StandsWith v s x → IsPaid (contents_state x) → ArePaidSince w v.moment)
+    → ((x : Contents) → StandsWith v s x → CountsWritten s.chained.manifest mid.chained.manifest)
+    → (told ≢ reply.Refused why.DeviceFault → KeepsArrays v w s)
+    → LeavesPublished v w s (accepts told) told (record t { spent = is_fault told })
+renews v u w s mid t told has keeps cursors going refused still pays counts agree =
+    let manifest_is : t.chained.manifest ≡ mid.chained.manifest = ap (λ (c : Chained). c.manifest) keeps.0.chained in
+    let done : HasPublished s (record t { spent = is_fault told }) = still_published s mid (record t { spent = is_fault told }) has (keeps_spent mid t (is_fault told) keeps.0) cursors going in
     record {
-      either = inr has;
+      either = inr done;
       kept = λ none other. absurd (other (refused none));
-      next = λ done all. has;
-      on_disk = λ other on. on_spent w (held_of new cached) (is_fault told) (keeps.1 (still on));
+      next = λ did all. inl done;
+      on_disk = λ other on. on_spent w t (is_fault told) (keeps.1 other (still on));
       beside = agree;
       paid = pays;
-      counted = λ x stands. inr (subst (CountsWritten (manifest_of r.published.manifest)) (sym manifest_is) (counts x stands));
+      counted = λ x stands. inr (subst (CountsWritten s.chained.manifest) (sym manifest_is) (counts x stands));
+    }
+
+-- a store whose promotion stays open holds what it held
+pub open_keeps : (s mid : Held) → StaysOpen s mid → KeepsPublished s mid
+open_keeps s mid stays = record {
+  slot = ap (λ (h : Held). h.slot) stays.held;
+  sb = ap (λ (h : Held). h.sb) stays.held;
+  chained = ap (λ (h : Held). h.chained) stays.held;
+  levels = ap (λ (h : Held). h.levels) stays.held;
+  filters = ap (λ (h : Held). h.filters) stays.held;
+}
+
+keeps_both : (s mid t : Held) → KeepsPublished s mid → KeepsPublished mid t → KeepsPublished s t
+keeps_both s mid t first second = record {
+  slot = second.slot ∙ first.slot;
+  sb = second.sb ∙ first.sb;
+  chained = second.chained ∙ first.chained;
+  levels = second.levels ∙ first.levels;
+  filters = second.filters ∙ first.filters;
+}
+
+-- and so it does behind a change
+pub promotes : (v u w : DiskView) (s mid t : Held) (told : Reply) → StaysOpen s mid → KeepsPublished mid t × (told ≢ reply.Refused why.DeviceFault → IsOnDisk u mid → IsOnDisk w t) → t.promoting ≡ mid.promoting → (IsOnDisk v s → IsOnDisk u mid)
+    → ((x : Contents) → StandsWith v s x → IsPaid (contents_state x) → ArePaidSince w v.moment) → (told ≢ reply.Refused why.DeviceFault → KeepsArrays v w s)
+    → LeavesPublished v w s (accepts told) told (record t { spent = is_fault told })
+promotes v u w s mid t told stays keeps going still pays agree =
+    let same : KeepsPublished s t = keeps_both s mid t (open_keeps s mid stays) keeps.0 in
+    let all : KeepsPublished s (record t { spent = is_fault told }) = keeps_spent s t (is_fault told) same in
+    record {
+      either = inl all;
+      kept = λ _ _. all;
+      next = λ did full. inr (record { full = stays.full; room = stays.room; keeps = all; promotion = stays.promotion; open_is = going ∙ stays.open_is });
+      on_disk = λ other on. on_spent w t (is_fault told) (keeps.1 other (still on));
+      beside = agree;
+      paid = pays;
+      counted = λ x stands. inl (ap (λ (c : Chained). c.manifest) same.chained);
     }
 
 -- what a change leaves of cursors
@@ -270,6 +341,9 @@ wanted_of (change.DropVersion v) = refl
 
 pub cursors_same : (s t : Held) → t.memory.cursors ≡ s.memory.cursors → KeepsCursors s t
 cursors_same s t e = e ∙ (λ i. record s.memory.cursors { room = sym (ap (λ (cs : HeldCursors). cs.room) e) i })
+
+pub cursors_ready : (s mid t : Held) → IsReadyFrom s.sb.mem s.memory mid.memory → t.memory.cursors ≡ mid.memory.cursors → KeepsCursors s t
+cursors_ready s mid t ready e = e ∙ ready_cursors s.sb.mem s.memory mid.memory ready ∙ (λ i. record s.memory.cursors { room = sym (ap (λ (cs : HeldCursors). cs.room) e) i })
 
 pub cursors_left : (s t : Held) (c : Change) (answer : Answer) → KeepsCursors s t → LeavesCursors s (request_for c) answer t
 cursors_left s t c answer keeps = record {

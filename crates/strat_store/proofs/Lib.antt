@@ -1,6 +1,7 @@
 pub mod BadLemmas
 pub mod FilteringLemmas
 pub mod GettingLemmas
+pub mod GoingLemmas
 pub mod KeepingLemmas
 pub mod CursoringLemmas
 pub mod QueryLemmas

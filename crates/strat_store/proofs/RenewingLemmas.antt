@@ -1,4 +1,4 @@
--- A change that meets a full region, which a publication empties first.
+-- A change that meets a full region: a promotion goes on first, and stays open, or a publication empties that region.
 use Rattle.std.proofs.Common.{◌≡◌, ◌≤◌, ◌<◌, ◌+◌, ◌-◌, ℕ, Bool, true, false, inl, inr, eqb, not, if◌then◌else◌, List, [], ◌∷◌, drop, length, Some, None, refl, sym, ap, ◌∙◌, subst, true≢false, arith}
 use Rattle.std.proofs.lemmas.List.{length-drop}
 use Rattle.strat_array.specs.Kept.{Blocks}
@@ -12,7 +12,8 @@ use Rattle.def_crash.specs.Trail.{Trail}
 use Rattle.def_crash.proofs.MomentLemmas.{since_now}
 use Rattle.def_crash.proofs.TrailLemmas.{trail_of_one, trail_join, trail_more}
 use Rattle.strat_model.specs.Answer.{plain, accepts}
-use Rattle.strat_model.specs.Run.{is_carried_out}
+use Rattle.strat_journal.specs.Log.{Log}
+use Rattle.strat_model.specs.Run.{IsAfter, MayFill, is_carried_out}
 use Rattle.strat_model.proofs.FillLemmas.{carried, refused_not, stays}
 use Rattle.strat_model.specs.Step.{Outcome, step}
 use Rattle.strat_model.specs.Table.{Table}
@@ -31,9 +32,8 @@ use Rattle.strat_memory.specs.Memory.{Memory, refusal_of_change}
 use Rattle.strat_memory.specs.RecoveredFields.{held_of}
 use Rattle.strat_store.specs.Applying.{held_after}
 use Rattle.strat_memory.specs.declared.open_store.OpenStore.{OpenStore}
-use Rattle.def_slice.specs.Filling.{fill_left}
-use Rattle.def_slice.proofs.FillingLemmas.{empties_nothing, left_below, left_full}
 use Rattle.strat_store.proofs.ChangingLemmas.{changes_it, state_held, acceptable, breaks}
+use Rattle.strat_store.proofs.GoingLemmas.{stands_spent}
 use Rattle.strat_memory.proofs.MemoryLawLemmas.{change_refused}
 
 -- one of three refusals, of which each has this
@@ -70,9 +70,8 @@ module _ (r : OpenStore) (cached : Blocks) (kept : IsConsistent (held_of r cache
         told = sym (ap (λ (o : Outcome). o.answer) same);
         going = refused_calm r.memory c q refused;
         after = x;
-        stands = record { stands = stands.stands; held = stands.held; cached = stands.cached; filtered = stands.filtered };
+        stands = stands_spent v (held_of r cached) x (tells_fault q) stands;
         place = stays r.journal.mem at after (request_for c) off (λ i. (sym same i).table) refl;
-        fill = empties_nothing r.journal.mem at after (request_for c) off;
       })
 
   pub refused_trail : FollowsStep v v x (request_for c) (plain (reply.Refused q))
@@ -92,6 +91,15 @@ short_of trouble.NoMemory told is short = refl
 short_of trouble.Device told is short = absurd (let e : reply.Refused why.DeviceFault ≡ reply.Refused why.NoMemory = sym (ap reply.Refused is) ∙ short in cc)
 short_of (trouble.Damaged b) told is short = absurd (let e : reply.Refused (why.Damaged b) ≡ reply.Refused why.NoMemory = sym (ap reply.Refused is) ∙ short in cc)
 
+-- and one that is told as a damaged block is that
+pub damage_of : (t : Trouble) (told : Refusal) (b : ℕ) → told ≡ refusal_of_trouble t → reply.Refused told ≡ reply.Refused (why.Damaged b) → t ≡ trouble.Damaged b
+damage_of trouble.NoMemory told b is bad = absurd (let e : reply.Refused why.NoMemory ≡ reply.Refused (why.Damaged b) = sym (ap reply.Refused is) ∙ bad in cc)
+damage_of trouble.Device told b is bad = absurd (let e : reply.Refused why.DeviceFault ≡ reply.Refused (why.Damaged b) = sym (ap reply.Refused is) ∙ bad in cc)
+damage_of (trouble.Damaged a) told b is bad =
+    let e : reply.Refused (why.Damaged a) ≡ reply.Refused (why.Damaged b) = sym (ap reply.Refused is) ∙ bad in
+    let same : a ≡ b = cc in
+    ap trouble.Damaged same
+
 module _ (r : OpenStore) (cached : Blocks) (kept : IsConsistent (held_of r cached)) (v : DiskView) (x : Contents) (stands : StandsWith v (held_of r cached) x)
     (c : Change) (free : refusal_of_change r.memory c ≡ None) (full : r.sb.mem ≤ length r.journal.list) where
   accepted : accepts (step (table_of (contents_state x)) (request_for c)).answer.reply ≡ true
@@ -109,7 +117,7 @@ module _ (r : OpenStore) (cached : Blocks) (kept : IsConsistent (held_of r cache
         full = omega (arith, full, kept.log.mem);
         told = refl;
         going = refl;
-        stands = record { stands = now.stands; held = now.held; cached = now.cached; filtered = now.filtered };
+        stands = stands_spent w (held_of new cached) x false now;
         place = λ i. record { table = table_of (contents_state x); fill = length (same refl i).list };
       }))
   gives_up new w trouble.Device still same whole = breaks r cached kept v x stands c free new w
@@ -122,61 +130,83 @@ module _ (r : OpenStore) (cached : Blocks) (kept : IsConsistent (held_of r cache
       subst (λ (q : Refusal). IsAppliedTo w (held_of r cached) x (request_for c) (plain (reply.Refused q)) (held_after new cached (reply.Refused q))) (sym is)
       (gives_up new w t still same whole)
 
-  -- or other contents that mean the same table stand, and the journal has what was behind the full region
-  module _ (mid : OpenStore) (u : DiskView) (held : IsConsistent (held_of mid cached)) (size : mid.sb.mem ≡ r.sb.mem) (left : mid.journal.list ≡ drop r.sb.mem r.journal.list) (p : IsPublishedAs u x (held_of mid cached)) where
-    -- it is accepted there too, and so carried out
-    there : is_carried_out (position_with (held_of mid cached) p.after) (request_for c) ≡ true
-    there = carried (position_with (held_of mid cached) p.after) (request_for c) (changes_it c) (ap (λ (t : Table). accepts (step t (request_for c)).answer.reply) p.table ∙ accepted)
+  -- it is carried out at the position of the contents
+  here : is_carried_out (position_with (held_of r cached) x) (request_for c) ≡ true
+  here = carried (position_with (held_of r cached) x) (request_for c) (changes_it c) accepted
 
-    here : is_carried_out (position_with (held_of r cached) x) (request_for c) ≡ true
-    here = carried (position_with (held_of r cached) x) (request_for c) (changes_it c) accepted
+  whole : r.journal.mem ≤ length r.journal.list
+  whole = omega (arith, full, kept.log.mem)
 
-    whole : r.journal.mem ≤ length r.journal.list
-    whole = omega (arith, full, kept.log.mem)
-
-    -- there is room behind what is left
-    many : length mid.journal.list + r.sb.mem ≡ length r.journal.list
-    many = let n = ap (λ (cs : List Change). length cs) left in omega (arith, n, length-drop r.sb.mem r.journal.list, full)
-
-    under : length mid.journal.list < mid.journal.mem
-    under = omega (arith, many, kept.log.few, kept.lawful.mem_least, held.log.mem, size)
-
-    -- and the change comes behind that
-    last : (n : ℕ) → n ≡ fill_left mid.journal.mem (length mid.journal.list) → n + r.sb.mem ≡ length r.journal.list + 1
-    last n is = let one : n ≡ length mid.journal.list + 1 = is ∙ left_below mid.journal.mem (length mid.journal.list) under in omega (arith, one, many)
-
-    -- the change is carried out on these
-    pub renewed : (new : OpenStore) (w : DiskView) (told : Reply) → IsAppliedTo w (held_of mid cached) p.after (request_for c) (plain told) (held_after new cached told)
-        → IsAppliedTo w (held_of r cached) x (request_for c) (plain told) (held_after new cached told)
-    renewed new w told (inl a) = inl (record {
-      told = a.told ∙ ap (λ (t : Table). (step t (request_for c)).answer) p.table;
-      going = a.going;
-      after = a.after;
-      stands = a.stands;
-      place = record {
-        table = a.place.table ∙ ap (λ (t : Table). (step t (request_for c)).table) p.table;
-        fill = λ done.
-            let sum : length new.journal.list + r.journal.mem ≡ length r.journal.list + 1 = omega (arith, last (length new.journal.list) (a.fill there), kept.log.mem) in
-            inr (whole, sum);
-        same = λ off. absurd (true≢false (sym here ∙ off));
-      };
-      fill = λ done.
-          let rest : length new.journal.list ≡ length r.journal.list + 1 - r.journal.mem = omega (arith, last (length new.journal.list) (a.fill there), kept.log.mem) in
-          rest ∙ sym (left_full r.journal.mem (length r.journal.list) whole);
-    })
-    renewed new w told (inr (inl short)) = absurd (omega (arith, short.full, under))
-    renewed new w told (inr (inr broken)) = inr (inr (record { reached = broken.reached; acceptable = accepted; told = broken.told; spent = broken.spent }))
-
-    pub renewed_trail : (w : DiskView) (told : Reply) → Passes u w → Trail ShowsTable u v.moment (table_of (contents_state x) ∷ []) 0 → FollowsStep u w p.after (request_for c) (plain told)
-        → FollowsStep v w x (request_for c) (plain told)
-    renewed_trail w told passes before after =
+  module _ (mid : OpenStore) (u : DiskView) where
+    -- a trail goes on from contents that mean the same table
+    pub renewed_trail : (y : Contents) (w : DiskView) (told : Reply) → table_of (contents_state y) ≡ table_of (contents_state x) → Passes u w → Trail ShowsTable u v.moment (table_of (contents_state x) ∷ []) 0
+        → FollowsStep u w y (request_for c) (plain told) → FollowsStep v w x (request_for c) (plain told)
+    renewed_trail y w told same passes before after =
         let n : ℕ = if accepts told then 1 else 0 in
         let t : Table = table_of (contents_state x) in
         let more : Trail ShowsTable w u.moment (t ∷ table_left t (request_for c) told ∷ []) n =
-        subst (λ (s : Table). Trail ShowsTable w u.moment (s ∷ table_left s (request_for c) told ∷ []) n) p.table after in
+        subst (λ (s : Table). Trail ShowsTable w u.moment (s ∷ table_left s (request_for c) told ∷ []) n) same after in
         let sum : 0 + n ≡ n = omega arith in
         subst (λ (k : ℕ). Trail ShowsTable w v.moment (t ∷ table_left t (request_for c) told ∷ []) k) sum
         (trail_join ShowsTable u w v.moment [] (table_left t (request_for c) told ∷ []) t n passes before more)
+
+    -- a promotion stays open over the same contents, and the change is carried out behind the full region
+    pub carried_behind : (new : OpenStore) (w : DiskView) (told : Reply) → mid.journal ≡ r.journal → IsAppliedTo w (held_of mid cached) x (request_for c) (plain told) (held_after new cached told)
+        → IsAppliedTo w (held_of r cached) x (request_for c) (plain told) (held_after new cached told)
+    carried_behind new w told same (inl a) = inl (record {
+      told = a.told;
+      going = a.going;
+      after = a.after;
+      stands = a.stands;
+      place = subst (λ (j : Log). IsAfter j.mem (record { table = table_of (contents_state x); fill = length j.list }) (request_for c) (position_with (held_after new cached told) a.after)) same a.place;
+    })
+    carried_behind new w told same (inr (inl short)) = inr (inl (record {
+      changes = short.changes;
+      acceptable = short.acceptable;
+      full = whole;
+      told = short.told;
+      going = short.going;
+      stands = short.stands;
+      place = short.place ∙ ap (λ (j : Log). record { table = table_of (contents_state x); fill = length j.list }) same;
+    }))
+    carried_behind new w told same (inr (inr broken)) = inr (inr (record { reached = broken.reached; acceptable = accepted; told = broken.told; spent = broken.spent }))
+
+    -- or other contents that mean the same table stand, and the journal has what was behind the full region
+    module _ (held : IsConsistent (held_of mid cached)) (size : mid.sb.mem ≡ r.sb.mem) (left : mid.journal.list ≡ drop r.sb.mem r.journal.list) (p : IsPublishedAs u x (held_of mid cached)) where
+      -- it is accepted there too, and so carried out
+      there : is_carried_out (position_with (held_of mid cached) p.after) (request_for c) ≡ true
+      there = carried (position_with (held_of mid cached) p.after) (request_for c) (changes_it c) (ap (λ (t : Table). accepts (step t (request_for c)).answer.reply) p.table ∙ accepted)
+
+      -- there is room behind what is left
+      many : length mid.journal.list + r.sb.mem ≡ length r.journal.list
+      many = let n = ap (λ (cs : List Change). length cs) left in omega (arith, n, length-drop r.sb.mem r.journal.list, full)
+
+      under : length mid.journal.list < mid.journal.mem
+      under = omega (arith, many, kept.log.few, kept.lawful.mem_least, held.log.mem, size)
+
+      -- and the change comes behind that
+      last : (n : ℕ) → MayFill mid.journal.mem (length mid.journal.list) n → n + r.sb.mem ≡ length r.journal.list + 1
+      last n (inl more) = omega (arith, more.1, many)
+      last n (inr anew) = absurd (omega (arith, anew.0, under))
+
+      -- the change is carried out on these
+      pub renewed : (new : OpenStore) (w : DiskView) (told : Reply) → IsAppliedTo w (held_of mid cached) p.after (request_for c) (plain told) (held_after new cached told)
+          → IsAppliedTo w (held_of r cached) x (request_for c) (plain told) (held_after new cached told)
+      renewed new w told (inl a) = inl (record {
+        told = a.told ∙ ap (λ (t : Table). (step t (request_for c)).answer) p.table;
+        going = a.going;
+        after = a.after;
+        stands = a.stands;
+        place = record {
+          table = a.place.table ∙ ap (λ (t : Table). (step t (request_for c)).table) p.table;
+          fill = λ done.
+              let sum : length new.journal.list + r.journal.mem ≡ length r.journal.list + 1 = omega (arith, last (length new.journal.list) (a.place.fill there), kept.log.mem) in
+              inr (whole, sum);
+          same = λ off. absurd (true≢false (sym here ∙ off));
+        };
+      })
+      renewed new w told (inr (inl short)) = absurd (omega (arith, short.full, under))
+      renewed new w told (inr (inr broken)) = inr (inr (record { reached = broken.reached; acceptable = accepted; told = broken.told; spent = broken.spent }))
 
 -- where the publication gave up each image shows the table of before
 pub trail_so_far : (v w : DiskView) (x : Contents) (after : Table) → Trail ShowsTable w v.moment (table_of (contents_state x) ∷ []) 0 → Trail ShowsTable w v.moment (table_of (contents_state x) ∷ after ∷ []) 0

@@ -41,12 +41,11 @@ use Rattle.strat_memory.proofs.MemoryLawLemmas.{change_answered_with, change_tak
 use Rattle.strat_memory.specs.RecoveredFields.{held_of}
 use Rattle.strat_memory.specs.declared.open_store.OpenStore.{OpenStore}
 use Rattle.strat_store.specs.Applying.{change_wanted}
-use Rattle.def_slice.specs.Filling.{EmptiesFirst}
-use Rattle.def_slice.proofs.FillingLemmas.{left_below}
 use Rattle.strat_store.specs.Staging.{HasRoomForStaged, IsStaged, IsStagedAt, has_place, held_joined, may_stage, position_staged, replies_over, replies_staged, reply_over, takes_staged, with_staged}
 use Rattle.strat_store.proofs.AppliedLemmas.{beside, change_beside}
 use Rattle.strat_store.proofs.ApplyLemmas.{spent_consistent, wanted_for}
 use Rattle.strat_store.proofs.ChangingLemmas.{changes_it, cursors_stay, told_well}
+use Rattle.strat_store.proofs.GoingLemmas.{open_as, sealed_stay}
 
 -- the replies to changes and one more
 replies_more : (ps : Parents) (batch : List Change) (c : Change) → replies_over ps (batch ++ c ∷ []) ≡ replies_over ps batch ++ reply_over (fold tree_after ps batch) c ∷ []
@@ -247,9 +246,6 @@ module _ (v : DiskView) (s : Held) (x : Contents) (whole : IsConsistent (held_jo
         same = λ off. absurd (true≢false (sym next_carried ∙ off));
       }
 
-      next_empties : EmptiesFirst s.log.mem p (request_for c) q
-      next_empties done = next_fill ∙ sym (left_below s.log.mem p.fill under)
-
     next_kept : slice_get (replies_staged (with_staged s c)) (length s.log.batch) ≡ Some (reply_to s.memory c)
     next_kept =
         ap (λ (n : ℕ). slice_get (replies_staged (with_staged s c)) n) (sym (length_replies s))
@@ -263,7 +259,13 @@ stands_staged v s x rows c keeps at =
     let m = memory_after s.memory c in
     let same : m.cursors.opened ≡ s.memory.cursors.opened = ap (λ (k : HeldCursors). k.opened) (cursors_stay s.memory c) in
     record {
-      stands = record { stands = at.stands.stands; held = at.stands.held; cached = at.stands.cached; filtered = at.stands.filtered };
+      stands = record {
+        stands = at.stands.stands;
+        held = at.stands.held;
+        cached = at.stands.cached;
+        filtered = at.stands.filtered;
+        open_over = open_as f s (with_staged s c) x (length s.log.list) s.promoting (sealed_stay s.memory c) refl at.stands.open_over;
+      };
       rows_are = subst (λ (cs : List HeldCursor). AreRowsOf f m.parents cs rows) (sym same) (keeps f rows at.rows_are);
       going = λ k of. at.going k (subst (λ (cs : List HeldCursor). Contains cs k) same of);
     }
@@ -299,5 +301,4 @@ staged_at v s x rows request c staged at wanted may keeps =
       answer = next_answer v s x staged.whole at.stands c free room rows;
       stands = stands_staged v s x rows c keeps at;
       place = next_place v s x staged.whole at.stands c free room rows;
-      fill = next_empties v s x staged.whole at.stands c free room rows;
     })

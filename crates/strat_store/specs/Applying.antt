@@ -1,5 +1,5 @@
 -- How a store answers a command.
-use Rattle.std.specs.Prelude.{◌≡◌, ◌≢◌, ◌≤◌, ◌⊎◌, ℕ, ◌||◌, if◌then◌else◌, Bool, true, false, [], ◌∷◌, length, Option, Some, None}
+use Rattle.std.specs.Prelude.{◌≡◌, ◌≢◌, ◌≤◌, ◌⊎◌, ℕ, ◌+◌, ◌||◌, if◌then◌else◌, Bool, true, false, [], ◌∷◌, length, Option, Some, None, IfSome}
 use Rattle.def_crash.specs.Faults.{Rose}
 use Rattle.def_crash.specs.Image.{Image}
 use Rattle.def_crash.specs.Moments.{DiskView, Exposes, OnlyReads}
@@ -22,14 +22,13 @@ use Rattle.strat_model.specs.Table.{Table, bare}
 use Rattle.def_meaning.specs.StateTable.{table_of}
 use Rattle.def_publish.specs.Contents.{Contents, contents_state}
 use Rattle.def_publish.specs.Standing.{ShowsTable}
-use Rattle.strat_memory.specs.Held.{Held, StandsWith, arrays_held, position_with}
+use Rattle.strat_memory.specs.Held.{Held, IsOpenAt, StandsWith, arrays_held, position_with}
 use Rattle.strat_cursor.specs.Cursors.{is_opened}
 use Rattle.strat_cursor.specs.Looking.{LooksThrough}
 use Rattle.strat_memory.specs.Memory.{Memory, IsReadyFrom, refusal_of_change}
 use Rattle.strat_array.specs.Kept.{Blocks}
 use Rattle.strat_memory.specs.declared.open_store.OpenStore.{OpenStore}
 use Rattle.strat_memory.specs.RecoveredFields.{held_of}
-use Rattle.def_slice.specs.Filling.{EmptiesFirst}
 
 -- the change that a command asks for, if it asks for one
 abbrev pub change_wanted : Request → Option Change
@@ -50,8 +49,7 @@ abbrev pub is_fault : Reply → Bool
 is_fault (reply.Refused r) = tells_fault r
 is_fault _ = false
 
--- a command was answered as the table says, and the store stands at a position after it, but for its cursors; a region of
--- its journal that was full is emptied first
+-- a command was answered as the table says, and the store stands at a position after it, but for its cursors
 pub record IsAnsweredBy (now : DiskView) (old : Held) (x : Contents) (request : Request)
     (answer : Answer) (new : Held) : Type 0 where
   pub told : answer ≡ (step (table_of (contents_state x)) request).answer
@@ -59,7 +57,6 @@ pub record IsAnsweredBy (now : DiskView) (old : Held) (x : Contents) (request : 
   pub after : Contents
   pub stands : StandsWith now new after
   pub place : IsAfter old.log.mem (position_with old x) request (position_with new after)
-  pub fill : EmptiesFirst old.log.mem (position_with old x) request (position_with new after)
 
 -- memory ran out for a change that the table accepts, at a full journal, and nothing changed
 pub record IsShortOf (now : DiskView) (old : Held) (x : Contents) (request : Request)
@@ -153,11 +150,16 @@ IsLookedUp now new x request answer =
     ⊎ ((answer ≡ refusal why.DeviceFault) × (reaches_disk request ≡ true)
     × (accepts (step (table_of (contents_state x)) request).answer.reply ≡ true))
 
--- a store holds what it held, but for the memory that stands ready for the next time; level 0 may be sealed, and the store
--- may be spent
+-- a store holds what it held, but for the memory that stands ready for the next time; level 0 may be sealed, no promotion is
+-- open any more, and the store may be spent
 abbrev pub HoldsTheSame : Held → Held → Type 0
 HoldsTheSame old new = IsReadyFrom old.sb.mem old.memory new.memory
-    × (new ≡ record old { memory = new.memory; spent = new.spent })
+    × (new ≡ record old { memory = new.memory; promoting = None; spent = new.spent })
+
+-- a store stands with these contents, and a promotion that it has is on time for one change more
+pub record StandsForOne (v : DiskView) (s : Held) (x : Contents) : Type 0 where
+  pub stands : StandsWith v s x
+  pub next : IfSome s.promoting (IsOpenAt stands.stands.content s x (length s.log.list + 1))
 
 -- a command that asks for no change leaves the disk as it was, and the cache but for blocks that it adds as they
 -- stand there; a change that memory refuses leaves all as it was, and one that it takes is told that it is done, or of want of

@@ -21,7 +21,6 @@ use Rattle.strat_model.specs.declared.replies.Reply.{Reply}
 use Rattle.strat_model.specs.declared.replies.Reply.TheVariants as reply
 use Rattle.def_publish.specs.Contents.{Contents}
 use Rattle.strat_store.specs.Applying.{change_wanted}
-use Rattle.def_slice.specs.Filling.{EmptiesFirst}
 use Rattle.strat_memory.specs.Held.{Held, StandsAt, arrays_held, position_at, table_at}
 use Rattle.strat_memory.specs.Memory.{Memory, cursor_from, with_cursor}
 use Rattle.strat_publish.specs.Settling.{HasPublished, KeepsCursors}
@@ -80,8 +79,7 @@ pub record LeavesCursors (old : Held) (request : Request) (answer : Answer) (new
   pub retired : (a : ArrayDesc) → Contains new.memory.cursors.retired a
       → Contains (arrays_held old.memory old.levels) a
 
--- a command was answered as the table with the cursors says, and the store stands at a position after it; a region of its
--- journal that was full is emptied first
+-- a command was answered as the table with the cursors says, and the store stands at a position after it
 pub record IsAnsweredAt (now : DiskView) (old : Held) (x : Contents) (rows : List Cursor)
     (request : Request) (answer : Answer) (new : Held) : Type 0 where
   pub told : answer ≡ (step (table_at old x rows) request).answer
@@ -90,8 +88,6 @@ pub record IsAnsweredAt (now : DiskView) (old : Held) (x : Contents) (rows : Lis
   pub left : List Cursor
   pub stands : StandsAt now new after left
   pub place : IsAfter old.log.mem (position_at old x rows) request (position_at new after left)
-  pub fill : EmptiesFirst old.log.mem (position_at old x rows) request
-      (position_at new after left)
 
 -- memory ran out for a command that the table accepts, an opening of a cursor or a change at a full journal, and nothing
 -- changed

@@ -23,7 +23,6 @@ use Rattle.def_state.specs.State.{tree_after}
 use Rattle.strat_memory.specs.Held.{Held, IsConsistent, StandsAt, head_held, position_at}
 use Rattle.strat_memory.specs.Memory.{memory_after, refusal_of_change}
 use Rattle.strat_store.specs.Applying.{change_wanted}
-use Rattle.def_slice.specs.Filling.{EmptiesFirst}
 
 -- a store whose staged changes are in its journal's list
 abbrev pub held_joined : Held → Held
@@ -90,8 +89,6 @@ pub record IsStagedAt (now : DiskView) (old : Held) (x : Contents) (rows : List 
   pub answer : (step (position_staged old x rows).table request).answer ≡ plain told
   pub stands : StandsAt now new x rows
   pub place : IsAfter old.log.mem (position_staged old x rows) request
-      (position_staged new x rows)
-  pub fill : EmptiesFirst old.log.mem (position_staged old x rows) request
       (position_staged new x rows)
 
 -- from the table of some contents the images of a disk go on to the table after all of a batch, where it became durable, or

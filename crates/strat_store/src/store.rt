@@ -1,6 +1,6 @@
 //! An open store: what it holds in memory of a disk, and how it carries out commands.
 
-ghost use Rattle.std.specs.Prelude.{◌≡◌, ◌≢◌, ◌<◌, ◌≤◌, ◌+◌, ◌*◌, ℕ, List, [], length, take, drop, Some, None, Ok, Err, IfOk, IfErr, IsErrOf, OnErr, OnOk, is_ok, true, false, slice_get, option_map, IsTrue, ◌↔◌};
+ghost use Rattle.std.specs.Prelude.{◌≡◌, ◌≢◌, ◌<◌, ◌≤◌, ◌+◌, ◌*◌, ℕ, List, [], length, take, drop, Some, None, Ok, Err, IfOk, IfErr, IsErrOf, OnErr, OnOk, is_ok, true, false, slice_get, option_map, IsTrue, Contains, ◌↔◌};
 ghost use Rattle.std.specs.Option.{option_to_list};
 ghost use Rattle.strat_array.specs.Kept.{Blocks};
 ghost use Rattle.strat_base.specs.Change.{Change as TheChange};
@@ -19,6 +19,7 @@ ghost use Rattle.strat_model.specs.Spelling.{has_lawful_sizes};
 ghost use Rattle.strat_model.specs.Table.{Cursor, Table};
 ghost use Rattle.strat_model.specs.declared.replies.Refusal.TheVariants as why;
 ghost use Rattle.strat_model.specs.declared.replies.Reply.TheVariants as reply;
+ghost use Rattle.strat_promote.specs.Job.{blocks_listed};
 ghost use Rattle.def_recovery.specs.Opening.{recover};
 ghost use Rattle.def_publish.specs.Appending.{with_batch};
 ghost use Rattle.def_publish.specs.Contents.{Contents};
@@ -28,7 +29,7 @@ ghost use Rattle.strat_store.specs.Applying.{FollowsStep, FailsAsTold, IsUntouch
 ghost use Rattle.strat_publish.specs.Outcomes.{IsDamagedIn};
 ghost use Rattle.strat_store.specs.Cursoring.{IsAppliedAt, LeavesCursors, cursors_after};
 ghost use Rattle.strat_open.specs.Following.{IsOpenedAs, IsUnchanged, LeavesOpening};
-ghost use Rattle.strat_memory.specs.Held.{IsConsistent, StandsAt, StandsWith, arrays_held};
+ghost use Rattle.strat_memory.specs.Held.{IsConsistent, IsOnDisk, StandsAt, StandsWith, arrays_held};
 ghost use Rattle.strat_memory.specs.Memory.{KeepsRows, info_told, lists_in_memory, sealed_entries};
 ghost use Rattle.strat_cursor.specs.Looking.{AreOfOldArrays, LooksThrough, MayBeFound, ReadsArrays, arrays_asked};
 ghost use Rattle.strat_arena.specs.declared.pool.PoolEntry.{PoolEntry};
@@ -41,6 +42,7 @@ ghost use Rattle.strat_store.specs.Ranging.{HasPairsFor, ReadsForLook, TellsFrom
 ghost use Rattle.strat_store.specs.Staging.{FollowsBatch, IsStaged, held_joined, may_stage, replies_staged, reply_of_commit, with_staged};
 ghost use Rattle.strat_memory.specs.RecoveredFields.{held_of, empty_cache};
 ghost use Rattle.strat_store.specs.Applying.{held_after};
+ghost use Rattle.strat_publish.specs.Advancing.{SlicesInBudget};
 ghost use Rattle.strat_publish.specs.Settling.{LeavesPublished, carries_out};
 ghost use Rattle.strat_open.specs.declared.attach_fault.AttachFault.TheVariants as fault;
 
@@ -232,12 +234,20 @@ fn answer<D: Disk>(
         (as_told result out.new) (held_after held.new cache.new result)
         × ReadsForLook (held_of held.old cache.old) (request_of command.now)
         (D.reads disk.old) (D.reads disk.new) }
-    ensures time { Passes (D.view disk.old) (D.view disk.new) }
+    ensures budget { carries_out (request_of command.now) result ≡ true
+        → held.old.sb.mem ≤ length held.old.journal.list → (f : Image) (x : Contents)
+        → Exposes (D.view disk.old) f
+        → StandsWith (D.view disk.old) (held_of held.old cache.old) x
+        → SlicesInBudget f (held_of held.old cache.old) x
+        (held_of held.new cache.new).promoting }
     ensures cause { FailsAsTold (D.faults disk.old) (D.faults disk.new) result
         × TellsTroubleOf (D.view disk.old) (held_of held.old cache.old)
-        (request_of command.now) result }
+        (request_of command.now) result
+        × Passes (D.view disk.old) (D.view disk.new) }
     ensures damaged { (b : ℕ) → result ≡ reply.Refused (why.Damaged b)
-        → IsDamagedIn (D.view disk.old).content held.old.memory held.old.published.levels b }
+        → Contains (blocks_listed (arrays_held held.old.memory held.old.published.levels)) b
+        × (IsOnDisk (D.view disk.old) (held_of held.old cache.old)
+        → IsDamagedIn (D.view disk.old).content held.old.memory held.old.published.levels b) }
 {
     match change_asked(command) {
         Some(asked) => change(alloc, held, disk, &asked),
@@ -271,7 +281,7 @@ impl Store {
         self.held.memory.counts().0
     }
 
-    /// How many changes its journal has, those since the last checkpoint: in the active region, and behind it in the other
+    /// How many changes its journal has, those that are in no level yet: in the active region, and behind it in the other
     /// one. O(1).
     pub fn journal_counts(&self) -> (u32, u32)
         ensures ok { (result.0 ≡ length (take self.now.log.mem self.now.log.list))
@@ -280,7 +290,7 @@ impl Store {
         self.held.journal.counts()
     }
 
-    /// Whether these are as many as a region takes, so that the next change makes a checkpoint first. O(1).
+    /// Whether these are as many as a region takes or more, so that the next change does a slice of a promotion first. O(1).
     pub fn is_journal_full(&self) -> bool
         ensures ok { IsTrue result ↔ (self.now.sb.mem ≤ length self.now.log.list) }
     {
@@ -366,10 +376,14 @@ impl Store {
     /// Carries out one command. The pairs of its answer are in `out`, which is emptied first.
     ///
     /// A change is durable before it is answered: two writes and two syncs, and in memory one insertion into level 0, or
-    /// O(log versions_max) for a clone. It takes no memory. A change that meets a full journal, one in `mem`, makes a
-    /// checkpoint first. That reads the blocks that it merges twice, writes the new arrays and the manifest once, and syncs
-    /// five times at most. It takes its memory before anything of the store is replaced; without it the answer is
-    /// `NoMemory`, and the store is as it was.
+    /// O(log versions_max) for a clone. It takes no memory.
+    ///
+    /// A change that meets a full journal also does one slice of a promotion, which empties that into the levels; the first
+    /// one begins it. A promotion reads the blocks that it merges twice and writes the new arrays once, and each slice takes
+    /// such a share that the last one comes while the journal has room: up to 2 `mem` - 2 changes. The change of the last slice
+    /// also writes the manifest and syncs five times at most. A slice takes its memory before anything of the store is
+    /// replaced. Without it the answer is `NoMemory`, the promotion is given up and begins anew with the next change, and all
+    /// else is as it was.
     ///
     /// A get asks level 0, and then one array of each level at most, but none whose filter refuses the key. A scan goes through
     /// level 0 and one array of each level, pair by pair. In an array of fewer than 2^n blocks either reads n + 4 at most to
@@ -414,13 +428,19 @@ impl Store {
             (carries_out (request_of command.now) result) result self.new
             × LeavesCursors self.old (request_of command.now) (as_told result out.new)
             self.new }
-        ensures time { Passes (D.view disk.old) (D.view disk.new) }
         ensures cause { FailsAsTold (D.faults disk.old) (D.faults disk.new) result
-            × TellsTroubleOf (D.view disk.old) self.old (request_of command.now) result }
+            × TellsTroubleOf (D.view disk.old) self.old (request_of command.now) result
+            × Passes (D.view disk.old) (D.view disk.new) }
         ensures reads { ReadsForLook self.old (request_of command.now)
             (D.reads disk.old) (D.reads disk.new) }
+        ensures budget { carries_out (request_of command.now) result ≡ true
+            → self.old.sb.mem ≤ length self.old.log.list → (f : Image) (x : Contents)
+            → Exposes (D.view disk.old) f → StandsWith (D.view disk.old) self.old x
+            → SlicesInBudget f self.old x self.new.promoting }
         ensures damaged { (b : ℕ) → result ≡ reply.Refused (why.Damaged b)
-            → IsDamagedIn (D.view disk.old).content self.old.memory self.old.levels b }
+            → Contains (blocks_listed (arrays_held self.old.memory self.old.levels)) b
+            × (IsOnDisk (D.view disk.old) self.old
+            → IsDamagedIn (D.view disk.old).content self.old.memory self.old.levels b) }
     {
         out.clear();
         self.spent = true;

@@ -66,6 +66,7 @@ children_apart = record {
   levels = Some (record { number = 1; horizon = 3; arrays = array_in 5 1 7 ∷ array_in 6 2 8 ∷ [] })
       ∷ [];
   filters = [];
+  promoting = None;
   cached = record { entries = []; cap = 256 };
   spent = false;
 }

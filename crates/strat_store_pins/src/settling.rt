@@ -1,7 +1,7 @@
 //! What a command leaves of superblock and manifest, and of which trouble it may tell: each fact of these records, used once. Each is
 //! the contract of a function that does nothing.
 
-ghost use Rattle.std.specs.Prelude.{◌≡◌, ◌≢◌, ◌≤◌, ◌⊎◌, ◌+◌, ◌-◌, ℕ, suc, Bool, List, true, false, length, drop, replicate, Contains, Some, None, Ok};
+ghost use Rattle.std.specs.Prelude.{◌≡◌, ◌≢◌, ◌≤◌, ◌⊎◌, ◌<◌, ◌+◌, ◌-◌, ◌*◌, ℕ, suc, Bool, List, true, false, length, drop, replicate, Contains, IsSome, Some, None, Ok};
 ghost use Rattle.strat_base.specs.declared.descriptors.ArrayDesc.{ArrayDesc};
 ghost use Rattle.def_crash.specs.Blocks.{AgreeOn};
 ghost use Rattle.def_crash.specs.Image.{Image};
@@ -26,18 +26,30 @@ ghost use Rattle.strat_memory.specs.Held.{Held, IsConsistent, IsOnDisk, StandsWi
 ghost use Rattle.strat_memory.specs.Memory.{Memory, oldest_changes, oldest_parents, oldest_updates};
 ghost use Rattle.strat_publish.specs.Counting.{CountsWritten, KeepsCount, manifest_with_array};
 ghost use Rattle.strat_memory.specs.Paying.{IsPaidIn};
-ghost use Rattle.strat_publish.specs.Settling.{ArePublishedTo, HasPublished, LeavesPublished, arrays_taken};
+ghost use Rattle.strat_publish.specs.Settling.{ArePublishedTo, HasPublished, IsPromoting, LeavesPublished, arrays_taken};
 
 use def_crash::laws::Viewed;
 
-/// A change that was carried out at a full journal left the other slot, with the next generation and the other region, and a
-/// manifest of what memory counted at the seal, in the newest format and with no version dropped. In a consistent store that is
-/// all that memory counts, where nothing is behind the full region. The levels deeper than the one that it filled have the
-/// filters that they had.
-pub fn a_full_journal_is_published<D: Viewed>()
+/// A change that was carried out at a full journal was the last of a promotion and published, or left one open over all that
+/// the store held of its disk. It did so only where the journal had room behind the full region.
+pub fn a_full_journal_is_promoted_or_published<D: Viewed>()
     ensures ok { (d e : D) (old new : Held) (told : Reply)
         → LeavesPublished (D.view d) (D.view e) old true told new
-        → old.log.mem ≤ length old.log.list → (new.slot ≡ 1 - old.slot)
+        → old.log.mem ≤ length old.log.list → HasPublished old new ⊎ IsPromoting old new }
+    ensures kept { (old new : Held) → IsPromoting old new → (new.slot ≡ old.slot)
+        × (new.sb ≡ old.sb) × (new.chained ≡ old.chained) × (new.levels ≡ old.levels)
+        × (new.filters ≡ old.filters) }
+    ensures room { (old new : Held) → IsPromoting old new → (old.log.mem ≤ length old.log.list)
+        × (length old.log.list < 2 * old.sb.mem - 2) }
+    ensures found { (old new : Held) → IsPromoting old new → IsSome new.promoting }
+{}
+
+/// A publication left the other slot, with the next generation and the other region, and a manifest of what memory counted at
+/// the seal, in the newest format and with no version dropped; and no promotion is open. In a consistent store the manifest has
+/// all that memory counts, where nothing is behind the full region. The levels deeper than the one that it filled have the
+/// filters that they had.
+pub fn what_a_promotion_made_is_published()
+    ensures ok { (old new : Held) → HasPublished old new → (new.slot ≡ 1 - old.slot)
         × (new.sb.generation ≡ old.sb.generation + 1) × (new.sb.region ≡ 1 - old.sb.region)
         × (new.sb.mem ≡ old.sb.mem) × (new.sb.changes_max ≡ old.sb.changes_max)
         × (new.sb.versions_max ≡ old.sb.versions_max)
@@ -48,14 +60,12 @@ pub fn a_full_journal_is_published<D: Viewed>()
         → (oldest_changes s.memory ≡ s.memory.changes)
         × (oldest_updates s.memory ≡ s.memory.updates)
         × (oldest_parents s.memory ≡ s.memory.parents) }
-    ensures same { (d e : D) (old new : Held) (told : Reply)
-        → LeavesPublished (D.view d) (D.view e) old true told new
-        → old.log.mem ≤ length old.log.list → (new.sb.format ≡ newest_format)
+    ensures same { (old new : Held) → HasPublished old new → (new.sb.format ≡ newest_format)
         × (new.chained.manifest.compacted ≡ old.chained.manifest.compacted)
         × (new.chained.manifest.marks
         ≡ replicate (suc (length (parent_numbers (oldest_parents old.memory)))) false) }
     ensures room { (old new : Held) → HasPublished old new
-        → old.log.mem ≤ length old.log.list }
+        → (old.log.mem ≤ length old.log.list) × (new.promoting ≡ None) }
     ensures fits { (target : ℕ) (sb next_sb : Super) (m next : Manifest) (memory : Memory)
         (a : ArrayDesc) (are : ArePublishedTo target sb m memory next_sb next)
         → Contains (arrays_made are.made) a → m.next_array ≤ a.id }

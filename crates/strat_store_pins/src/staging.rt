@@ -24,7 +24,6 @@ ghost use Rattle.def_state.specs.State.{State};
 ghost use Rattle.strat_cursor.specs.Looking.{AreOfOldArrays};
 ghost use Rattle.strat_memory.specs.Held.{Held, IsConsistent, StandsAt};
 ghost use Rattle.strat_memory.specs.Memory.{memory_after};
-ghost use Rattle.def_slice.specs.Filling.{EmptiesFirst};
 ghost use Rattle.strat_store.specs.Staging.{FollowsBatch, IsStaged, IsStagedAt, has_place, held_joined, may_stage, position_staged, replies_staged, reply_of_commit, with_staged};
 ghost use Rattle.strat_store_pins.specs.Examples.{children_apart, log_of};
 
@@ -91,9 +90,7 @@ pub fn a_staged_change_is_a_step_of_the_table<D: Viewed>()
         × StandsAt (D.view d) new x rows }
     ensures end { (d : D) (old new : Held) (x : Contents) (rows : List Cursor) (request : Request)
         → IsStagedAt (D.view d) old x rows request new
-        → IsAfter old.log.mem (position_staged old x rows) request (position_staged new x rows)
-        × EmptiesFirst old.log.mem (position_staged old x rows) request
-        (position_staged new x rows) }
+        → IsAfter old.log.mem (position_staged old x rows) request (position_staged new x rows) }
     ensures len { (s : Held) (x : Contents) (rows : List Cursor)
         → (position_staged s x rows).fill ≡ length s.log.list + length s.log.batch }
 {}

@@ -18,13 +18,14 @@ ghost use Rattle.strat_memory.specs.Memory.{Memory, memory_after, refusal_of_cha
 
 use def_crash::laws::Viewed;
 
-/// A change that is told of want of memory leaves all that the store holds, but for the memory that stands ready; and level 0
-/// as it was, or sealed with a new one before it that has no entries.
+/// A change that is told of want of memory leaves all that the store holds, but for the memory that stands ready, and with no
+/// promotion open; and level 0 as it was, or sealed with a new one before it that has no entries.
 pub fn a_change_short_of_memory_leaves_what_is_held<D: Viewed>()
     ensures same { (d e : D) (old new : Held) (v : ℕ) (key value : List ℕ)
         → IsUntouched (D.view d) (D.view e) (Put v key value) old (reply.Refused why.NoMemory) new
         → (new.slot ≡ old.slot) × (new.sb ≡ old.sb) × (new.chained ≡ old.chained)
-        × (new.log ≡ old.log) × (new.levels ≡ old.levels) × (new.cached ≡ old.cached) }
+        × (new.log ≡ old.log) × (new.levels ≡ old.levels) × (new.cached ≡ old.cached)
+        × (new.promoting ≡ None) }
     ensures kept { (d e : D) (old new : Held) (v : ℕ) (key value : List ℕ)
         → IsUntouched (D.view d) (D.view e) (Put v key value) old (reply.Refused why.NoMemory) new
         → (new.memory.parents ≡ old.memory.parents) × (new.memory.updates ≡ old.memory.updates)

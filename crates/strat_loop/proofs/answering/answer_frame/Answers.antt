@@ -32,7 +32,8 @@ pub returns-clause-damaged : goal.returns-clause-damaged
 returns-clause-damaged g c =
     λ b e.
     let told : c.apply-reply.result ≡ reply.Refused (why.Damaged b) = told_damaged c.apply-reply.result c.fault.result b c.fault.ensures e in (
-      c.apply-reply.ensures.damaged b told,
+      (c.apply-reply.ensures.damaged b told).0,
+      (c.apply-reply.ensures.damaged b told).1,
       c.apply-reply.ensures.same.2.beside (λ f. let g : ◌≡◌ {A = Reply} (reply.Refused (why.Damaged b)) (reply.Refused why.DeviceFault) = sym told ∙ f in cc),
     )
 

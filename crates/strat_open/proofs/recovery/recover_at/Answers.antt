@@ -42,6 +42,7 @@ returns-clause-kept g c = λ cap. record {
   placed = c.in_ok-published.ensures.kept.placed;
   kept = kept_without (super_of c.args.sb) (chained_of c.in_ok-published.published) c.in_ok-published.published.levels c.in_ok-published.ensures.kept.placed
       c.in_ok-published.ensures.kept.spelled c.in_ok-published.ensures.kept.belonging c.in_ok-journal.memory c.in_ok-journal.ensures.cursors;
+  going = tt;
 }
 
 pub returns-clause-same : goal.returns-clause-same

@@ -9,7 +9,7 @@ use Rattle.strat_promote.specs.Turning.{GoesFurther, MatchStep}
 use Rattle.strat_promote.specs.Steps.{inputs_of, StepsOn}
 use Rattle.strat_promote.specs.declared.step.Step.{Step}
 use Rattle.strat_promote.specs.declared.step.Step.TheVariants as step
-use Rattle.strat_promote.proofs.SliceLemmas.{slice_torn, slice_goes, slice_leaves, slice_pauses, slice_blames, slice_fits, slicing_next, steps_fit}
+use Rattle.strat_promote.proofs.SliceLemmas.{slice_torn, slice_goes, slice_leaves, slice_pauses, slice_reads, slice_blames, slice_fits, slicing_next, steps_fit}
 use Rattle.strat_promote.proofs.slicing.take_steps.Goals as goal
 
 pub returns-in_err-level-clause-same : goal.returns-in_err-level-clause-same
@@ -42,6 +42,11 @@ returns-in-Made-clause-filters g c =
 pub returns-then-may_pause-clause-same : goal.returns-then-may_pause-clause-same
 returns-then-may_pause-clause-same g c =
     slice_torn c.args.task.now (inputs_of c.args.sources.now) (stage_consumed c.args.stage.now + c.args.budget) c.loop.counter (g.D.Disk.view c.args.disk.now) (g.D.Disk.view c.loop.disk) (g.D.Disk.view c.take_step.new.disk) c.args.space.now c.loop.space c.take_step.new.space c.args.stage.now c.loop.stage c.take_step.new.stage (g.D.Disk.faults c.args.disk.now) (g.D.Disk.faults c.loop.disk) (g.D.Disk.faults c.take_step.new.disk) (g.D.Disk.reads c.args.disk.now) (g.D.Disk.reads c.loop.disk) (g.D.Disk.reads c.take_step.new.disk) c.loop.invariant c.in_ok-level.ensures.room.1 c.in_ok-level.ensures.same
+
+pub returns-then-may_pause-clause-found : goal.returns-then-may_pause-clause-found
+returns-then-may_pause-clause-found g c =
+    slice_reads c.args.task.now (inputs_of c.args.sources.now) (stage_consumed c.args.stage.now + c.args.budget) c.loop.counter (g.D.Disk.view c.args.disk.now) (g.D.Disk.view c.loop.disk) (g.D.Disk.view c.take_step.new.disk) c.args.space.now c.loop.space c.take_step.new.space c.args.stage.now c.loop.stage c.take_step.new.stage (g.D.Disk.faults c.args.disk.now) (g.D.Disk.faults c.loop.disk) (g.D.Disk.faults c.take_step.new.disk) (g.D.Disk.reads c.args.disk.now) (g.D.Disk.reads c.loop.disk) (g.D.Disk.reads c.take_step.new.disk) c.loop.invariant c.in_ok-level.ensures.room.1 c.in_ok-level.ensures.same
+    (λ f g' told tells used read. subst (λ (r : Step). MatchStep r (IsReadOf g' (arrays_to c.args.sources.now.levels.now c.args.task.now.target) c.take_step.new.stage) (λ level. Unit {0})) c.in-More.is (c.in_ok-level.ensures.damaged.1 f g' told tells used read))
 
 pub returns-then-may_pause-clause-ok : goal.returns-then-may_pause-clause-ok
 returns-then-may_pause-clause-ok g c =

@@ -1,9 +1,7 @@
 use Rattle.std.proofs.Common.{ℕ, sym, ap, subst, ◌∙◌, arith}
-use Rattle.std.proofs.lemmas.Result.{err_from_is_err_and}
 use Rattle.strat_base.proofs.ResultFacts.{err_of}
 use Rattle.def_bytes.specs.Arrays.{blocks_of}
 use Rattle.def_bytes.specs.Chained.{Chained}
-use Rattle.strat_journal.proofs.ReadLemmas.{same_err}
 use Rattle.strat_manifest.specs.ManifestView.{manifest_of}
 use Rattle.strat_publish.specs.Publishing.{manifest_after}
 use Rattle.strat_publish.specs.Settling.{StandApart}
@@ -11,10 +9,11 @@ use Rattle.strat_memory.specs.RecoveredFields.{held_of, empty_cache}
 use Rattle.strat_publish.proofs.LaidLemmas.{written_as}
 use Rattle.strat_publish.proofs.ObstacleLemmas.{short_block, short_cause}
 use Rattle.strat_publish.proofs.SettlingLemmas.{may_admit, numbered_from, readied_as}
+use Rattle.strat_publish.specs.declared.made.Made.{Made}
 use Rattle.strat_publish.proofs.checkpoint.prepare_next.Goals as goal
 
 pub admit_next-requires-clause-kept : goal.admit_next-requires-clause-kept
-admit_next-requires-clause-kept g c = ((c.requires.kept (empty_cache 0)).lawful, c.in_ok-computed.ensures.fits.3)
+admit_next-requires-clause-kept g c = ((c.requires.kept (empty_cache 0)).0.lawful, c.in_ok-computed.ensures.fits.3)
 
 pub returns-clause-ok : goal.returns-clause-ok
 returns-clause-ok g c = λ x cached stands.
@@ -37,9 +36,7 @@ returns-clause-disk g c =
     written_as (g.D.Disk.view c.args.disk.now) (g.D.Disk.view c.compute_beside.new.disk) _ _ _ _ c.in_ok-next.ensures.ok.0 c.in_ok-next.ensures.found c.in_ok-computed.ensures.disk
 
 pub returns-in_err-computed-clause-damaged : goal.returns-in_err-computed-clause-damaged
-returns-in_err-computed-clause-damaged g c = λ b torn.
-    let p = err_from_is_err_and c.from_residual.result c.from_residual.ensures.1 in
-    c.in_err-computed.ensures.damaged b (same_err c.from_residual.result p.0 _ _ p.1 p.2 torn)
+returns-in_err-computed-clause-damaged g c = λ b torn. c.in_err-computed.ensures.damaged b (err_of c.from_residual.result _ _ c.from_residual.ensures.1 torn)
 
 pub returns-in_err-computed-clause-err : goal.returns-in_err-computed-clause-err
 returns-in_err-computed-clause-err g c = λ unfit. c.in_err-computed.ensures.err (err_of c.from_residual.result _ _ c.from_residual.ensures.1 unfit)
@@ -48,7 +45,7 @@ pub returns-in_err-next-clause-err : goal.returns-in_err-next-clause-err
 returns-in_err-next-clause-err g c = λ unfit x cached stands.
     let ready = c.in_ok-computed.ensures.ok x cached stands in
     c.in_err-next.ensures.err (err_of c.from_residual-in_err-next.result _ _ c.from_residual-in_err-next.ensures.1 unfit)
-    (may_admit (g.D.Disk.view c.compute_beside.new.disk) (held_of c.args.held.now cached) x _ _ _ _ (c.requires.kept cached) ready.0 ready.1)
+    (may_admit (g.D.Disk.view c.compute_beside.new.disk) (held_of c.args.held.now cached) x _ _ _ _ (c.requires.kept cached).0 ready.0 ready.1)
 
 pub returns-in_err-next-clause-cause : goal.returns-in_err-next-clause-cause
 returns-in_err-next-clause-cause g c = short_cause c.from_residual-in_err-next.result _ c.from_residual-in_err-next.ensures.1 c.in_err-next.ensures.cause _ _ c.in_ok-computed.ensures.cause.ok
@@ -64,6 +61,6 @@ returns-clause-kept g c = (
       let y : Chained = record { manifest = manifest_of c.in_ok-computed.computed.manifest; blocks = blocks_of c.in_ok-computed.computed.chain } in
       subst (λ (y : Chained). StandApart c.in_ok-next.next.target (held_of c.args.held.now cached) y) (sym c.in_ok-next.ensures.found)
       (subst (λ (n : ℕ). StandApart n (held_of c.args.held.now cached) y) (sym c.in_ok-next.ensures.ok.2) apart),
-  omega (arith, c.in_ok-next.ensures.ok.2, c.in_ok-computed.ensures.fits.4),
-  omega (arith, c.in_ok-next.ensures.ok.2, c.in_ok-computed.ensures.fits.5),
+  (let made = (c.requires.kept (empty_cache 0)).1 in omega (arith, c.in_ok-next.ensures.ok.2, ap (λ (m : Made). m.target) c.in_ok-computed.ensures.fits.4, made.low)),
+  (let made = (c.requires.kept (empty_cache 0)).1 in omega (arith, c.in_ok-next.ensures.ok.2, ap (λ (m : Made). m.target) c.in_ok-computed.ensures.fits.4, made.fits)),
 )

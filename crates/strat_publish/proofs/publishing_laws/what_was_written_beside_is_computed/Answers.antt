@@ -3,5 +3,5 @@ use Rattle.strat_publish.proofs.publishing_laws.what_was_written_beside_is_compu
 
 pub returns : goal.returns
 returns g c = record {
-  ok = λ v w u s t r old new target made besides others log beside lawful is_log. computed _ _ _ s t r old new target made besides others beside (numbers_rise old.chained.manifest lawful) log is_log;
+  ok = λ w u t r old new target made besides others log beside lawful is_log. computed _ _ t r old new target made besides others beside (numbers_rise old.chained.manifest lawful) log is_log;
 }

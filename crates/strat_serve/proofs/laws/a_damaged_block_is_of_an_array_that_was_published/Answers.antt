@@ -15,7 +15,7 @@ returns g c = λ x y d e budget block f h served before now.
       found.named f before,
       (
         content.0,
-        subst (λ (o : Option Image). IsDamagedIn o found.store.memory found.store.levels block) content.1 found.bad,
+        subst (λ (o : Option Image). IsDamagedIn o found.store.memory found.store.levels block) content.1 (found.bad f before),
         found.kept content.0 h content.1 now,
       ),
     )

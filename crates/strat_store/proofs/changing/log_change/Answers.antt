@@ -1,8 +1,16 @@
+use Rattle.std.proofs.Common.{◌≡◌, List, length, ap, arith}
+use Rattle.strat_base.specs.Change.{Change}
 use Rattle.def_publish.specs.Appending.{AppendsBatch}
-use Rattle.strat_store.proofs.LoggingLemmas.{logged_behind, logged_paid, logged_trail, logged_stands}
+use Rattle.strat_store.proofs.LoggingLemmas.{logged_behind, logged_paid, logged_trail, logged_stands, room_some}
 use Rattle.strat_store.proofs.changing.log_change.Given.{Over}
 use Rattle.strat_store.proofs.changing.log_change.Goals as goal
 use Rattle.strat_store.proofs.changing.log_change.Goals.{After-append}
+
+pub add-requires-clause-room : goal.add-requires-clause-room
+add-requires-clause-room g c =
+    let none : length c.args.journal.now.batch ≡ 0 = ap (λ (cs : List Change). length cs) c.requires.none in
+    let some = room_some c.args.journal.now c.requires.room in
+    (omega (arith, none), omega (arith, none, some))
 
 appends : (g : Over) (c : After-append g) → AppendsBatch (g.D.Disk.view c.args.disk.now) (g.D.Disk.view c.append.new.disk) c.add.new.self
 appends g c = record { images = c.append.ensures.images; time = c.append.ensures.time; each = c.append.ensures.trail }

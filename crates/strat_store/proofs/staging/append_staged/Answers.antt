@@ -38,4 +38,4 @@ returns-clause-state g c = λ x rows cached at.
 pub returns-clause-same : goal.returns-clause-same
 returns-clause-same g c = λ cached.
     commit_leaves (g.D.Disk.view c.args.disk.now) (g.D.Disk.view c.append.new.disk) (held_of c.args.held.now cached) (c.requires.kept cached) c.requires.len (c.requires.room c.requires.len)
-    (appends g (goal.at.returns-clause-same g c).After-append) c.in-Ok.ensures.durable (held_of (record c.args.held.now { journal = c.append.new.self }) cached) false (record { slot = refl; sb = refl; chained = refl; levels = refl; filters = refl })
+    (appends g (goal.at.returns-clause-same g c).After-append) c.in-Ok.ensures.durable (held_of (record c.args.held.now { journal = c.append.new.self }) cached) false (record { slot = refl; sb = refl; chained = refl; levels = refl; filters = refl }) refl

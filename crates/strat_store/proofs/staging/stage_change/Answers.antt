@@ -17,7 +17,7 @@ take-requires-clause-room c =
     let whole = c.requires.kept (empty_cache 0) in
     let room = (place_room c.args.held.now.journal (sym c.if-not-has_place.ensures.ok)).1 in
     let many = length-append c.args.held.now.journal.list c.args.held.now.journal.batch in
-    room_kept (held_joined (held_of c.args.held.now (empty_cache 0))) whole _ (omega (arith, room, many, whole.log.mem))
+    room_kept (held_joined (held_of c.args.held.now (empty_cache 0))) whole _ (omega (arith, room, many, whole.log.mem, whole.lawful.mem_least)) (λ unsealed. omega (arith, room, many, whole.log.mem))
 
 pub returns-clause-kept : goal.returns-clause-kept
 returns-clause-kept c cached =
@@ -25,7 +25,7 @@ returns-clause-kept c cached =
     let whole = c.requires.kept cached in
     let room = (place_room r.journal (sym c.if-not-has_place.ensures.ok)).1 in
     let many = length-append r.journal.list r.journal.batch in
-    kept_more (record r { journal = batch_joined r.journal }) cached whole _ c.requires.fits (sym c.in-None.ensures.ok) (omega (arith, room, many, whole.log.mem))
+    kept_more (record r { journal = batch_joined r.journal }) cached whole _ c.requires.fits (sym c.in-None.ensures.ok) (omega (arith, room, many, whole.log.mem, whole.lawful.mem_least)) (λ unsealed. omega (arith, room, many, whole.log.mem))
     (batch_joined c.add.new.self) c.take.new.self (joined_more r.journal c.add.new.self _ c.add.ensures.ok) c.take.ensures.ok
 
 pub returns-clause-room : goal.returns-clause-room

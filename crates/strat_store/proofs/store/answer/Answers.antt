@@ -1,4 +1,5 @@
-use Rattle.std.proofs.Common.{◌≡◌, ◌∙◌, ◌&&◌, Bool, Option, Some, None, refl, sym, ap, subst}
+use Rattle.std.proofs.Common.{◌≡◌, ◌∙◌, ◌&&◌, Bool, Option, Some, None, refl, sym, ap, subst, true≢false}
+use Rattle.std.proofs.lemmas.Bool.{and_parts}
 use Rattle.strat_base.specs.Change.{Change}
 use Rattle.def_crash.specs.Moments.{OnlyReads}
 use Rattle.def_crash.proofs.MomentLemmas.{reads_refl}
@@ -6,6 +7,7 @@ use Rattle.strat_model.specs.Answer.{accepts, as_told, plain}
 use Rattle.strat_model.specs.Command.{request_of}
 use Rattle.strat_model.specs.Pairs.{Pairs}
 use Rattle.strat_model.specs.Request.{Request}
+use Rattle.strat_model.specs.Run.{is_change}
 use Rattle.strat_store.specs.Applying.{FollowsStep, is_fault}
 use Rattle.strat_store.specs.Cursoring.{IsAppliedAt, LeavesCursors, cursors_after}
 use Rattle.strat_memory.specs.RecoveredFields.{held_of}
@@ -45,12 +47,29 @@ returns-in-None-clause-trail g c = λ x w.
 
 pub returns-in-Some-clause-cause : goal.returns-in-Some-clause-cause
 returns-in-Some-clause-cause g c = (
-  c.change.ensures.cause,
+  c.change.ensures.cause.0,
   tells_of_change (g.D.Disk.view c.args.disk.now) (held_of c.args.held.now c.args.cache.now) _ _ c.change.result c.in-Some.ensures (λ b bad. (c.change.ensures.damaged b bad).1) (λ short. (c.change.ensures.none.1 short).0),
+  c.change.ensures.cause.1,
 )
 
+pub returns-in-None-clause-cause : goal.returns-in-None-clause-cause
+returns-in-None-clause-cause g c = (c.query.ensures.cause.0, c.query.ensures.cause.1, c.query.ensures.same.0.disk.time)
+
+pub returns-in-Some-clause-budget : goal.returns-in-Some-clause-budget
+returns-in-Some-clause-budget g c = λ done full f x exposed stands.
+    c.change.ensures.budget (and_parts (is_change (request_of c.args.command.now)) (accepts c.change.result) done).1 full f x c.args.cache.now exposed stands
+
+pub returns-in-None-clause-budget : goal.returns-in-None-clause-budget
+returns-in-None-clause-budget g c = λ done full f x exposed stands.
+    absurd (true≢false (sym (and_parts (is_change (request_of c.args.command.now)) (accepts c.query.result) done).0 ∙ look_no_change (request_of c.args.command.now) c.in-None.ensures))
+
 pub returns-in-Some-clause-damaged : goal.returns-in-Some-clause-damaged
-returns-in-Some-clause-damaged g c = λ b bad. (c.change.ensures.damaged b bad).0
+returns-in-Some-clause-damaged g c = λ b bad.
+    let named = (c.change.ensures.damaged b bad).0 in
+    (named.0, named.1 c.args.cache.now)
+
+pub returns-in-None-clause-damaged : goal.returns-in-None-clause-damaged
+returns-in-None-clause-damaged g c = λ b bad. let named = c.query.ensures.damaged b bad in (named.listed, λ on. named)
 
 pub returns-in-Some-clause-same : goal.returns-in-Some-clause-same
 returns-in-Some-clause-same g c =

@@ -7,7 +7,7 @@ use Rattle.strat_store_pins.proofs.untouched.a_change_short_of_memory_leaves_wha
 pub returns-clause-same : goal.returns-clause-same
 returns-clause-same g c = λ d e old new v key value is.
     let same = (is.short (change.Put v key value) refl refl).1 in
-    (ap (λ (s : Held). s.slot) same, ap (λ (s : Held). s.sb) same, ap (λ (s : Held). s.chained) same, ap (λ (s : Held). s.log) same, ap (λ (s : Held). s.levels) same, ap (λ (s : Held). s.cached) same)
+    (ap (λ (s : Held). s.slot) same, ap (λ (s : Held). s.sb) same, ap (λ (s : Held). s.chained) same, ap (λ (s : Held). s.log) same, ap (λ (s : Held). s.levels) same, ap (λ (s : Held). s.cached) same, ap (λ (s : Held). s.promoting) same)
 
 pub returns-clause-kept : goal.returns-clause-kept
 returns-clause-kept g c = λ d e old new v key value is. elim (is.short (change.Put v key value) refl refl).0 [

@@ -3,7 +3,9 @@ use Rattle.strat_model.specs.Answer.{as_told}
 use Rattle.strat_model.specs.Command.{request_of}
 use Rattle.strat_store.specs.Cursoring.{IsAppliedAt}
 use Rattle.strat_memory.specs.RecoveredFields.{held_of}
+use Rattle.strat_store.proofs.GoingLemmas.{spent_slices, stands_going}
 use Rattle.strat_store.proofs.ApplyLemmas.{old_after, spent_at, spent_consistent, spent_reads, spent_tells}
+use Rattle.strat_store.proofs.LeavingLemmas.{on_spent}
 use Rattle.strat_memory.proofs.PayingLemmas.{stored_since}
 use Rattle.strat_store.proofs.StagingLemmas.{as_ever, ever_joined, fits_none, replies_none}
 use Rattle.strat_store.proofs.store.Store.apply.Goals as goal
@@ -40,7 +42,12 @@ returns-clause-kept g c =
     )
 
 pub returns-clause-damaged : goal.returns-clause-damaged
-returns-clause-damaged g c = rw (← c.self.view_is) c.answer-told.ensures.damaged
+returns-clause-damaged g c =
+    let s = held_of c.self.inside.held c.self.inside.cache in
+    let v = g.D.Disk.view c.args.disk.now in
+    rw (← c.self.view_is) (λ b bad.
+    let named = c.answer-told.ensures.damaged b bad in
+    (named.0, λ on. named.1 (on_spent v (record s { spent = c.self.inside.spent }) s.spent on)))
 
 pub returns-clause-ok : goal.returns-clause-ok
 returns-clause-ok g c =
@@ -64,7 +71,7 @@ returns-clause-found g c =
 pub returns-clause-trail : goal.returns-clause-trail
 returns-clause-trail g c =
     rw (← c.self.view_is) (λ x stands.
-    let trail = c.answer-told.ensures.trail x (record { stands = stands.stands; held = stands.held; cached = stands.cached; filtered = stands.filtered }) in
+    let trail = c.answer-told.ensures.trail x (stands_going (g.D.Disk.view c.args.disk.now) c.self.inside.held c.self.inside.cache c.self.inside.spent x stands) in
     (trail, stored_since (g.D.Disk.view c.answer-told.new.disk) (g.D.Disk.view c.args.disk.now).moment _ _ trail))
 
 pub returns-clause-reads : goal.returns-clause-reads
@@ -72,3 +79,9 @@ returns-clause-reads g c =
     let before = g.D.Disk.reads c.args.disk.now in
     let now = g.D.Disk.reads c.answer-told.new.disk in
     rw (← c.self.view_is) (spent_reads (held_of c.self.inside.held c.self.inside.cache) c.self.inside.spent (request_of c.args.command.now) before now c.answer-told.ensures.same.3)
+
+pub returns-clause-budget : goal.returns-clause-budget
+returns-clause-budget g c =
+    rw (← c.self.view_is) (λ done full f x exposed stands.
+    spent_slices f (held_of c.self.inside.held c.self.inside.cache) x c.self.inside.spent _
+    (c.answer-told.ensures.budget done full f x exposed (stands_going (g.D.Disk.view c.args.disk.now) c.self.inside.held c.self.inside.cache c.self.inside.spent x stands)))

@@ -6,6 +6,7 @@ use Rattle.strat_memory.specs.declared.open_store.OpenStore.{OpenStore}
 use Rattle.strat_model.specs.declared.replies.Refusal.TheVariants as why
 use Rattle.strat_model.specs.declared.replies.Reply.TheVariants as reply
 use Rattle.strat_publish.specs.Settling.{LeavesPublished}
+use Rattle.strat_store.proofs.GoingLemmas.{stands_going}
 use Rattle.strat_store.proofs.ApplyLemmas.{spent_at}
 use Rattle.strat_store.proofs.LoggingLemmas.{batch_stored}
 use Rattle.strat_store.proofs.StagingLemmas.{ever_joined, fits_none, joins_whole, replies_none}
@@ -24,7 +25,7 @@ append_staged-requires-clause-room g c =
 pub returns-in_default-clause-trail : goal.returns-in_default-clause-trail
 returns-in_default-clause-trail g c =
     rw (← c.self.view_is) (λ x stands.
-    let trail = c.in_default.ensures.trail x c.self.inside.cache (record { stands = stands.stands; held = stands.held; cached = stands.cached; filtered = stands.filtered }) in
+    let trail = c.in_default.ensures.trail x c.self.inside.cache (stands_going (g.D.Disk.view c.args.disk.now) c.self.inside.held c.self.inside.cache c.self.inside.spent x stands) in
     (trail, batch_stored (g.D.Disk.view c.append_staged.new.disk) (g.D.Disk.view c.args.disk.now).moment _ _ trail))
 
 pub returns-in_default-clause-same : goal.returns-in_default-clause-same
@@ -63,7 +64,7 @@ returns-clause-state g c =
 pub returns-clause-trail : goal.returns-clause-trail
 returns-clause-trail g c =
     rw (← c.self.view_is) (λ x stands.
-    let trail = c.in-Ok.ensures.trail x c.self.inside.cache (record { stands = stands.stands; held = stands.held; cached = stands.cached; filtered = stands.filtered }) in
+    let trail = c.in-Ok.ensures.trail x c.self.inside.cache (stands_going (g.D.Disk.view c.args.disk.now) c.self.inside.held c.self.inside.cache c.self.inside.spent x stands) in
     (trail, batch_stored (g.D.Disk.view c.append_staged.new.disk) (g.D.Disk.view c.args.disk.now).moment _ _ trail))
 
 pub returns-clause-same : goal.returns-clause-same
