@@ -33,10 +33,7 @@ pub(crate) fn leads_to(zero: &Zero, levels: &Levels, target: usize) -> u64
     ensures ok { result ≡ leads_down_to (leads_listed zero.now.list levels.now) target }
 {
     let mut total = zero.items().len() as u64;
-    for number in 1..=LEVELS {
-        if number > target {
-            return total;
-        }
+    for number in 1..=target.min(LEVELS) {
         total += levels.leads(number) as u64;
     }
     total

@@ -124,10 +124,9 @@ impl Promotion {
         disk: &mut D,
         budget: u64,
     ) -> Result<Progress, Obstacle>
-        requires kept { IsOpen self.old }
+        requires kept { IsOpen self.old × AreAllUsed space.old (writers_of self.old) }
         requires fits { IsFed self.old
             (inputs_given zero.now.list pool.now levels.now tree.now.parents) × (1 ≤ budget) }
-        requires found { AreAllUsed space.old (writers_of self.old) }
         ensures kept { IfOk result (λ p. MatchProgress p (IsOpen self.new
             × (entries_taken self.old + budget ≤ entries_taken self.new))
             ((has_ended self.new ≡ true)

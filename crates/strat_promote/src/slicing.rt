@@ -82,9 +82,9 @@ pub(crate) fn take_steps<D: Disk>(
     disk: &mut D,
     budget: u64,
 ) -> Result<Step, Obstacle>
-    requires kept { IsSteady task.now.horizon stage.old }
+    requires kept { IsSteady task.now.horizon stage.old
+        × AreAllUsed space.old (stage_writers stage.old) }
     requires fits { IsReadySource task.now (inputs_of sources.now) × (1 ≤ budget) }
-    requires found { AreAllUsed space.old (stage_writers stage.old) }
     ensures kept { IfOk result (λ step. MatchStep step (IsSteady task.now.horizon stage.new
         × (stage_consumed stage.old + budget ≤ stage_consumed stage.new))
         (λ level. OwnsItsBlocks (stage_writers stage.new) level)) }

@@ -5,7 +5,6 @@ use Rattle.strat_promote.proofs.edges.leads_to.Given as goal
 
 abbrev pub invariant-loop-number : goal.invariant-loop-number
 invariant-loop-number l = record {
-  near : l.number ≤ l.target + 1;
   counted : l.total ≡ leads_down_to (leads_listed l.zero.list l.levels) (l.number - 1);
   few : l.total ≤ 2 ^ 24 + l.number * 4294967296;
 }

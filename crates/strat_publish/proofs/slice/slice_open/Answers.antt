@@ -18,13 +18,10 @@ use Rattle.strat_publish.proofs.SlicingLemmas.{asked, blamed, done_budget, done_
 use Rattle.strat_publish.proofs.slice.slice_open.Goals as goal
 
 pub slice-requires-clause-kept : goal.slice-requires-clause-kept
-slice-requires-clause-kept g c = (asked (held_of c.args.held.now (empty_cache 0)) (c.requires.kept.0 (empty_cache 0)).0 (open_of c.args.promoting.now) (c.requires.kept.0 (empty_cache 0)).1 c.sealed_parts.result.0.now.list c.sealed_parts.result.1.now c.sealed_parts.result.2.now.parents c.sealed_parts.ensures.ok c.sealed_parts.ensures.found.0 c.sealed_parts.ensures.kept).0
+slice-requires-clause-kept g c = let all = asked (held_of c.args.held.now (empty_cache 0)) (c.requires.kept.0 (empty_cache 0)).0 (open_of c.args.promoting.now) (c.requires.kept.0 (empty_cache 0)).1 c.sealed_parts.result.0.now.list c.sealed_parts.result.1.now c.sealed_parts.result.2.now.parents c.sealed_parts.ensures.ok c.sealed_parts.ensures.found.0 c.sealed_parts.ensures.kept in (all.0, all.3)
 
 pub slice-requires-clause-fits : goal.slice-requires-clause-fits
 slice-requires-clause-fits g c = let all = asked (held_of c.args.held.now (empty_cache 0)) (c.requires.kept.0 (empty_cache 0)).0 (open_of c.args.promoting.now) (c.requires.kept.0 (empty_cache 0)).1 c.sealed_parts.result.0.now.list c.sealed_parts.result.1.now c.sealed_parts.result.2.now.parents c.sealed_parts.ensures.ok c.sealed_parts.ensures.found.0 c.sealed_parts.ensures.kept in (all.1, all.2)
-
-pub slice-requires-clause-found : goal.slice-requires-clause-found
-slice-requires-clause-found g c = (asked (held_of c.args.held.now (empty_cache 0)) (c.requires.kept.0 (empty_cache 0)).0 (open_of c.args.promoting.now) (c.requires.kept.0 (empty_cache 0)).1 c.sealed_parts.result.0.now.list c.sealed_parts.result.1.now c.sealed_parts.result.2.now.parents c.sealed_parts.ensures.ok c.sealed_parts.ensures.found.0 c.sealed_parts.ensures.kept).3
 
 pub returns-clause-kept : goal.returns-clause-kept
 returns-clause-kept g c =
