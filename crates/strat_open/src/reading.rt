@@ -137,7 +137,10 @@ pub fn read_store<D: Disk>(alloc: Global, disk: &mut D) -> Result<Reading, Attac
     ensures cause { HasCause fault.Device (D.faults disk.old) (D.faults disk.new) result }
     ensures reads { ReadsAtMost 1052183 (D.reads disk.old) (D.reads disk.new)
         × IfOk result (λ r. ReadsAtMost (chain_length r.sb.length + 2 * region_blocks r.sb.mem + 2)
-        (D.reads disk.old) (D.reads disk.new)) }
+        (D.reads disk.old) (D.reads disk.new)
+        × (length r.journal < r.sb.mem
+        → ReadsAtMost (chain_length r.sb.length + region_blocks r.sb.mem + 3)
+        (D.reads disk.old) (D.reads disk.new))) }
 {
     sync_first(disk)?;
     let found = recover_store(alloc, disk)?;

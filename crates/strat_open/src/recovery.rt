@@ -259,8 +259,9 @@ fn read_journal<D: Disk>(
         → recover_journal f (super_of sb.now) (chained_of published.now).manifest ≡ Err block }
     ensures same { OnlyReads (D.view disk.old) (D.view disk.new) }
     ensures cause { HasCause Device (D.faults disk.old) (D.faults disk.new) result }
-    ensures reads { ReadsAtMost (2 * region_blocks sb.now.mem)
-        (D.reads disk.old) (D.reads disk.new) }
+    ensures reads { ReadsAtMost (2 * region_blocks sb.now.mem) (D.reads disk.old) (D.reads disk.new)
+        × IfOk result (λ r. length r.0.list < sb.now.mem
+        → ReadsAtMost (region_blocks sb.now.mem + 1) (D.reads disk.old) (D.reads disk.new)) }
 {
     let (journal, logged) = Journal::read(alloc, disk, sb)?;
     let memory = recover_memory(alloc, sb, published, &logged)?;
@@ -287,7 +288,10 @@ fn recover_at<D: Disk>(
     ensures same { OnlyReads (D.view disk.old) (D.view disk.new) }
     ensures cause { HasCause Device (D.faults disk.old) (D.faults disk.new) result }
     ensures reads { ReadsAtMost (chain_length sb.length - 1 + 1 + 2 * region_blocks sb.mem)
-        (D.reads disk.old) (D.reads disk.new) }
+        (D.reads disk.old) (D.reads disk.new)
+        × IfOk result (λ r. length r.journal.list < sb.mem
+        → ReadsAtMost (chain_length sb.length - 1 + 1 + region_blocks sb.mem + 1)
+        (D.reads disk.old) (D.reads disk.new)) }
 {
     let published = read_published(alloc, disk, &sb)?;
     let (journal, memory) = read_journal(alloc, disk, &sb, &published)?;
@@ -322,7 +326,10 @@ pub(crate) fn recover_store<D: Disk>(alloc: Global, disk: &mut D) -> Result<Open
     ensures cause { HasCause fault.Device (D.faults disk.old) (D.faults disk.new) result }
     ensures reads { ReadsAtMost 1052183 (D.reads disk.old) (D.reads disk.new)
         × IfOk result (λ r. ReadsAtMost (chain_length r.sb.length + 2 * region_blocks r.sb.mem + 2)
-        (D.reads disk.old) (D.reads disk.new)) }
+        (D.reads disk.old) (D.reads disk.new)
+        × (length r.journal.list < r.sb.mem
+        → ReadsAtMost (chain_length r.sb.length + region_blocks r.sb.mem + 3)
+        (D.reads disk.old) (D.reads disk.new))) }
 {
     let Some((slot, sb)) = newest(disk)? else {
         return Err(AttachFault::NotAStore);
@@ -389,7 +396,10 @@ pub fn open<D: Disk>(alloc: Global, disk: &mut D) -> Result<OpenStore, AttachFau
     ensures cause { HasCause fault.Device (D.faults disk.old) (D.faults disk.new) result }
     ensures reads { ReadsAtMost 1052184 (D.reads disk.old) (D.reads disk.new)
         × IfOk result (λ r. ReadsAtMost (chain_length r.sb.length + 2 * region_blocks r.sb.mem + 3)
-        (D.reads disk.old) (D.reads disk.new)) }
+        (D.reads disk.old) (D.reads disk.new)
+        × (length r.journal.list < r.sb.mem
+        → ReadsAtMost (chain_length r.sb.length + region_blocks r.sb.mem + 4)
+        (D.reads disk.old) (D.reads disk.new))) }
 {
     sync_first(disk)?;
     let recovered = recover_store(alloc, disk)?;

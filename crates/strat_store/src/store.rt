@@ -574,7 +574,10 @@ impl Store {
         ensures reads { ReadsAtMost 1052184 (D.reads disk.old) (D.reads disk.new)
             × IfOk result (λ s. ReadsAtMost
             (chain_length s.sb.length + 2 * region_blocks s.sb.mem + 3)
-            (D.reads disk.old) (D.reads disk.new)) }
+            (D.reads disk.old) (D.reads disk.new)
+            × (length s.log.list < s.sb.mem
+            → ReadsAtMost (chain_length s.sb.length + region_blocks s.sb.mem + 4)
+            (D.reads disk.old) (D.reads disk.new))) }
     {
         let (cache, scratch, buffers) = take_read_buffers(alloc)?;
         match open(alloc, disk) {
