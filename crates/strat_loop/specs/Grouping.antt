@@ -1,5 +1,5 @@
 -- Changes that a serving run stages one after the other, to make them durable together.
-use Rattle.std.specs.Prelude.{◌≡◌, ◌⊎◌, ℕ, true, List, [], ◌∷◌, ◌++◌, length, Some, slice_get}
+use Rattle.std.specs.Prelude.{◌≡◌, ◌⊎◌, ℕ, true, List, [], ◌∷◌, ◌++◌, length, Some, None, slice_get}
 use Rattle.std.specs.List.{flat_map, AllByRecursion}
 use Rattle.strat_base.specs.Change.{Change}
 use Rattle.strat_frame.specs.Deframing.{Deframing}
@@ -14,11 +14,18 @@ use Rattle.strat_memory.specs.Memory.{KeepsRows, memory_after}
 use Rattle.strat_store.specs.Applying.{change_wanted}
 use Rattle.strat_store.specs.Staging.{IsStaged, may_stage, replies_staged, with_staged}
 use Rattle.strat_loop.specs.Progress.{waiting, Meets}
-use Rattle.strat_loop.specs.Speech.{Said, Speech, IsAskedFor, said_bytes}
+use Rattle.strat_loop.specs.Speech.{Said, Speech, IsAskedFor, IsDeclined, said_bytes}
 
 -- a reply tells that a change was made
 abbrev pub TellsMade : Reply → Type 0
 TellsMade told = (told ≡ reply.Done) ⊎ ((version : ℕ) × (told ≡ reply.Made version))
+
+-- a body asks a store for no change: for nothing, or for something else
+abbrev pub AsksNoChange : Speech → ℕ → List ℕ → Type 0
+AsksNoChange speech changes body =
+    ((said : Said) × IsDeclined speech changes body said)
+    ⊎ ((tag : ℕ) × (request : Request) × speech.Asks changes body tag request
+    × (change_wanted request ≡ None))
 
 -- a body asks for a change that a store staged, and what is said tells what is kept for it
 pub record StagesBody (speech : Speech) (old : Held) (body : List ℕ) (said : Said) (new : Held)

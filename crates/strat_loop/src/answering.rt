@@ -1,6 +1,6 @@
 //! The answer to one frame alone, and to one that is too long.
 
-ghost use Rattle.std.specs.Prelude.{◌≡◌, ◌≤◌, ◌+◌, ◌++◌, ℕ, IfOk, OnOk, OnErr, [], length, Contains, Some, None, is_some, false};
+ghost use Rattle.std.specs.Prelude.{◌≡◌, ◌≤◌, ◌+◌, ◌++◌, ◌⊎◌, ℕ, IfOk, OnOk, OnErr, [], length, Contains, Some, None, is_some, false};
 ghost use Rattle.strat_base.specs.Numbers.{AreBytes};
 ghost use Rattle.def_crash.specs.Blocks.{AgreeOn};
 ghost use Rattle.def_crash.specs.Faults.{CountsFaults};
@@ -8,6 +8,7 @@ ghost use Rattle.strat_base.specs.declared.failures.Fault.TheVariants as fault;
 ghost use Rattle.def_crash.specs.Image.{Image};
 ghost use Rattle.def_crash.specs.Moments.{Exposes, Passes};
 ghost use Rattle.strat_promote.specs.Job.{blocks_listed};
+ghost use Rattle.strat_loop.specs.Grouping.{AsksNoChange};
 ghost use Rattle.strat_loop.specs.Pending.{SendsAtEnd, SendsOrKeeps, none_pending};
 ghost use Rattle.strat_loop.specs.Progress.{TurnGoesOn, ServesPending, TurnHasCause, TurnsTo, waiting};
 ghost use Rattle.strat_loop.specs.Session.{FailsAsMet, SendsPrefix};
@@ -98,24 +99,45 @@ pub fn answer_frame<P: Protocol, D: Disk>(
     reply.fault()
 }
 
-/// Makes room for one reply more. Where the journal is full it sends all that are pending, since the next change empties the
-/// journal: what was sent for a change that was made leaves the run before the change leaves the journal.
-fn make_way<K: Sink>(
+/// Whether a body asks for a change that may empty a region of the journal.
+fn may_empty<P: Protocol>(
+    protocol: &P,
     store: &Store,
+    body: &[u8],
+    pairs: &mut PairBuf,
+    out: &mut OutBuf,
+) -> bool
+    ensures none { result ≡ false → store.now.sb.mem ≤ length store.now.log.list
+        → AsksNoChange P.speech store.now.memory.changes body.now }
+{
+    match protocol.ask(store.changes(), body, pairs, out) {
+        Some((_tag, command)) => store.may_empty(&command),
+        None => false,
+    }
+}
+
+/// Makes room for one reply more. Before a change that may empty a region of the journal it sends all that are pending: what
+/// was sent for a change that was made leaves the run before the change leaves the journal.
+fn make_way<P: Protocol, K: Sink>(
+    protocol: &P,
+    store: &Store,
+    body: &[u8],
+    pairs: &mut PairBuf,
+    out: &mut OutBuf,
     sink: &mut K,
     pending: &mut PendingReplies,
 ) -> Result<(), Failed>
     ensures ok { OnOk result
         (SendsOrKeeps (K.held sink.old) (K.held sink.new) pending.old pending.new) }
-    ensures state { store.now.sb.mem ≤ length store.now.log.list
-        → OnOk result (pending.new ≡ none_pending) }
+    ensures state { store.now.sb.mem ≤ length store.now.log.list → OnOk result
+        ((pending.new ≡ none_pending) ⊎ AsksNoChange P.speech store.now.memory.changes body.now) }
     ensures len { OnOk result (pending.new.count + 1 ≤ 16) }
     ensures room { OnOk result (length pending.new.bytes ≤ 65536) }
     ensures err { OnErr result
         (SendsPrefix (K.held sink.old) (K.held sink.new) pending.old.bytes) }
     ensures cause { CountsFaults (K.faults sink.old) (K.faults sink.new) result }
 {
-    if store.is_journal_full() {
+    if may_empty(protocol, store, body, pairs, out) {
         return send_pending(sink, pending);
     }
     make_room(sink, pending, 1)
@@ -151,7 +173,15 @@ pub(crate) fn serve_alone<P: Protocol, K: Sink, D: Disk>(
         (world y.left y.source_faults (K.held sink.new) (K.faults sink.new)
         (D.view disk.new) (D.faults disk.new)) }
 {
-    let Ok(()) = make_way(store, sink, &mut buffers.pending) else {
+    let Ok(()) = make_way(
+        protocol,
+        store,
+        buffers.frames.body(),
+        &mut buffers.pairs,
+        &mut buffers.out,
+        sink,
+        &mut buffers.pending,
+    ) else {
         return Err(Ended::Sink);
     };
     let met = answer_frame(

@@ -290,11 +290,13 @@ impl Store {
         self.held.journal.counts()
     }
 
-    /// Whether these are as many as a region takes or more, so that the next change does a slice of a promotion first. O(1).
-    pub fn is_journal_full(&self) -> bool
-        ensures ok { IsTrue result ↔ (self.now.sb.mem ≤ length self.now.log.list) }
+    /// Whether a command may empty a region of its journal: a change, where they are as many as a region takes or more, so
+    /// that it does a slice of a promotion first. O(1).
+    pub fn may_empty(&self, command: &Command<'_>) -> bool
+        ensures none { result ≡ false → self.now.sb.mem ≤ length self.now.log.list
+            → change_wanted (request_of command.now) ≡ None }
     {
-        self.held.journal.count() >= self.held.sb.mem
+        self.held.journal.count() >= self.held.sb.mem && change_asked(command).is_some()
     }
 
     /// The records of these changes in their order, as they stand on the disk, region by region. O(1).
