@@ -172,11 +172,19 @@ module _ (f : Image) (r : OpenStore) (is : IsRecoveredFrom f r) (t : Table) (sho
       paid = paid_later;
     }
 
+-- no gate is shut behind a full region
+calm_behind : (stale : Bool) (f : Image) (mem region n : ℕ) → (IsTrue stale ↔ IsStale f mem region n) → mem ≤ n → stale ≡ false
+calm_behind true f mem region n is full = absurd (let few = (is.0 refl).0 in omega (arith, few, full))
+calm_behind false f mem region n is full = refl
+
 -- a disk was synced, a store was recovered from it, and the other region was shut
 module _ (before synced read now : DiskView) (r : OpenStore) (syncs : OnlyReads before synced) (settled : IsDurable synced) (leaves : LeavesContent synced) (looks : OnlyReads synced read) (passes : Passes read now)
     (found : (f : Image) → Exposes before f → IsRecoveredFrom f r)
     (images : (f : Image) (x : Contents) → Exposes read f → IsDurable read → x.sb ≡ super_of r.sb → ReadsAsSound f r.journal.stale x → (c : Image) → Since now read.moment c → ReadsAs c x)
     (torn : TearsOnly read now (region_at r.sb.mem (other_region r.sb.region)) 1) where
+  looked : (f : Image) → Exposes before f → (c : Image) → Images read c → c ≡ f
+  looked f exposed = settled_at read f (looks.same ∙ syncs.same ∙ exposed) (reads_keep_durable synced read looks settled)
+
   at_gate : (f : Image) → Exposes before f → (c : Image) → Since now before.moment c → Images before c ⊎ Outside (region_at r.sb.mem (other_region r.sb.region)) 1 f c
   at_gate f exposed =
       let all : OnlyReads before read = reads_trans syncs looks in
@@ -215,8 +223,9 @@ module _ (before synced read now : DiskView) (r : OpenStore) (syncs : OnlyReads 
   pub opened_as : ((f : Image) (x : Contents) → Exposes read f → IsDurable read → x.sb ≡ super_of r.sb → ReadsAsSound f r.journal.stale x → ContentsStand now x)
       → ((f : Image) → Exposes read f → IsDurable read → length r.journal.list < r.sb.mem → (IsTrue r.journal.stale ↔ IsStale f r.sb.mem r.sb.region (length r.journal.list))
       → (c : Image) → Images now c → c (region_at r.sb.mem (other_region r.sb.region)) ≢ 0xa7)
+      → (r.journal.stale ≡ false → now ≡ read)
       → r.memory.cursors ≡ no_cursors → r.filters ≡ replicate 22 no_filters → r.promoting ≡ None → ((cached : Blocks) → IsConsistent (held_of r cached)) → (cap : ℕ) → IsOpenedAs before now (held_of r (empty_cache cap))
-  opened_as stands shuts none unfiltered unbegun whole cap = record {
+  opened_as stands shuts calm none unfiltered unbegun whole cap = record {
     going = refl;
     closed = none;
     unfiltered = unfiltered;
@@ -230,6 +239,9 @@ module _ (before synced read now : DiskView) (r : OpenStore) (syncs : OnlyReads 
         gate_on read now (held_of r (empty_cache cap)) f kept.belonging kept.lawful.region_most (looks.same ∙ syncs.same ∙ exposed) (reads_keep_durable synced read looks settled) is.newest is.chain torn passes (ap (option_map open_of) unbegun);
     alone = left_alone;
     shut = λ f exposed few. shuts f (looks.same ∙ syncs.same ∙ exposed) (reads_keep_durable synced read looks settled) few (found f exposed).stale;
+    whole = λ f exposed full c left.
+        let same : now ≡ read = calm (calm_behind r.journal.stale f r.sb.mem r.sb.region (length r.journal.list) (found f exposed).stale full) in
+        looked f exposed c (subst (λ (v : DiskView). Images v c) same left);
     stands = λ f t exposed shows.
         let is = found f exposed in (
           opened_contents f r is t shows,

@@ -66,6 +66,9 @@ pub record IsOpenedAs (before now : DiskView) (s : Held) : Type 0 where
       → Outside (region_at s.sb.mem (other_region s.sb.region)) 1 f c
   pub shut : (f : Image) → Exposes before f → length s.log.list < s.sb.mem → (c : Image)
       → Images now c → c (region_at s.sb.mem (other_region s.sb.region)) ≢ open_flag
+  -- behind a full region none is shut
+  pub whole : (f : Image) → Exposes before f → s.sb.mem ≤ length s.log.list → (c : Image)
+      → Images now c → c ≡ f
   pub stands : (f : Image) (t : Table) → Exposes before f → ShowsTable f t
       → (x : Contents) × StandsWith now s x × (table_of (contents_state x) ≡ t)
   pub follows : (f : Image) (t : Table) → Exposes before f → ShowsTable f t

@@ -53,7 +53,7 @@ pub returns-clause-ok : goal.returns-clause-ok
 returns-clause-ok g c = λ cap.
     opened_as _ (g.D.Disk.view c.sync_first.new.disk) (g.D.Disk.view c.recover_store.new.disk) _ c.in_ok-recovered.recovered
     (synced g (goal.at.returns-clause-ok g c).After-recover_store) c.in_ok-sync_first.ensures.ok (g.met.D.Disk.leaves_content c.sync_first.new.disk) c.recover_store.ensures.same c.shut_other.ensures.time
-    (λ f exposed. c.in_ok-recovered.ensures.found f (c.sync_first.ensures.same ∙ exposed)) c.shut_other.ensures.trail c.shut_other.ensures.images c.in_ok-shut_other.ensures.kept c.in_ok-shut_other.ensures.durable c.in_ok-recovered.ensures.cursors c.in_ok-recovered.ensures.filters c.in_ok-recovered.ensures.ok c.in_ok-recovered.ensures.kept cap
+    (λ f exposed. c.in_ok-recovered.ensures.found f (c.sync_first.ensures.same ∙ exposed)) c.shut_other.ensures.trail c.shut_other.ensures.images c.in_ok-shut_other.ensures.kept c.in_ok-shut_other.ensures.durable (λ calm. ap g.D.Disk.view (c.shut_other.ensures.same calm)) c.in_ok-recovered.ensures.cursors c.in_ok-recovered.ensures.filters c.in_ok-recovered.ensures.ok c.in_ok-recovered.ensures.kept cap
 
 pub returns-in_err-sync_first-clause-trail : goal.returns-in_err-sync_first-clause-trail
 returns-in_err-sync_first-clause-trail g c = λ f exposed each. kept_whole _ _ each c.sync_first.ensures.images
