@@ -27,7 +27,7 @@ leads_more f z (suc k) leads some is =
     ap (λ xs. xs ++ f (suc k) ∷ []) (is ∙ ap (λ m. z ∷ map f (range_with_len 1 m)) down) ∙ ap (λ xs. z ∷ xs) (sym last) ∙ ap (λ m. z ∷ map f (range_with_len 1 m)) (sym same)
 
 -- down to a level there are its own leads more than down to the one above it
-down_first : (x : ℕ) (rest : List ℕ) → x ≡ leads_down_to (x ∷ rest) 0
+pub down_first : (x : ℕ) (rest : List ℕ) → x ≡ leads_down_to (x ∷ rest) 0
 down_first x rest = omega arith
 
 at_number : (F : ℕ → ℕ) (x k : ℕ) → 1 ≤ k → k < 23 → get_or (x ∷ map F (range_with_len 1 22)) k 0 ≡ F k
