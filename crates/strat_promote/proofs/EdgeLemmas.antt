@@ -1,9 +1,10 @@
 -- How a promotion begins, and what is given back at its end.
-use Rattle.std.proofs.Common.{◌≡◌, ℕ, zero, suc, ◌+◌, ◌-◌, ◌<◌, ◌≤◌, true, false, not, is_some, List, [], ◌∷◌, ◌++◌, append-nil, get_or, take, drop, length, map, Option, None, Some, refl, sym, ap, ◌∙◌, subst, arith}
+use Rattle.std.proofs.Common.{◌≡◌, ℕ, zero, suc, ◌+◌, ◌-◌, ◌<◌, ◌≤◌, ◌⊎◌, inl, inr, min, true, false, not, is_some, List, [], ◌∷◌, ◌++◌, append-nil, get_or, take, drop, length, map, Option, None, Some, refl, sym, ap, ◌∙◌, subst, arith}
 use Rattle.std.specs.List.{list_all, range_with_len, sum}
 use Rattle.std.proofs.lemmas.Grind.{flat_map-append}
 use Rattle.std.proofs.lemmas.List.{length-drop, take-append-drop, take_more, take_all, get_or-drop}
-use Rattle.std.proofs.lemmas.List.Sums.{sum_by_more}
+use Rattle.std.proofs.Math.Nat.{eq-or-lt_of_le}
+use Rattle.std.proofs.lemmas.List.Sums.{sum_by_more, sum_by-cons}
 use Rattle.std.proofs.lemmas.List.Folds.{list_all_at}
 use Rattle.std.proofs.lemmas.List.FromFn.{map-range_with_len_more, get_or-map-range_with_len, length-map-range_with_len}
 use Rattle.strat_array.specs.Progress.{ArrayProgress}
@@ -30,6 +31,10 @@ leads_more f z (suc k) leads some is =
 pub down_first : (x : ℕ) (rest : List ℕ) → x ≡ leads_down_to (x ∷ rest) 0
 down_first x rest = omega arith
 
+-- and level 0 has no more of them than all have
+pub first_few : (x n : ℕ) (rest : List ℕ) → sum (x ∷ rest) ≤ n → x ≤ n
+first_few x n rest le = omega (arith, le, sum_by-cons (λ (m : ℕ). m) x rest)
+
 at_number : (F : ℕ → ℕ) (x k : ℕ) → 1 ≤ k → k < 23 → get_or (x ∷ map F (range_with_len 1 22)) k 0 ≡ F k
 at_number F x zero some few = absurd (omega (arith, some))
 at_number F x (suc i) some few = get_or-map-range_with_len F 1 22 i (suc i) 0 (omega (arith, few)) (omega arith)
@@ -52,7 +57,19 @@ pub down_past : (F : ℕ → ℕ) (x j total : ℕ) → 22 ≤ j → total ≡ l
 down_past F x j total le is =
     let L : List ℕ = x ∷ map F (range_with_len 1 22) in
     let long : length L ≡ 23 = ap suc (length-map-range_with_len F 1 22) in
-    is ∙ ap sum (take_all L 23 (omega (arith, long)) ∙ sym (take_all L (j + 1) (omega (arith, long, le))))
+    is ∙ ap sum (take_all 23 L (omega (arith, long)) ∙ sym (take_all (j + 1) L (omega (arith, long, le))))
+
+down_either : (F : ℕ → ℕ) (x j target total : ℕ) → j ≡ min target 22 → (j ≡ target) ⊎ (j < target) → total ≡ leads_down_to (x ∷ map F (range_with_len 1 22)) j
+    → total ≡ leads_down_to (x ∷ map F (range_with_len 1 22)) target
+down_either F x j target total least (inl same) is = is ∙ ap (λ (n : ℕ). leads_down_to (x ∷ map F (range_with_len 1 22)) n) same
+down_either F x j target total least (inr lt) is =
+    let last : ◌≡◌ {A = ℕ} j 22 = omega (arith, least, lt) in
+    down_past F x target total (omega (arith, least, lt)) (is ∙ ap (λ (n : ℕ). leads_down_to (x ∷ map F (range_with_len 1 22)) n) last)
+
+-- so down to the last level that there is, or to one above it
+pub down_least : (F : ℕ → ℕ) (x j target total : ℕ) → j ≡ min target 22 → total ≡ leads_down_to (x ∷ map F (range_with_len 1 22)) j
+    → total ≡ leads_down_to (x ∷ map F (range_with_len 1 22)) target
+down_least F x j target total least is = down_either F x j target total least (eq-or-lt_of_le (omega (arith, least))) is
 
 all_none : (levels : List (Option LevelDesc)) → ((i : ℕ) → i < length levels → get_or levels i None ≡ None) → list_all (λ level. not (is_some level)) levels ≡ true
 all_none [] none = refl
