@@ -142,6 +142,14 @@ sliced_open old new f g x sealed levels others o q space told tells p slice =
       },
     )
 
+-- it keeps to the budget of the promotion
+pub sliced_in_budget : (old new : DiskView) (f g : Image) (job : Job) (o : OpenPromotion) (q : Promotion) (space : SpaceView) (most : ℕ)
+    → Exposes old f → Exposes new g → LeavesEntry old new job o q space → IsMostOfKey f job most → KeepsToBudget (slice_numbers o) most (Some (slice_numbers (sliced_to o q space)))
+sliced_in_budget old new f g job o q space most told tells slice all =
+    let near = (slice.sliced f g told tells).2 in
+    let few = all near.last in
+    (refl, refl, slice.most, omega (arith, near.below, few))
+
 -- a change that is appended behind a full region
 module _ (x : Contents) (batch : List Change) (full : x.sb.mem ≤ length x.journal) where
   pub same_sealed : sealed_state (with_batch x batch) ≡ sealed_state x

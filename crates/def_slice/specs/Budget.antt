@@ -45,8 +45,11 @@ pub record SliceNumbers : Type 0 where
   pub sum : ℕ
   pub taken : ℕ
 
--- what a slice may do where no key has more than `most` entries: it takes its budget at least, so that the promotion
--- stays open with so many taken; or it ends the promotion, and not earlier than its budget allows
-abbrev pub KeepsToBudget : SliceNumbers → ℕ → Option ℕ → Type 0
-KeepsToBudget n most (Some now) = n.taken + n.budget ≤ now
+-- what a slice may do where no key has more than `most` entries: it takes its budget at least, and fewer than that and
+-- the entries of one key, so that the promotion stays open with these numbers; or it ends the promotion, and not
+-- earlier than its budget allows
+abbrev pub KeepsToBudget : SliceNumbers → ℕ → Option SliceNumbers → Type 0
+KeepsToBudget n most (Some now) =
+    (now.budget ≡ n.budget) × (now.sum ≡ n.sum) × (n.taken + n.budget ≤ now.taken)
+    × (now.taken < n.taken + n.budget + most)
 KeepsToBudget n most None = 2 * n.sum < n.taken + n.budget + most

@@ -55,12 +55,20 @@ pub fn a_budget_of_all_ends_a_promotion_at_once()
     ensures last { (sum b taken next : ℕ) → 2 * sum ≤ b → taken + b ≤ next → 2 * sum ≤ next }
 {}
 
-/// Of 100 entries in each pass, with a budget of 50 and none of a key more than 3: the first slice takes at least 50
-/// and ends nothing, and the fourth may end it once 148 were taken.
+/// Of 100 entries in each pass, with a budget of 50 and none of a key more than 3: the first slice takes at least 50 and
+/// at most 52, and ends nothing; the next one has the same budget; and the fourth may end it once 148 were taken.
 pub fn slices_are_neither_whole_nor_idle()
     ensures whole { KeepsToBudget (record { budget = 50; sum = 100; taken = 0 }) 3 None → ⊥ }
-    ensures idle { KeepsToBudget (record { budget = 50; sum = 100; taken = 0 }) 3 (Some 49) → ⊥ }
-    ensures ok { KeepsToBudget (record { budget = 50; sum = 100; taken = 0 }) 3 (Some 50) }
+    ensures idle { KeepsToBudget (record { budget = 50; sum = 100; taken = 0 }) 3
+        (Some (record { budget = 50; sum = 100; taken = 49 })) → ⊥ }
+    ensures some { KeepsToBudget (record { budget = 50; sum = 100; taken = 0 }) 3
+        (Some (record { budget = 50; sum = 100; taken = 50 })) }
+    ensures ok { KeepsToBudget (record { budget = 50; sum = 100; taken = 0 }) 3
+        (Some (record { budget = 50; sum = 100; taken = 52 })) }
+    ensures far { KeepsToBudget (record { budget = 50; sum = 100; taken = 0 }) 3
+        (Some (record { budget = 50; sum = 100; taken = 53 })) → ⊥ }
+    ensures same { KeepsToBudget (record { budget = 50; sum = 100; taken = 0 }) 3
+        (Some (record { budget = 100; sum = 100; taken = 50 })) → ⊥ }
     ensures early { KeepsToBudget (record { budget = 50; sum = 100; taken = 147 }) 3 None → ⊥ }
     ensures last { KeepsToBudget (record { budget = 50; sum = 100; taken = 148 }) 3 None }
 {}

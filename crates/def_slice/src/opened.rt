@@ -186,9 +186,10 @@ pub fn a_slice_leaves_a_promotion_open<D: Viewed>()
         → LeavesEntry (D.view old) (D.view new) (job_open x levels p.going.was) o q space
         → (length x.journal + 1 ≤ 2 * x.sb.mem - 2)
         × IsOpenOver g x (length x.journal + 1) sealed levels others (sliced_to o q space) }
-    ensures budget { (old new : D) (job : Job) (o : OpenPromotion) (q : Promotion)
-        (space : SpaceView) (most : ℕ) → LeavesEntry (D.view old) (D.view new) job o q space
-        → KeepsToBudget (slice_numbers o) most (Some (slice_numbers (sliced_to o q space)).taken) }
+    ensures budget { (old new : D) (f g : Image) (job : Job) (o : OpenPromotion) (q : Promotion)
+        (space : SpaceView) (most : ℕ) → Exposes (D.view old) f → Exposes (D.view new) g
+        → LeavesEntry (D.view old) (D.view new) job o q space → IsMostOfKey f job most
+        → KeepsToBudget (slice_numbers o) most (Some (slice_numbers (sliced_to o q space))) }
 {}
 
 /// The promotion stays open while a change is appended, which writes in front of all blocks that it reads and has

@@ -46,7 +46,7 @@ use Rattle.def_slice.proofs.DoneLemmas.{leaves_entry, slices_last}
 use Rattle.def_slice.proofs.FedLemmas.{reads_its_arrays}
 use Rattle.def_slice.proofs.LastLemmas.{done_in_budget, done_paid}
 use Rattle.def_slice.proofs.MadeLemmas.{last_made}
-use Rattle.def_slice.proofs.OpenedLemmas.{does_its_job, listed_used, sliced_open}
+use Rattle.def_slice.proofs.OpenedLemmas.{does_its_job, listed_used, sliced_in_budget, sliced_open}
 use Rattle.def_slice.specs.Budget.{KeepsToBudget}
 use Rattle.def_slice.specs.Ending.{SlicesLast}
 use Rattle.def_slice.specs.Opened.{AreLent, IsMostOfKey, IsOpenOver, LeavesEntry, OpenPromotion, job_open, slice_numbers, sliced_to}
@@ -284,6 +284,15 @@ module _ (s : Held) (whole : IsConsistent s) (o : OpenPromotion) (going : MayGoO
               room = omega (arith, at.room, takes.count, takes.first);
             },
           )
+
+      pub more_budget : IsOpen q × (entries_taken o.promotion + o.budget ≤ entries_taken q) → Slices progress.More → AreAllUsed t (writers_of q)
+          → (ReadsFrom (arrays_to s.levels (target_of o.promotion)) o.promotion → ReadsFrom (arrays_to s.levels (target_of o.promotion)) q)
+          → (most : ℕ) → IsMostOfKey f (job_of_state (sealed_state x) s.levels (target_of o.promotion)) most → KeepsToBudget (slice_numbers o) most (Some (slice_numbers (sliced_to o q t)))
+      more_budget kept does used among most all =
+          let entry : LeavesEntry v w the_job o q t =
+          leaves_entry v w f x (length x.journal) at.sealed.entries s.levels at.others o q t given stands.stands.exposed reads stands.stands.sound over lent_x kept does used takes (torn, same) among in
+          sliced_in_budget v w f stands_then.stands.content the_job o q t most stands.stands.exposed stands_then.stands.exposed entry
+          (subst (λ (k : Task). IsMostOfKey f (job_of_state (sealed_state x) s.levels k.target) most) over.going.same.task all)
 
       last : (g : Image) → Exposes w g → Slices progress.Done → SlicesLast f g x at.sealed.entries s.levels the_job o q given
       last g now does =

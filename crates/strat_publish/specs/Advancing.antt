@@ -4,10 +4,10 @@ use Rattle.std.specs.Prelude.{◌≡◌, ◌≤◌, ◌<◌, ◌⊎◌, ℕ, ◌
 use Rattle.def_crash.specs.Image.{Image}
 use Rattle.def_crash.specs.Moments.{DiskView}
 use Rattle.strat_level.specs.Target.{IsTarget}
-use Rattle.strat_promote.specs.Promotions.{entries_taken, target_of}
+use Rattle.strat_promote.specs.Promotions.{target_of}
 use Rattle.strat_promote.specs.StateInputs.{job_of_state}
 use Rattle.def_slice.specs.Budget.{SliceNumbers, KeepsToBudget}
-use Rattle.def_slice.specs.Opened.{OpenPromotion, AreNumbersOf, IsMostOfKey}
+use Rattle.def_slice.specs.Opened.{OpenPromotion, AreNumbersOf, IsMostOfKey, slice_numbers}
 use Rattle.def_publish.specs.Contents.{Contents, sealed_state}
 use Rattle.def_state.specs.Sound.{journal_max}
 use Rattle.strat_memory.specs.Held.{Held, IsOpenAt, StandsWith}
@@ -28,13 +28,13 @@ HasMostOfKey f s x most = (target : ℕ)
     → FillsLevel s.sb.mem (leads_in_memory s.memory s.levels) s.promoting target
     → IsMostOfKey f (job_of_state (sealed_state x) s.levels target) most
 
--- the promotion of a store keeps to its budget, the open one or the one that begins next: it stays open with at least that many
--- entries more taken, or it ends, and not early
+-- the promotion of a store keeps to its budget, the open one or the one that begins next: it stays open with the same budget
+-- and so many entries more taken, or it ends, and not early
 abbrev pub SlicesInBudget : Image → Held → Contents → Option OpenPromotion → Type 0
 SlicesInBudget f s x now = (n : SliceNumbers) (most : ℕ)
     → AreNumbersOf s.sb.mem (length s.log.list) (leads_in_memory s.memory s.levels) s.promoting n
     → HasMostOfKey f s x most
-    → KeepsToBudget n most (option_map (λ o. entries_taken o.promotion) now)
+    → KeepsToBudget n most (option_map slice_numbers now)
 
 -- a store has a promotion open and holds what it held, but that level 0 is sealed and that memory is made ready; and its
 -- journal has room for a change

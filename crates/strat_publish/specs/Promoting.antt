@@ -3,6 +3,7 @@ use Rattle.std.specs.Prelude.{◌≡◌, ◌≤◌, ◌<◌, ◌==◌, ℕ, ◌+
 use Rattle.std.specs.List.{count_by, list_all, range_with_len, sum}
 use Rattle.strat_base.specs.declared.descriptors.Extent.{Extent}
 use Rattle.strat_base.specs.declared.descriptors.LevelDesc.{LevelDesc}
+use Rattle.strat_array.specs.Kept.{Blocks}
 use Rattle.strat_extent.specs.Blocks.{SpaceView, times_in, used_count, uses}
 use Rattle.def_bytes.specs.Arrays.{blocks_of}
 use Rattle.def_bytes.specs.Layout.{first_free}
@@ -10,11 +11,12 @@ use Rattle.def_crash.specs.Image.{Image}
 use Rattle.def_crash.specs.Moments.{DiskView, Exposes}
 use Rattle.strat_level.specs.Levels.{level_numbered, leads_if_any}
 use Rattle.strat_promote.specs.Job.{AreReadable}
-use Rattle.strat_promote.specs.StateInputs.{LeavesPaid}
+use Rattle.strat_promote.specs.StateInputs.{LeavesPaid, job_of_state}
 use Rattle.def_promote.specs.Promoted.{promoted, levels_behind}
 use Rattle.def_publish.specs.Contents.{Contents, contents_state, sealed_state}
 use Rattle.def_slice.specs.Ending.{IsLastMade}
-use Rattle.def_slice.specs.Opened.{OpenPromotion}
+use Rattle.def_slice.specs.Budget.{KeepsToBudget, SliceNumbers}
+use Rattle.def_slice.specs.Opened.{IsMostOfKey, OpenPromotion, slice_numbers}
 use Rattle.def_publish.specs.Next.{arrays_made}
 use Rattle.def_publish.specs.Occupied.{IsSpaceOf, extents_of}
 use Rattle.def_state.specs.State.{IsPaid}
@@ -22,6 +24,8 @@ use Rattle.strat_cursor.specs.Looking.{arrays_there}
 use Rattle.strat_memory.specs.Filters.{AreFiltersOn, LevelFilters}
 use Rattle.strat_memory.specs.Held.{Held, IsOpenAt, StandsWith, blocks_named}
 use Rattle.strat_memory.specs.Memory.{Memory, oldest_entries, oldest_versions}
+use Rattle.strat_memory.specs.RecoveredFields.{held_of}
+use Rattle.strat_memory.specs.declared.open_store.OpenStore.{OpenStore}
 use Rattle.strat_promote.specs.Promotions.{FiltersStand, arrays_promoted, level_of, target_of}
 use Rattle.strat_promote.specs.declared.promotion.Promotion.{Promotion}
 
@@ -66,6 +70,13 @@ pub record StandsOpenWith (v : DiskView) (s : Held) (x : Contents) (o : OpenProm
     : Type 0 where
   pub stands : StandsWith v s x
   pub over : IsOpenAt stands.stands.content s x (length s.log.list) o
+
+-- where a store stands with an open promotion, it keeps to the budget of that and has these numbers afterwards
+abbrev pub KeepsOpenToBudget : DiskView → OpenStore → OpenPromotion → Option SliceNumbers → Type 0
+KeepsOpenToBudget v held o now = (f : Image) (x : Contents) (cached : Blocks) (most : ℕ)
+    → Exposes v f → StandsOpenWith v (held_of held cached) x o
+    → IsMostOfKey f (job_of_state (sealed_state x) held.published.levels (target_of o.promotion)) most
+    → KeepsToBudget (slice_numbers o) most now
 
 -- a promotion made this level of what a store holds, whatever its disk: its space has the blocks of the manifest, those of the
 -- level and those of the arrays that are kept for cursors, none of them twice

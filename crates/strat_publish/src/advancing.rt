@@ -9,14 +9,12 @@ ghost use Rattle.def_crash.specs.Moments.{Exposes, Passes};
 ghost use Rattle.def_crash.specs.Trail.{Trail};
 ghost use Rattle.strat_manifest.specs.ManifestView.{manifest_of};
 ghost use Rattle.strat_promote.specs.Job.{IsBadInput, arrays_to, blocks_listed};
-ghost use Rattle.strat_promote.specs.Promotions.{ReadsOf, entries_taken, target_of};
-ghost use Rattle.strat_promote.specs.StateInputs.{job_of_state};
+ghost use Rattle.strat_promote.specs.Promotions.{ReadsOf, target_of};
 ghost use Rattle.strat_promote.specs.declared.obstacle.Obstacle.TheVariants as obstacle;
 ghost use Rattle.strat_promote.specs.declared.obstacle.Obstacle.TheVariants.{Device, Damaged};
 ghost use Rattle.def_meaning.specs.StateTable.{table_of};
-ghost use Rattle.def_slice.specs.Budget.{KeepsToBudget};
-ghost use Rattle.def_slice.specs.Opened.{IsMostOfKey, slice_numbers};
-ghost use Rattle.def_publish.specs.Contents.{Contents, contents_state, sealed_state};
+ghost use Rattle.def_slice.specs.Opened.{slice_numbers};
+ghost use Rattle.def_publish.specs.Contents.{Contents, contents_state};
 ghost use Rattle.def_publish.specs.Occupied.{arrays_in};
 ghost use Rattle.def_publish.specs.Standing.{ShowsTable};
 ghost use Rattle.def_state.specs.Sound.{journal_max};
@@ -28,7 +26,7 @@ ghost use Rattle.strat_memory.specs.Paying.{ArePaidSince};
 ghost use Rattle.strat_memory.specs.RecoveredFields.{held_of, open_of};
 ghost use Rattle.strat_publish.specs.Advancing.{HasAdvanced, HasEmptied, SlicesInBudget, StaysOpen};
 ghost use Rattle.strat_publish.specs.Outcomes.{IsDamagedIn, IsOkOrShort, RanShort};
-ghost use Rattle.strat_publish.specs.Promoting.{StandsOpenWith};
+ghost use Rattle.strat_publish.specs.Promoting.{KeepsOpenToBudget, StandsOpenWith};
 ghost use Rattle.strat_publish.specs.Settling.{IsInstalled, KeepsCursors, KeepsPublished, TakesOpen};
 
 use crate::begin::open_now;
@@ -75,13 +73,8 @@ fn go_on<D: Disk>(
     ensures ok { OnOk result ((x : Contents) (cached : Blocks)
         → StandsOpenWith (D.view disk.old) (held_of held.old cached) x (open_of promoting)
         → HasAdvanced (D.view disk.new) (held_of held.old cached) x (held_of held.new cached)) }
-    ensures budget { OnOk result ((f : Image) (x : Contents) (cached : Blocks) (most : ℕ)
-        → Exposes (D.view disk.old) f
-        → StandsOpenWith (D.view disk.old) (held_of held.old cached) x (open_of promoting)
-        → IsMostOfKey f (job_of_state (sealed_state x) held.old.published.levels
-        (target_of promoting.promotion)) most
-        → KeepsToBudget (slice_numbers (open_of promoting)) most
-        (option_map (λ o. entries_taken o.promotion) (held_of held.new cached).promoting)) }
+    ensures budget { OnOk result (KeepsOpenToBudget (D.view disk.old) held.old (open_of promoting)
+        (option_map slice_numbers (option_map open_of held.new.promoting))) }
     ensures found { OnOk result ((cached : Blocks)
         → TakesOpen (held_of held.old cached) (held_of held.new cached)
         ⊎ IsInstalled (held_of held.old cached) (held_of held.new cached)) }

@@ -96,7 +96,10 @@ pub(crate) fn begin_open(alloc: Global, held: &OpenStore) -> Result<Promoting, O
         (leads_in_memory held.now.memory held.now.published.levels) None
         (slice_numbers (open_of p))
         × IsTarget (leads_in_memory held.now.memory held.now.published.levels) held.now.sb.mem
-        (target_of p.promotion)) }
+        (target_of p.promotion)
+        × ((cached : Blocks) (levels : List Level)
+        → IsSpaceOf p.space (contents_held (held_of held.now cached) levels)
+        (extents_of held.now.memory.cursors.retired))) }
     ensures reads { IfOk result (λ p. (f : Image)
         → ReadsOf f (arrays_to held.now.published.levels (target_of p.promotion)) p.promotion) }
     ensures err { IsErrOf result obstacle.Unfit → IsTrue (list_all (λ b. nat_lt b 4294967295)
@@ -108,8 +111,7 @@ pub(crate) fn begin_open(alloc: Global, held: &OpenStore) -> Result<Promoting, O
     let (zero, _pool, tree) = held.memory.sealed_parts();
     let (versions, _changes, _updates) = held.memory.sealed_counts();
     let next_array = held.published.manifest.next_array;
-    let promotion =
-        Promotion::begin(alloc, zero, levels, tree, versions, held.sb.mem, next_array)?;
+    let promotion = Promotion::begin(alloc, zero, levels, tree, versions, held.sb.mem, next_array)?;
     let sum = promotion.leads(zero, levels);
     let budget = budget_at(held.journal.count(), held.sb.mem, sum);
     Ok(Promoting {

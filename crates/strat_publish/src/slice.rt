@@ -1,6 +1,6 @@
 //! One slice of the open promotion of a store.
 
-ghost use Rattle.std.specs.Prelude.{◌≡◌, ◌≤◌, ℕ, ◌+◌, ◌-◌, ◌*◌, length, true, None, IfOk, IsErrOf, Contains};
+ghost use Rattle.std.specs.Prelude.{◌≡◌, ◌≤◌, ℕ, ◌+◌, ◌-◌, ◌*◌, length, true, None, Some, IfOk, IsErrOf, Contains};
 ghost use Rattle.strat_array.specs.Kept.{Blocks};
 ghost use Rattle.def_crash.specs.Blocks.{TearsBlocks};
 ghost use Rattle.def_crash.specs.Faults.{HasCause};
@@ -8,17 +8,15 @@ ghost use Rattle.def_crash.specs.Image.{Image};
 ghost use Rattle.def_crash.specs.Moments.{Exposes};
 ghost use Rattle.strat_extent.specs.Blocks.{is_free};
 ghost use Rattle.strat_promote.specs.Job.{IsBadInput, arrays_to, blocks_listed};
-ghost use Rattle.strat_promote.specs.Promotions.{MatchProgress, ReadsItsBlocks, ReadsOf, SamePromotion, entries_taken, has_ended, level_of, target_of};
-ghost use Rattle.strat_promote.specs.StateInputs.{job_of_state};
+ghost use Rattle.strat_promote.specs.Promotions.{MatchProgress, ReadsItsBlocks, ReadsOf, SamePromotion, has_ended, level_of, target_of};
 ghost use Rattle.strat_promote.specs.declared.obstacle.Obstacle.TheVariants as obstacle;
 ghost use Rattle.strat_promote.specs.declared.obstacle.Obstacle.TheVariants.{Device, Damaged};
-ghost use Rattle.def_slice.specs.Budget.{KeepsToBudget};
-ghost use Rattle.def_slice.specs.Opened.{IsMostOfKey, slice_numbers};
-ghost use Rattle.def_publish.specs.Contents.{Contents, sealed_state};
+ghost use Rattle.def_slice.specs.Opened.{slice_numbers};
+ghost use Rattle.def_publish.specs.Contents.{Contents};
 ghost use Rattle.strat_cursor.specs.Looking.{arrays_there};
 ghost use Rattle.strat_memory.specs.Held.{IsConsistent, IsOpenAt, MayGoOnWith, StandsWith};
 ghost use Rattle.strat_memory.specs.RecoveredFields.{held_of, open_of};
-ghost use Rattle.strat_publish.specs.Promoting.{HasMade, StandsEnded, StandsOpenWith};
+ghost use Rattle.strat_publish.specs.Promoting.{HasMade, KeepsOpenToBudget, StandsEnded, StandsOpenWith};
 
 use strat_disk::Disk;
 use strat_memory::open_store::{OpenStore, Promoting};
@@ -51,12 +49,9 @@ pub(crate) fn slice_open<D: Disk>(
         → StandsOpenWith (D.view disk.old) (held_of held.now cached) x (open_of promoting.old)
         → StandsEnded (D.view disk.new) (held_of held.now cached) x (open_of promoting.new))) }
     ensures budget { IfOk result (λ p. MatchProgress p
-        (entries_taken promoting.old.promotion + promoting.old.budget ≤ entries_taken promoting.new.promotion)
-        ((f : Image) (x : Contents) (cached : Blocks) (most : ℕ) → Exposes (D.view disk.old) f
-        → StandsOpenWith (D.view disk.old) (held_of held.now cached) x (open_of promoting.old)
-        → IsMostOfKey f (job_of_state (sealed_state x) held.now.published.levels
-        (target_of promoting.old.promotion)) most
-        → KeepsToBudget (slice_numbers (open_of promoting.old)) most None)) }
+        (KeepsOpenToBudget (D.view disk.old) held.now (open_of promoting.old)
+        (Some (slice_numbers (open_of promoting.new))))
+        (KeepsOpenToBudget (D.view disk.old) held.now (open_of promoting.old) None)) }
     ensures found { IfOk result (λ p. MatchProgress p ((f g : Image) → Exposes (D.view disk.old) f
         → Exposes (D.view disk.new) g
         → ReadsOf f (arrays_to held.now.published.levels (target_of promoting.old.promotion))

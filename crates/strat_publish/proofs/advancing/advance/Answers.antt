@@ -11,7 +11,7 @@ use Rattle.def_crash.specs.Moments.{Exposes}
 use Rattle.strat_promote.proofs.ObstacleLemmas.{short_fit}
 use Rattle.strat_promote.proofs.OpeningLemmas.{on_err}
 use Rattle.strat_promote.specs.Job.{arrays_to, blocks_listed}
-use Rattle.strat_promote.specs.Promotions.{ReadsOf, entries_taken, target_of}
+use Rattle.strat_promote.specs.Promotions.{ReadsOf, target_of}
 use Rattle.def_publish.specs.Contents.{Contents}
 use Rattle.def_publish.specs.Occupied.{arrays_in}
 use Rattle.def_slice.specs.Budget.{KeepsToBudget, SliceNumbers}
@@ -139,7 +139,7 @@ returns-clause-budget g c = on_ok_then c.go_on.result c.go_on.ensures.budget (λ
     let target = target_of c.in_ok-promoting.promoting.promotion in
     let fills = subst (λ (o : Option Promoting). FillsLevel c.args.held.now.sb.mem (leads_in_memory c.seal_for_next.new.memory c.args.held.now.published.levels) (option_map open_of o) target) c.take-taken.ensures.value c.in_ok-promoting.ensures.found.1 in
     let here = subst (λ (ls : List ℕ). FillsLevel c.args.held.now.sb.mem ls (option_map open_of c.args.held.now.promoting) target) (ready_leads c.args.held.now.sb.mem c.args.held.now.memory c.seal_for_next.new.memory c.args.held.now.published.levels c.seal_for_next.ensures.same) fills in
-    subst (λ (k : SliceNumbers). KeepsToBudget k most (option_map (λ o. entries_taken o.promotion) (held_of c.go_on.new.held cached).promoting)) (sym same)
+    subst (λ (k : SliceNumbers). KeepsToBudget k most (option_map slice_numbers (held_of c.go_on.new.held cached).promoting)) (sym same)
     (all f x cached most told (taken_open (g.D.Disk.view c.args.disk.now) (held_of (record c.args.held.now { promoting = c.take-taken.new.self; memory = c.seal_for_next.new.memory }) cached) x (stands_ready (g.D.Disk.view c.args.disk.now) (held_of c.args.held.now cached) x c.seal_for_next.new.memory (option_map open_of c.take-taken.new.self) (ap (option_map open_of) c.take-taken.ensures.after) stands) (open_of c.in_ok-promoting.promoting) (c.in_ok-promoting.ensures.ok stands.stands.content x cached (stands.stands.reads stands.stands.content stands.stands.left) stands.stands.sound stands.held (chain_short (g.D.Disk.view c.args.disk.now) (held_of c.args.held.now cached) x (c.requires.kept.0 cached) stands) (subst (λ (o : Option Promoting). IfSome (option_map open_of o) (IsOpenAt stands.stands.content (held_of (record c.args.held.now { promoting = c.take-taken.new.self; memory = c.seal_for_next.new.memory }) cached) x (length c.args.held.now.journal.list))) (sym c.take-taken.ensures.value) (open_ready stands.stands.content (held_of c.args.held.now cached) x (length c.args.held.now.journal.list) c.seal_for_next.new.memory (option_map open_of c.take-taken.new.self) c.seal_for_next.ensures.same stands.open_over)))) (few target here)))
 
 pub returns-clause-found : goal.returns-clause-found

@@ -11,10 +11,8 @@ use Rattle.def_crash.specs.Moments.{DiskView, Exposes}
 use Rattle.strat_promote.proofs.OpeningLemmas.{on_err}
 use Rattle.strat_promote.proofs.PushingLemmas.{still_told}
 use Rattle.strat_promote.specs.Job.{blocks_listed}
-use Rattle.strat_promote.specs.Promotions.{entries_taken}
 use Rattle.def_publish.specs.Contents.{Contents}
 use Rattle.def_publish.specs.Standing.{ShowsTable}
-use Rattle.def_slice.specs.Budget.{KeepsToBudget}
 use Rattle.def_slice.specs.Opened.{OpenPromotion, slice_numbers}
 use Rattle.strat_memory.proofs.PayingLemmas.{paid_then}
 use Rattle.strat_memory.specs.Held.{Held, IsConsistent, IsOnDisk, StandsWith}
@@ -68,8 +66,8 @@ returns-in-More-clause-ok g c = λ x cached st.
     (inl (stands_more (g.D.Disk.view c.slice_open-progress.new.disk) (held_of c.args.held.now cached) x (open_of c.slice_open-progress.new.promoting) then.1 then.0 then.2))
 
 pub returns-in-More-clause-budget : goal.returns-in-More-clause-budget
-returns-in-More-clause-budget g c = λ f x cached most told st all.
-    subst (λ (h : OpenStore). KeepsToBudget (slice_numbers (open_of c.args.promoting)) most (option_map (λ o. entries_taken o.promotion) (held_of h cached).promoting)) (sym c.in_ok-keep_open.ensures.ok.0)
+returns-in-More-clause-budget g c =
+    subst (λ (h : OpenStore). KeepsOpenToBudget (g.D.Disk.view c.args.disk.now) c.args.held.now (open_of c.args.promoting) (option_map slice_numbers (option_map open_of h.promoting))) (sym c.in_ok-keep_open.ensures.ok.0)
     (more_of c.in_ok-progress.progress c.in-More.is c.in_ok-progress.ensures.budget)
 
 pub returns-in-More-clause-found : goal.returns-in-More-clause-found
@@ -157,9 +155,9 @@ returns-in-Done-clause-ok g c =
 
 pub returns-in-Done-clause-budget : goal.returns-in-Done-clause-budget
 returns-in-Done-clause-budget g c =
-    on_ok_then c.publish_made.result c.publish_made.ensures.found (λ installed f x cached most told st all.
-    subst (λ (p : Option OpenPromotion). KeepsToBudget (slice_numbers (open_of c.args.promoting)) most (option_map (λ o. entries_taken o.promotion) p)) (sym (ap (λ (h : Held). h.promoting) (installed cached).next))
-    (done_of c.in_ok-progress.progress c.in-Done.is c.in_ok-progress.ensures.budget f x cached most told st all))
+    on_ok_then c.publish_made.result c.publish_made.ensures.found (λ installed.
+    subst (λ (p : Option OpenPromotion). KeepsOpenToBudget (g.D.Disk.view c.args.disk.now) c.args.held.now (open_of c.args.promoting) (option_map slice_numbers p)) (sym (ap (λ (h : Held). h.promoting) (installed (empty_cache 0)).next))
+    (done_of c.in_ok-progress.progress c.in-Done.is c.in_ok-progress.ensures.budget))
 
 pub returns-in-Done-clause-found : goal.returns-in-Done-clause-found
 returns-in-Done-clause-found g c = on_ok_then c.publish_made.result c.publish_made.ensures.found (λ installed cached. inr (installed cached))

@@ -14,7 +14,7 @@ use Rattle.strat_promote.specs.Promotions.{FiltersStand, HasBegun, IsItsJob, IsS
 use Rattle.strat_promote.specs.StateInputs.{job_of_state}
 use Rattle.strat_promote.specs.declared.promotion.Progress.{Progress}
 use Rattle.strat_promote.specs.declared.step.Task.{Task}
-use Rattle.strat_publish.proofs.SlicingLemmas.{asked, blamed, done_budget, done_ended, goes_more, has_made, more_open, never_unfit, progress_both, progress_of, progress_on, progress_then, read_used, reads_given}
+use Rattle.strat_publish.proofs.SlicingLemmas.{asked, blamed, done_budget, done_ended, goes_more, has_made, more_budget, more_open, never_unfit, progress_both, progress_of, progress_on, progress_then, read_used, reads_given}
 use Rattle.strat_publish.proofs.slice.slice_open.Goals as goal
 
 pub slice-requires-clause-kept : goal.slice-requires-clause-kept
@@ -53,10 +53,12 @@ returns-clause-budget g c =
     let w = g.D.Disk.view c.slice.new.disk in
     let given = inputs_given c.sealed_parts.result.0.now.list c.sealed_parts.result.1.now c.args.held.now.published.levels c.sealed_parts.result.2.now.parents in
     progress_then c.slice.result
-    (progress_both c.slice.result c.slice.ensures.kept
+    (progress_both c.slice.result (progress_both c.slice.result c.slice.ensures.kept (progress_on c.slice.result (c.slice.ensures.reads.among (reads_given (held_of c.args.held.now (empty_cache 0)) (c.requires.kept.0 (empty_cache 0)).0 (open_of c.args.promoting.now) (c.requires.kept.0 (empty_cache 0)).1 c.sealed_parts.result.0.now.list c.sealed_parts.result.1.now c.sealed_parts.result.2.now.parents c.sealed_parts.ensures.ok c.sealed_parts.ensures.found.0))))
     (progress_of (λ (p : Progress). (e h : Image) (job : Job) → Exposes v e → Exposes w h → IsItsJob e c.args.promoting.now.promotion given job → AreUsed c.args.promoting.now.space (blocks_listed job.arrays)
     → HasBegun e job c.args.promoting.now.promotion → IsSliced e h job limit c.slice.new.self p) c.slice.result c.slice.ensures.ok))
-    (λ k. k.0.1)
+    (λ k f x cached most told st all.
+    more_budget (held_of c.args.held.now cached) (c.requires.kept.0 cached).0 (open_of c.args.promoting.now) (c.requires.kept.0 cached).1 c.sealed_parts.result.0.now.list c.sealed_parts.result.1.now c.sealed_parts.result.2.now.parents c.sealed_parts.ensures.ok c.sealed_parts.ensures.found.0 c.slice.new.self c.slice.new.space c.slice.ensures.same.1 c.slice.ensures.room.1 (g.D.Disk.view c.args.disk.now) (g.D.Disk.view c.slice.new.disk) x (ap (option_map open_of) c.requires.kept.1) st c.slice.ensures.same.0 (g.met.D.Disk.leaves_content c.slice.new.disk) k.0.0 k.1 c.slice.ensures.room.0 (λ was. k.0.1) most
+    (subst (λ (h : Image). IsMostOfKey h (job_of_state (sealed_state x) c.args.held.now.published.levels (target_of c.args.promoting.now.promotion)) most) (exposed_once v f st.stands.stands.content told st.stands.stands.exposed) all))
     (λ k f x cached most told st all.
     done_budget (held_of c.args.held.now cached) (c.requires.kept.0 cached).0 (open_of c.args.promoting.now) (c.requires.kept.0 cached).1 c.sealed_parts.result.0.now.list c.sealed_parts.result.1.now c.sealed_parts.result.2.now.parents c.sealed_parts.ensures.ok c.sealed_parts.ensures.found.0 c.slice.new.self c.slice.new.space c.slice.ensures.same.1 c.slice.ensures.room.1 (g.D.Disk.view c.args.disk.now) (g.D.Disk.view c.slice.new.disk) x (ap (option_map open_of) c.requires.kept.1) st c.slice.ensures.same.0 (g.met.D.Disk.leaves_content c.slice.new.disk) k.1 most
     (subst (λ (h : Image). IsMostOfKey h (job_of_state (sealed_state x) c.args.held.now.published.levels (target_of c.args.promoting.now.promotion)) most) (exposed_once v f st.stands.stands.content told st.stands.stands.exposed) all))
