@@ -216,6 +216,8 @@ pub record LeavesPublished (before now : DiskView) (old : Held) (carried : Bool)
   pub kept : carried ≡ false → told ≢ reply.Refused why.DeviceFault → KeepsPublished old new
   pub next : carried ≡ true → old.log.mem ≤ length old.log.list
       → HasPublished old new ⊎ IsPromoting old new
+  -- and none was begun, given up or gone on with where the active region had room
+  pub below : length old.log.list < old.log.mem → new.promoting ≡ old.promoting
   pub on_disk : told ≢ reply.Refused why.DeviceFault → IsOnDisk before old → IsOnDisk now new
   -- and so are the blocks of all arrays that it held, those of its levels and those that are kept for cursors
   pub beside : told ≢ reply.Refused why.DeviceFault → (f g : Image) → Exposes before f

@@ -65,8 +65,8 @@ module _ (old new : DiskView) (s : Held) (whole : IsConsistent (held_joined s)) 
       commit_stands leaves = appended_stands old new x s.log stands.stands (staged_log old s x whole stands) appends sound done leaves
 
   -- what is left where the device failed
-  pub commit_failed : (t : Held) (b : Bool) → KeepsPublished s t → LeavesPublished old new s false (reply.Refused why.DeviceFault) (record t { spent = b })
-  commit_failed t b same = leaves_room old new s t false (reply.Refused why.DeviceFault) b room same (λ other. absurd (other refl)) commit_paid (λ other. absurd (other refl))
+  pub commit_failed : (t : Held) (b : Bool) → KeepsPublished s t → t.promoting ≡ s.promoting → LeavesPublished old new s false (reply.Refused why.DeviceFault) (record t { spent = b })
+  commit_failed t b same going = leaves_room old new s t false (reply.Refused why.DeviceFault) b room same going (λ other. absurd (other refl)) commit_paid (λ other. absurd (other refl))
 
   -- and where the batch is durable
   module _ (holds : HoldsBatch old new s.log) where
@@ -79,7 +79,7 @@ module _ (old new : DiskView) (s : Held) (whole : IsConsistent (held_joined s)) 
     agree = front_keeps old new (held_joined s) whole behind
 
     pub commit_leaves : (t : Held) (b : Bool) → KeepsPublished s t → t.promoting ≡ s.promoting → LeavesPublished old new s true reply.Done (record t { spent = b })
-    commit_leaves t b same going = leaves_room old new s t true reply.Done b room same (λ other. commit_on t same going behind) commit_paid (λ other. agree)
+    commit_leaves t b same going = leaves_room old new s t true reply.Done b room same going (λ other. commit_on t same going behind) commit_paid (λ other. agree)
 
     -- the store stands with the batch in its journal
     pub commit_at : (x : Contents) (rows : List Cursor) → ContentsStand new (with_batch x s.log.batch) → StandsAt old s x rows → StandsAt new (held_joined s) (with_batch x s.log.batch) rows

@@ -194,6 +194,7 @@ left_alone v w s carried told b none reads =
       either = inl same;
       kept = λ _ _. same;
       next = λ done full. absurd (true≢false (sym done ∙ none));
+      below = λ few. refl;
       on_disk = λ other on. on_spent w s b (read_on v w s on reads);
       beside = λ other. read_keeps v w s reads;
       paid = λ x stands paid. paid_reads v w x stands.stands reads paid;
@@ -212,6 +213,7 @@ left_queried v w r new m old now carried told b is none reads =
       either = inl same;
       kept = λ _ _. same;
       next = λ done full. absurd (true≢false (sym done ∙ none));
+      below = λ few. refl;
       on_disk = λ other on. same_on w s t same refl (read_on v w s on reads);
       beside = λ other. read_keeps v w s reads;
       paid = λ x stands paid. paid_reads v w x stands.stands reads paid;
@@ -219,15 +221,16 @@ left_queried v w r new m old now carried told b is none reads =
     })
 
 -- a change was carried out, or met a fault, where the journal had room
-pub leaves_room : (v w : DiskView) (s t : Held) (carried : Bool) (told : Reply) (b : Bool) → length s.log.list < s.log.mem → KeepsPublished s t → (told ≢ reply.Refused why.DeviceFault → IsOnDisk v s → IsOnDisk w t)
+pub leaves_room : (v w : DiskView) (s t : Held) (carried : Bool) (told : Reply) (b : Bool) → length s.log.list < s.log.mem → KeepsPublished s t → t.promoting ≡ s.promoting → (told ≢ reply.Refused why.DeviceFault → IsOnDisk v s → IsOnDisk w t)
     → ((x : Contents) → StandsWith v s x → IsPaid (contents_state x) → ArePaidSince w v.moment) → (told ≢ reply.Refused why.DeviceFault → KeepsArrays v w s)
     → LeavesPublished v w s carried told (record t { spent = b })
-leaves_room v w s t carried told b room same still pays agree =
+leaves_room v w s t carried told b room same going still pays agree =
     let all = keeps_spent s t b same in
     record {
       either = inl all;
       kept = λ _ _. all;
       next = λ done full. absurd (omega (arith, full, room));
+      below = λ few. going;
       on_disk = λ other on. on_spent w t b (still other on);
       beside = agree;
       paid = pays;
@@ -235,16 +238,17 @@ leaves_room v w s t carried told b room same still pays agree =
     }
 
 -- a publication gave up
-pub gives_up : (v w : DiskView) (r new : OpenStore) (cached : Blocks) (t : Trouble) (told : Refusal) → told ≡ refusal_of_trouble t → KeepsPublished (held_of r cached) (held_of new cached)
+pub gives_up : (v w : DiskView) (r new : OpenStore) (cached : Blocks) (t : Trouble) (told : Refusal) → told ≡ refusal_of_trouble t → r.journal.mem ≤ length r.journal.list → KeepsPublished (held_of r cached) (held_of new cached)
     → ((t ≡ trouble.Device → ⊥) → IsOnDisk v (held_of r cached) → IsOnDisk w (held_of new cached))
     → ((x : Contents) → StandsWith v (held_of r cached) x → IsPaid (contents_state x) → ArePaidSince w v.moment) → KeepsArrays v w (held_of r cached)
     → LeavesPublished v w (held_of r cached) false (reply.Refused told) (held_after new cached (reply.Refused told))
-gives_up v w r new cached t told is same still pays agree =
+gives_up v w r new cached t told is full same still pays agree =
     let all = keeps_spent (held_of r cached) (held_of new cached) (is_fault (reply.Refused told)) same in
     record {
       either = inl all;
       kept = λ _ _. all;
       next = λ done full. absurd (true≢false (sym done));
+      below = λ few. absurd (omega (arith, full, few));
       on_disk = λ other on. on_spent w (held_of new cached) (is_fault (reply.Refused told)) (still (λ e. other (ap (λ (q : Refusal). reply.Refused q) (is ∙ ap refusal_of_trouble e))) on);
       beside = λ other. agree;
       paid = pays;
@@ -290,6 +294,7 @@ renews v u w s mid t told has keeps cursors going refused still pays counts agre
       either = inr done;
       kept = λ none other. absurd (other (refused none));
       next = λ did all. inl done;
+      below = λ few. let full = has.full in absurd (omega (arith, full, few));
       on_disk = λ other on. on_spent w t (is_fault told) (keeps.1 other (still on));
       beside = agree;
       paid = pays;
@@ -326,6 +331,7 @@ promotes v u w s mid t told stays keeps going still pays agree =
       either = inl all;
       kept = λ _ _. all;
       next = λ did full. inr (record { full = stays.full; room = stays.room; keeps = all; promotion = stays.promotion; open_is = going ∙ stays.open_is });
+      below = λ few. let full = stays.full in absurd (omega (arith, full, few));
       on_disk = λ other on. on_spent w t (is_fault told) (keeps.1 other (still on));
       beside = agree;
       paid = pays;

@@ -31,7 +31,8 @@ ghost use Rattle.strat_publish.specs.Settling.{ArePublishedTo, HasPublished, IsP
 use def_crash::laws::Viewed;
 
 /// A change that was carried out at a full journal was the last of a promotion and published, or left one open over all that
-/// the store held of its disk. It did so only where the journal had room behind the full region.
+/// the store held of its disk. It did so only where the journal had room behind the full region. Where the active region had
+/// room, none was begun.
 pub fn a_full_journal_is_promoted_or_published<D: Viewed>()
     ensures ok { (d e : D) (old new : Held) (told : Reply)
         → LeavesPublished (D.view d) (D.view e) old true told new
@@ -42,6 +43,9 @@ pub fn a_full_journal_is_promoted_or_published<D: Viewed>()
     ensures room { (old new : Held) → IsPromoting old new → (old.log.mem ≤ length old.log.list)
         × (length old.log.list < 2 * old.sb.mem - 2) }
     ensures found { (old new : Held) → IsPromoting old new → IsSome new.promoting }
+    ensures none { (d e : D) (old new : Held) (carried : Bool) (told : Reply)
+        → LeavesPublished (D.view d) (D.view e) old carried told new
+        → length old.log.list < old.log.mem → old.promoting ≡ None → new.promoting ≡ None }
 {}
 
 /// A publication left the other slot, with the next generation and the other region, and a manifest of what memory counted at

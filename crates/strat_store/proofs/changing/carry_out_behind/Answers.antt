@@ -121,7 +121,7 @@ pub returns-in-Err-clause-disk : goal.returns-in-Err-clause-disk
 returns-in-Err-clause-disk g c = λ cached.
     let keeps = c.in-Err.ensures.same.3.1 cached in (
       gives_up (g.D.Disk.view c.args.disk.now) (g.D.Disk.view c.advance.new.disk) c.args.held.now c.advance.new.held cached (told_as c.in-Err.obstacle) c.refusal_of.result c.refusal_of.ensures.ok
-          keeps.0 (λ other. c.in-Err.ensures.disk (λ e. other (let x : ◌≡◌ {A = Result _ Obstacle} (Err c.in-Err.obstacle) (Err Device) = e in let same : c.in-Err.obstacle ≡ Device = cc in ap told_as same)) cached)
+          (let full = c.requires.kept.1 in let mem = (c.requires.kept.0 cached).log.mem in omega (arith, full, mem)) keeps.0 (λ other. c.in-Err.ensures.disk (λ e. other (let x : ◌≡◌ {A = Result _ Obstacle} (Err c.in-Err.obstacle) (Err Device) = e in let same : c.in-Err.obstacle ≡ Device = cc in ap told_as same)) cached)
           (λ x stands. (c.advance.ensures.trail x cached stands).1) c.advance.ensures.images.1,
       cursors_left (held_of c.args.held.now cached) (held_after c.advance.new.held cached (reply.Refused c.refusal_of.result)) _ _ keeps.1,
     )

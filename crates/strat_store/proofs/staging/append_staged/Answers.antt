@@ -19,7 +19,7 @@ returns-in_default-clause-trail g c = λ x cached stands.
 pub returns-in_default-clause-same : goal.returns-in_default-clause-same
 returns-in_default-clause-same g c = λ cached.
     commit_failed (g.D.Disk.view c.args.disk.now) (g.D.Disk.view c.append.new.disk) (held_of c.args.held.now cached) (c.requires.kept cached) c.requires.len (c.requires.room c.requires.len)
-    (appends g (goal.at.returns-in_default-clause-same g c).After-append) (held_of (record c.args.held.now { journal = c.append.new.self }) cached) true (record { slot = refl; sb = refl; chained = refl; levels = refl; filters = refl })
+    (appends g (goal.at.returns-in_default-clause-same g c).After-append) (held_of (record c.args.held.now { journal = c.append.new.self }) cached) true (record { slot = refl; sb = refl; chained = refl; levels = refl; filters = refl }) refl
 
 pub returns-clause-trail : goal.returns-clause-trail
 returns-clause-trail g c = λ x cached stands.

@@ -1,4 +1,4 @@
-use Rattle.std.proofs.Common.{refl, sym, subst, Option}
+use Rattle.std.proofs.Common.{refl, sym, subst, ◌∙◌, Option}
 use Rattle.std.specs.Prelude.{IsSome, Some}
 use Rattle.def_slice.specs.Opened.{OpenPromotion}
 use Rattle.strat_store_pins.proofs.settling.a_full_journal_is_promoted_or_published.Goals as goal
@@ -16,3 +16,6 @@ pub returns-clause-found : goal.returns-clause-found
 returns-clause-found g c = λ old new is.
     let there : IsSome (Some is.promotion) = refl in
     subst (λ (o : Option OpenPromotion). IsSome o) (sym is.open_is) there
+
+pub returns-clause-none : goal.returns-clause-none
+returns-clause-none g c = λ d e old new carried told leaves few closed. leaves.below few ∙ closed
