@@ -13,7 +13,7 @@ CLAUSES = {
     "cause": ("when each error may come", r"[Ff]ault|Cause|Reason|Rose|Err|Short|↔"),
     "same": ("what stays as it was", r"\.old\b|\.(\w+) ≡ [^→×]*\.\1\b|e\.1 ≡"),
     "kept": ("which invariant holds afterwards",
-             r"\b(Is|Are|Has|Have|Keeps|Owns|Match)[A-Z]|Stands?(?=\b|[A-Z])|≤|\bis_|\.new\b.*\.old\b|\.old\b.*\.new\b"),
+             r"\b(Is|Are|Has|Have|Keeps|Owns|Match|May)[A-Z]|Stands?(?=\b|[A-Z])|≤|\bis_|\.new\b.*\.old\b|\.old\b.*\.new\b"),
     "images": ("what a crash may leave", r"\bImages\b|\bKeepsImages\b|\bTears|\bSince\b|\bWritesBeside\b"),
     "trail": ("through which tables the images go", r"\bTrail\b|\bFollows|\bSince\b"),
     "faults": ("how counts of failures move", r"faults|failing|Uncalled|Fused"),

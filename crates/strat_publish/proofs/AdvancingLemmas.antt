@@ -30,9 +30,9 @@ ok_or_short (Ok x) ok short is = ok
 ok_or_short (Err e) ok short is = short is
 
 -- what is told of both outcomes
-pub on_ok_both : {T E : Type 0} {A B : Type 0} (r : Result T E) → OnOk r A → OnOk r B → OnOk r (A × B)
-on_ok_both {T} {E} {A} {B} (Ok x) a b = (a, b)
-on_ok_both {T} {E} {A} {B} (Err e) a b = tt
+pub on_ok_both : {T E : Type 0} {A B C : Type 0} (r : Result T E) → OnOk r A → OnOk r B → (A → B → C) → OnOk r C
+on_ok_both (Ok x) a b then = then a b
+on_ok_both (Err e) a b then = tt
 
 -- a store that keeps a promotion open
 pub whole_more : (s : Held) (o : OpenPromotion) → IsConsistent s → MayGoOnWith s o → IsConsistent (record s { promoting = Some o })
@@ -121,8 +121,20 @@ found_all s t m p whole full ready some (inl takes) = inl (found_open s t m p wh
 found_all s t m p whole full ready some (inr is) = inr (found_emptied s t m p whole full ready some is)
 
 -- a promotion that is taken out of a store is open beside it
-pub taken_open : (v : DiskView) (s : Held) (x : Contents) (stands : StandsWith v s x) (o : OpenPromotion) → IsOpenAt stands.stands.content s x (length s.log.list) o → StandsOpenWith v s x o
-taken_open v s x stands o over = record { stands = stands; over = over }
+pub taken_open : (v : DiskView) (s : Held) (x : Contents) (m : Memory) (p : Option OpenPromotion) → p ≡ None → (w : StandsWith v s x) (o : OpenPromotion)
+    → IsOpenAt w.stands.content (record s { memory = m; promoting = p }) x (length s.log.list) o → StandsOpenWith v (record s { memory = m; promoting = p }) x o
+taken_open v s x m p none w o over =
+    let t : Held = record s { memory = m; promoting = p } in
+    record {
+      stands = record {
+        stands = w.stands;
+        held = w.held;
+        cached = w.cached;
+        filtered = w.filtered;
+        open_over = subst (λ (q : Option OpenPromotion). IfSome q (IsOpenAt w.stands.content t x (length s.log.list))) (sym none) tt;
+      };
+      over = over;
+    }
 
 -- and has read what the disk has
 pub stands_reads : (v : DiskView) (s : Held) (x : Contents) (o : OpenPromotion) → StandsOpenWith v s x o → (f : Image) → Exposes v f → ReadsOf f (arrays_to s.levels (target_of o.promotion)) o.promotion

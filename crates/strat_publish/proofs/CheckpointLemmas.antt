@@ -39,7 +39,7 @@ pub made_readied : (r : Result Computed Obstacle) (v w : DiskView) (h : OpenStor
     → IsReadied w (held_of h cached) x (super_after (super_of h.sb) k.first k.length) (record { manifest = manifest_of k.manifest; blocks = blocks_of k.chain }) (filters_after h.filters k.made.target k.made.filters)
     × AreNewArrays h.published.manifest.next_array (arrays_made k.made.level))
 made_readied (Err e) v w h made space after whole full computed found same = tt
-made_readied (Ok k) v w h made space after whole full computed found same x cached st =
+made_readied (Ok k) v w h made space after whole full computed found same = λ x cached st.
     let is = sym same in
     readied v w (held_of h cached) x space after h.published.chain k.made.target k.made.level k.first k.length k.chain (manifest_of k.manifest) k.made.filters (whole cached)
     (subst (λ (m : Made). StandsMade v (held_of h cached) x space m.target m.level m.filters) is st) full refl
@@ -52,7 +52,7 @@ pub made_apart : (r : Result Computed Obstacle) (h : OpenStore) (made : Made) (s
     → IfOk r (λ k. k.made ≡ made)
     → IfOk r (λ k. (cached : Blocks) → StandApart k.made.target (held_of h cached) (record { manifest = manifest_of k.manifest; blocks = blocks_of k.chain }))
 made_apart (Err e) h made space after kept marked found same = tt
-made_apart (Ok k) h made space after kept marked found same cached =
+made_apart (Ok k) h made space after kept marked found same = λ cached.
     let is = sym same in
     stand_apart (held_of h cached) space after k.made.target k.made.level k.chain (manifest_of k.manifest) (kept cached).0
     (subst (λ (m : Made). HasMade (held_of h cached) space m.target m.level) is (kept cached).1) marked found

@@ -48,7 +48,7 @@ blocks_filled (a ∷ arrays) each =
 -- what a store has that may compute its next contents
 module _ (v : DiskView) (s : SpaceView) (m : Memory) (log : Log) (x : Contents) (target : ℕ) (made : Option LevelDesc) (filters : LevelFilters) (others : List Extent) (may : MayCompute v s m log x target made filters others)
     (old : Manifest) (old_is : x.chained.manifest ≡ old) where
-  at : ContentsStand v x
+  abbrev at : ContentsStand v x
   at = may.stands
 
   rising : is_rising (map (λ (d : LevelDesc). d.number) x.chained.manifest.levels) ≡ true

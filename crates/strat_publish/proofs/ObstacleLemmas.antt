@@ -14,9 +14,9 @@ pub on_err : {T E : Type 0} (r : Result T E) (P : Type 0) → P → OnErr r P
 on_err (Ok x) P p = tt
 on_err (Err e) P p = p
 
-pub off_ok : {T E : Type 0} {Q : E → Type 0} (r : Result T E) (P : Type 0) → IsErrAnd r Q → OnOk r P
-off_ok (Ok x) P told = absurd told
-off_ok (Err e) P told = tt
+pub off_ok : {T E : Type 0} (Q : E → Type 0) (r : Result T E) (P : Type 0) → IsErrAnd r Q → OnOk r P
+off_ok Q (Ok x) P told = absurd told
+off_ok Q (Err e) P told = tt
 
 -- what is told as want of memory is no fault, and names no block
 not_device : (o : Obstacle) → told_as o ≡ trouble.NoMemory → o ≡ Device → ⊥

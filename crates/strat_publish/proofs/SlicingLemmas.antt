@@ -69,26 +69,26 @@ progress_of P (Ok progress.More) is = is
 progress_of P (Ok progress.Done) is = is
 progress_of P (Err e) is = tt
 
-pub progress_on : {E : Type 0} {P : Type 0} (r : Result Progress E) → OnOk r P → IfOk r (λ p. MatchProgress p P P)
-progress_on (Ok progress.More) is = is
-progress_on (Ok progress.Done) is = is
-progress_on (Err e) is = tt
+pub progress_on : {E : Type 0} (P : Type 0) (r : Result Progress E) → OnOk r P → IfOk r (λ p. MatchProgress p P P)
+progress_on P (Ok progress.More) is = is
+progress_on P (Ok progress.Done) is = is
+progress_on P (Err e) is = tt
 
-pub progress_both : {E : Type 0} {A B C D : Type 0} (r : Result Progress E) → IfOk r (λ p. MatchProgress p A B) → IfOk r (λ p. MatchProgress p C D) → IfOk r (λ p. MatchProgress p (A × C) (B × D))
-progress_both (Ok progress.More) a b = (a, b)
-progress_both (Ok progress.Done) a b = (a, b)
-progress_both (Err e) a b = tt
+pub progress_both : {E : Type 0} (A B C D : Type 0) (r : Result Progress E) → IfOk r (λ p. MatchProgress p A B) → IfOk r (λ p. MatchProgress p C D) → IfOk r (λ p. MatchProgress p (A × C) (B × D))
+progress_both A B C D (Ok progress.More) a b = (a, b)
+progress_both A B C D (Ok progress.Done) a b = (a, b)
+progress_both A B C D (Err e) a b = tt
 
 pub progress_then : {E : Type 0} {A B C D : Type 0} (r : Result Progress E) → IfOk r (λ p. MatchProgress p A B) → (A → C) → (B → D) → IfOk r (λ p. MatchProgress p C D)
 progress_then (Ok progress.More) is more done = more is
 progress_then (Ok progress.Done) is more done = done is
 progress_then (Err e) is more done = tt
 
-pub more_of : {A B : Type 0} (p : Progress) → p ≡ progress.More → MatchProgress p A B → A
-more_of {A} {B} p is told = subst (λ (q : Progress). MatchProgress q A B) is told
+pub more_of : {A : Type 0} (B : Type 0) (p : Progress) → p ≡ progress.More → MatchProgress p A B → A
+more_of {A} B p is told = subst (λ (q : Progress). MatchProgress q A B) is told
 
-pub done_of : {A B : Type 0} (p : Progress) → p ≡ progress.Done → MatchProgress p A B → B
-done_of {A} {B} p is told = subst (λ (q : Progress). MatchProgress q A B) is told
+pub done_of : {B : Type 0} (A : Type 0) (p : Progress) → p ≡ progress.Done → MatchProgress p A B → B
+done_of {B} A p is told = subst (λ (q : Progress). MatchProgress q A B) is told
 
 -- a block that is used as often as it stands among some
 
@@ -219,7 +219,7 @@ module _ (s : Held) (whole : IsConsistent s) (o : OpenPromotion) (going : MayGoO
         }
 
     module _ (v w : DiskView) (x : Contents) (none : s.promoting ≡ None) (open_with : StandsOpenWith v s x o) (torn : TearsBlocks (is_free o.space) v w) (leaves : LeavesContent w) where
-      stands : StandsWith v s x
+      abbrev stands : StandsWith v s x
       stands = open_with.stands
 
       at : IsOpenAt stands.stands.content s x (length s.log.list) o

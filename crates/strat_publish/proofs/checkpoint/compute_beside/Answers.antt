@@ -9,11 +9,11 @@ use Rattle.strat_publish.proofs.SettlingLemmas.{computes_all}
 use Rattle.strat_publish.proofs.SlicingLemmas.{beside_apart}
 use Rattle.strat_publish.proofs.checkpoint.compute_beside.Goals as goal
 
-pub compute_next-requires-clause-fits : goal.compute_next-requires-clause-fits
-compute_next-requires-clause-fits g c =
+pub compute_next-requires : goal.compute_next-requires
+compute_next-requires g c =
     let made = (c.requires.kept (empty_cache 0)).1 in
     let first = made.first in
-    (omega (arith, first), made.low, c.requires.len.1)
+    record { fits = (omega (arith, first), made.low, c.requires.len.1) }
 
 pub returns-clause-ok : goal.returns-clause-ok
 returns-clause-ok g c =

@@ -25,6 +25,7 @@ use Rattle.strat_publish.proofs.CountingLemmas.{paid_beside, counts_next}
 use Rattle.strat_publish.proofs.LaidLemmas.{beside_on, kept_on, published_on}
 use Rattle.strat_publish.proofs.ObstacleLemmas.{device_fit, device_short, off_ok, on_err}
 use Rattle.strat_publish.proofs.SettledLemmas.{trail_beside, stands_beside, arrays_kept, arrays_stay, one_trail, published_as, consistent_next}
+use Rattle.strat_publish.proofs.WholeLemmas.{whole_promotes}
 use Rattle.strat_publish.specs.Counting.{CountsWritten}
 use Rattle.strat_publish.specs.Outcomes.{IsPublishedAs}
 use Rattle.strat_publish.specs.Promoting.{StandsEnded, StandsMade}
@@ -42,6 +43,9 @@ made_here g c x cached st =
 pub take_made-made-requires-clause-kept : goal.take_made-made-requires-clause-kept
 take_made-made-requires-clause-kept g c = c.requires.kept.1
 
+pub take_made-made-requires-clause-fits : goal.take_made-made-requires-clause-fits
+take_made-made-requires-clause-fits g c = (whole_promotes (held_of c.args.held.now (empty_cache 0)) (c.requires.kept.0 (empty_cache 0)).0).first
+
 pub prepare_next-requires-clause-kept : goal.prepare_next-requires-clause-kept
 prepare_next-requires-clause-kept g c = λ cached.
     let all = c.requires.kept.0 cached in
@@ -57,14 +61,14 @@ install-requires-clause-same g c = ((c.in_ok-next.ensures.fits (empty_cache 0)).
 
 pub returns-in_err-next-clause-err : goal.returns-in_err-next-clause-err
 returns-in_err-next-clause-err g c = λ unfit x cached st.
-    c.in_err-next.ensures.err (err_of c.from_residual.result _ _ c.from_residual.ensures.1 unfit) x cached (made_here g _ x cached st)
+    c.in_err-next.ensures.err (err_of c.from_residual.result _ _ c.from_residual.ensures.1 unfit) x cached (made_here g (goal.at.returns-in_err-next-clause-err g c).After-take_made-made x cached st)
 
 pub returns-in_err-install-clause-err : goal.returns-in_err-install-clause-err
 returns-in_err-install-clause-err g c = λ unfit. absurd (device_fit c.from_residual-in_err-install.result c.from_residual-in_err-install.ensures.1 unfit)
 
 pub returns-in_err-next-clause-kept : goal.returns-in_err-next-clause-kept
 returns-in_err-next-clause-kept g c = (
-  off_ok c.from_residual.result _ c.from_residual.ensures.1,
+  off_ok _ c.from_residual.result _ c.from_residual.ensures.1,
   λ short x cached stands.
       stands_beside (g.D.Disk.view c.args.disk.now) (g.D.Disk.view c.prepare_next.new.disk) (held_of c.args.held.now cached) x (ap (option_map open_of) c.requires.kept.2) stands (c.prepare_next.ensures.images cached)
       (g.met.D.Disk.leaves_content c.prepare_next.new.disk),
@@ -72,7 +76,7 @@ returns-in_err-next-clause-kept g c = (
 
 pub returns-in_err-install-clause-kept : goal.returns-in_err-install-clause-kept
 returns-in_err-install-clause-kept g c =
-    (off_ok c.from_residual-in_err-install.result _ c.from_residual-in_err-install.ensures.1, λ short. absurd (device_short c.from_residual-in_err-install.result c.from_residual-in_err-install.ensures.1 short))
+    (off_ok _ c.from_residual-in_err-install.result _ c.from_residual-in_err-install.ensures.1, λ short. absurd (device_short c.from_residual-in_err-install.result c.from_residual-in_err-install.ensures.1 short))
 
 pub returns-in_err-next-clause-trail : goal.returns-in_err-next-clause-trail
 returns-in_err-next-clause-trail g c = λ x cached st.
@@ -87,7 +91,7 @@ pub returns-in_err-install-clause-trail : goal.returns-in_err-install-clause-tra
 returns-in_err-install-clause-trail g c = λ x cached st.
     let v = g.D.Disk.view c.args.disk.now in
     let w = g.D.Disk.view c.prepare_next.new.disk in
-    let ready = c.in_ok-next.ensures.ok x cached (made_here g _ x cached st) in
+    let ready = c.in_ok-next.ensures.ok x cached (made_here g (goal.at.returns-in_err-install-clause-trail g c).After-take_made-made x cached st) in
     let laid = c.install.ensures.trail x _ ready.computed in (
       one_trail ShowsTable w (g.D.Disk.view c.install.new.disk) _ _ c.install.ensures.time (trail_beside v w (held_of c.args.held.now cached) x st.stands (c.prepare_next.ensures.images cached)) laid.0,
       λ paid.
@@ -99,7 +103,7 @@ pub returns-clause-trail : goal.returns-clause-trail
 returns-clause-trail g c = λ x cached st.
     let v = g.D.Disk.view c.args.disk.now in
     let w = g.D.Disk.view c.prepare_next.new.disk in
-    let ready = c.in_ok-next.ensures.ok x cached (made_here g _ x cached st) in
+    let ready = c.in_ok-next.ensures.ok x cached (made_here g (goal.at.returns-clause-trail g c).After-take_made-made x cached st) in
     let laid = c.install.ensures.trail x _ ready.computed in (
       one_trail ShowsTable w (g.D.Disk.view c.install.new.disk) _ _ c.install.ensures.time (trail_beside v w (held_of c.args.held.now cached) x st.stands (c.prepare_next.ensures.images cached)) laid.0,
       λ paid.
@@ -114,7 +118,7 @@ returns-clause-ok g c = λ x cached st.
     let u = g.D.Disk.view c.install.new.disk in
     let s = held_of c.args.held.now cached in
     let whole = (c.requires.kept.0 cached).0 in
-    let ready = c.in_ok-next.ensures.ok x cached (made_here g _ x cached st) in
+    let ready = c.in_ok-next.ensures.ok x cached (made_here g (goal.at.returns-clause-ok g c).After-take_made-made x cached st) in
     let next = c.in_ok-next.next in
     let front = subst (λ (n : ℕ). TearsBlocks (is_in_front n) w u) whole.log.mem c.install.ensures.images in
     subst (λ (h : Held). IsPublishedAs u x h × CountsWritten (manifest_of c.args.held.now.published.manifest) h.chained.manifest)

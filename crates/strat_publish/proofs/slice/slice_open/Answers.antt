@@ -26,7 +26,7 @@ slice-requires-clause-fits g c = let all = asked (held_of c.args.held.now (empty
 pub returns-clause-kept : goal.returns-clause-kept
 returns-clause-kept g c =
     progress_then c.slice.result
-    (progress_both c.slice.result c.slice.ensures.kept (progress_on c.slice.result (c.slice.ensures.reads.among (reads_given (held_of c.args.held.now (empty_cache 0)) (c.requires.kept.0 (empty_cache 0)).0 (open_of c.args.promoting.now) (c.requires.kept.0 (empty_cache 0)).1 c.sealed_parts.result.0.now.list c.sealed_parts.result.1.now c.sealed_parts.result.2.now.parents c.sealed_parts.ensures.ok c.sealed_parts.ensures.found.0))))
+    (progress_both _ _ _ _ c.slice.result c.slice.ensures.kept (progress_on _ c.slice.result (c.slice.ensures.reads.among (reads_given (held_of c.args.held.now (empty_cache 0)) (c.requires.kept.0 (empty_cache 0)).0 (open_of c.args.promoting.now) (c.requires.kept.0 (empty_cache 0)).1 c.sealed_parts.result.0.now.list c.sealed_parts.result.1.now c.sealed_parts.result.2.now.parents c.sealed_parts.ensures.ok c.sealed_parts.ensures.found.0))))
     (λ k cached. goes_more (held_of c.args.held.now cached) (c.requires.kept.0 cached).0 (open_of c.args.promoting.now) (c.requires.kept.0 cached).1 c.sealed_parts.result.0.now.list c.sealed_parts.result.1.now c.sealed_parts.result.2.now.parents c.sealed_parts.ensures.ok c.sealed_parts.ensures.found.0 c.slice.new.self c.slice.new.space c.slice.ensures.same.1 c.slice.ensures.room.1 k.0.0 c.slice.ensures.room.0 (λ was. k.1))
     (λ k. (k.0.0, λ cached. has_made (held_of c.args.held.now cached) (c.requires.kept.0 cached).0 (open_of c.args.promoting.now) (c.requires.kept.0 cached).1 c.sealed_parts.result.0.now.list c.sealed_parts.result.1.now c.sealed_parts.result.2.now.parents c.sealed_parts.ensures.ok c.sealed_parts.ensures.found.0 c.slice.new.self c.slice.new.space c.slice.ensures.same.1 c.slice.ensures.room.1 k.0.1))
 
@@ -37,8 +37,8 @@ returns-clause-ok g c =
     let w = g.D.Disk.view c.slice.new.disk in
     let given = inputs_given c.sealed_parts.result.0.now.list c.sealed_parts.result.1.now c.args.held.now.published.levels c.sealed_parts.result.2.now.parents in
     progress_then c.slice.result
-    (progress_both c.slice.result (progress_both c.slice.result c.slice.ensures.kept (progress_on c.slice.result (c.slice.ensures.reads.among (reads_given (held_of c.args.held.now (empty_cache 0)) (c.requires.kept.0 (empty_cache 0)).0 (open_of c.args.promoting.now) (c.requires.kept.0 (empty_cache 0)).1 c.sealed_parts.result.0.now.list c.sealed_parts.result.1.now c.sealed_parts.result.2.now.parents c.sealed_parts.ensures.ok c.sealed_parts.ensures.found.0))))
-    (progress_both c.slice.result
+    (progress_both _ _ _ _ c.slice.result (progress_both _ _ _ _ c.slice.result c.slice.ensures.kept (progress_on _ c.slice.result (c.slice.ensures.reads.among (reads_given (held_of c.args.held.now (empty_cache 0)) (c.requires.kept.0 (empty_cache 0)).0 (open_of c.args.promoting.now) (c.requires.kept.0 (empty_cache 0)).1 c.sealed_parts.result.0.now.list c.sealed_parts.result.1.now c.sealed_parts.result.2.now.parents c.sealed_parts.ensures.ok c.sealed_parts.ensures.found.0))))
+    (progress_both _ _ _ _ c.slice.result
     (progress_of (λ (p : Progress). (e h : Image) (job : Job) → Exposes v e → Exposes w h → IsItsJob e c.args.promoting.now.promotion given job → AreUsed c.args.promoting.now.space (blocks_listed job.arrays)
     → HasBegun e job c.args.promoting.now.promotion → IsSliced e h job limit c.slice.new.self p) c.slice.result c.slice.ensures.ok)
     (progress_of (λ (p : Progress). (e h : Image) (job : Job) → Exposes v e → Exposes w h → IsItsJob e c.args.promoting.now.promotion given job → AreUsed c.args.promoting.now.space (blocks_listed job.arrays)
@@ -53,7 +53,7 @@ returns-clause-budget g c =
     let w = g.D.Disk.view c.slice.new.disk in
     let given = inputs_given c.sealed_parts.result.0.now.list c.sealed_parts.result.1.now c.args.held.now.published.levels c.sealed_parts.result.2.now.parents in
     progress_then c.slice.result
-    (progress_both c.slice.result (progress_both c.slice.result c.slice.ensures.kept (progress_on c.slice.result (c.slice.ensures.reads.among (reads_given (held_of c.args.held.now (empty_cache 0)) (c.requires.kept.0 (empty_cache 0)).0 (open_of c.args.promoting.now) (c.requires.kept.0 (empty_cache 0)).1 c.sealed_parts.result.0.now.list c.sealed_parts.result.1.now c.sealed_parts.result.2.now.parents c.sealed_parts.ensures.ok c.sealed_parts.ensures.found.0))))
+    (progress_both _ _ _ _ c.slice.result (progress_both _ _ _ _ c.slice.result c.slice.ensures.kept (progress_on _ c.slice.result (c.slice.ensures.reads.among (reads_given (held_of c.args.held.now (empty_cache 0)) (c.requires.kept.0 (empty_cache 0)).0 (open_of c.args.promoting.now) (c.requires.kept.0 (empty_cache 0)).1 c.sealed_parts.result.0.now.list c.sealed_parts.result.1.now c.sealed_parts.result.2.now.parents c.sealed_parts.ensures.ok c.sealed_parts.ensures.found.0))))
     (progress_of (λ (p : Progress). (e h : Image) (job : Job) → Exposes v e → Exposes w h → IsItsJob e c.args.promoting.now.promotion given job → AreUsed c.args.promoting.now.space (blocks_listed job.arrays)
     → HasBegun e job c.args.promoting.now.promotion → IsSliced e h job limit c.slice.new.self p) c.slice.result c.slice.ensures.ok))
     (λ k f x cached most told st all.
