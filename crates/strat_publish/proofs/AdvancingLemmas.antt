@@ -1,19 +1,16 @@
 -- An advance of a store: what a slice, or a publication after the last one, leaves of it.
-use Rattle.std.proofs.Common.{◌≡◌, ◌≤◌, ◌<◌, ◌+◌, ◌-◌, ◌*◌, ℕ, inl, inr, ◌⊎◌, List, length, Contains, Option, None, Some, Result, Ok, Err, IsErrAnd, true, refl, sym, ap, ◌∙◌, subst, arith}
-use Rattle.std.specs.Prelude.{IfErr, IfOk, IfSome, IsErrOf, OnErr, OnOk, is_some}
+use Rattle.std.proofs.Common.{◌≡◌, ◌≤◌, ◌+◌, ◌-◌, ◌*◌, ℕ, inl, inr, ◌⊎◌, List, length, Option, None, Some, Result, Ok, Err, true, refl, sym, ap, ◌∙◌, subst, arith}
+use Rattle.std.specs.Prelude.{IfSome, OnErr, OnOk, is_some}
 use Rattle.strat_base.specs.declared.descriptors.LevelDesc.{LevelDesc}
 use Rattle.def_crash.proofs.BlockLemmas.{exposed_once}
 use Rattle.def_crash.specs.Image.{Image}
 use Rattle.def_crash.specs.Moments.{DiskView, Exposes}
 use Rattle.strat_promote.specs.Job.{arrays_to}
-use Rattle.strat_promote.specs.Obstacles.{told_as}
-use Rattle.strat_promote.specs.Promotions.{ReadsOf, entries_taken, target_of}
+use Rattle.strat_promote.specs.Promotions.{ReadsOf, target_of}
 use Rattle.strat_promote.specs.declared.obstacle.Obstacle.{Obstacle}
 use Rattle.strat_promote.specs.declared.step.Task.{Task}
 use Rattle.def_publish.specs.Contents.{Contents}
-use Rattle.def_slice.specs.Budget.{KeepsToBudget, SliceNumbers}
 use Rattle.def_slice.specs.Opened.{OpenPromotion, job_open}
-use Rattle.def_state.specs.Sound.{journal_max}
 use Rattle.strat_memory.proofs.OpenLemmas.{begun_reads, less_full, still_going, still_open}
 use Rattle.strat_memory.specs.Held.{HasReadFrom, Held, IsConsistent, IsOnDisk, IsOpenAt, MayGoOnWith, StandsWith}
 use Rattle.strat_memory.specs.Memory.{Memory, SealedLevel, IsReadyFrom}
@@ -22,7 +19,7 @@ use Rattle.strat_publish.proofs.SettledLemmas.{found_next}
 use Rattle.strat_publish.specs.Advancing.{HasEmptied, StandsForMore, StaysOpen}
 use Rattle.strat_publish.specs.Outcomes.{IsOkOrShort, RanShort}
 use Rattle.strat_publish.specs.Promoting.{StandsOpenWith, leads_in_memory}
-use Rattle.strat_publish.specs.Settling.{HasPublished, IsInstalled, TakesOpen, WritesBeside}
+use Rattle.strat_publish.specs.Settling.{IsInstalled, TakesOpen, WritesBeside}
 
 -- a call that succeeded, or gave up for want of memory
 pub ok_or_short : {T A : Type 0} (r : Result T Obstacle) → OnOk r A → (RanShort r → A) → IsOkOrShort r → A

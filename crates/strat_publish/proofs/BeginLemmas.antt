@@ -1,6 +1,6 @@
 -- A promotion that a store begins of what is sealed, and one that it has open: what is lent to it, and what it asks for.
-use Rattle.std.proofs.Common.{◌≡◌, ◌≤◌, ◌<◌, ◌+◌, ◌-◌, ◌*◌, ◌^◌, ℕ, zero, suc, true, ltb, inl, inr, List, [], ◌∷◌, ◌++◌, length, map, Option, Some, None, refl, sym, ap, ◌∙◌, subst, arith}
-use Rattle.std.specs.List.{count_by, list_all, slice_get, sum, range_with_len}
+use Rattle.std.proofs.Common.{◌≡◌, ◌≤◌, ◌<◌, ◌+◌, ◌^◌, ℕ, zero, suc, true, ltb, inl, inr, List, [], ◌∷◌, ◌++◌, length, map, Option, Some, None, refl, sym, ap, ◌∙◌, subst, arith}
+use Rattle.std.specs.List.{list_all, slice_get, sum, range_with_len}
 use Rattle.std.specs.Option.{option_and_then, option_map_or}
 use Rattle.std.specs.Prelude.{is_some}
 use Rattle.std.proofs.lemmas.Bool.{cases_lt}
@@ -10,15 +10,12 @@ use Rattle.strat_arena.specs.PoolView.{arena_at}
 use Rattle.strat_arena.specs.declared.pool.PoolEntry.{PoolEntry}
 use Rattle.strat_base.specs.Entries.{Entry}
 use Rattle.strat_base.specs.Tree.{Parents, parent_of}
-use Rattle.strat_base.specs.declared.descriptors.ArrayDesc.{ArrayDesc}
 use Rattle.strat_base.specs.declared.descriptors.Extent.{Extent}
-use Rattle.strat_base.specs.declared.descriptors.LevelDesc.{LevelDesc}
 use Rattle.def_crash.specs.Image.{Image}
 use Rattle.strat_extent.specs.Blocks.{SpaceView, times_in, used_count}
-use Rattle.def_bytes.specs.Arrays.{blocks_of}
 use Rattle.strat_level.specs.Levels.{level_numbered, leads_if_any}
 use Rattle.strat_level.specs.Memtable.{ItemList, ListStands, entries_held}
-use Rattle.strat_level.specs.Target.{IsTarget, leads_down_to, room_of_level}
+use Rattle.strat_level.specs.Target.{IsTarget, leads_down_to}
 use Rattle.strat_promote.specs.Closing.{AreAllUsed, all_extents}
 use Rattle.strat_promote.specs.Promotions.{IsBegun, IsFed, IsOpen, extents_taken, inputs_given, leads_listed, target_of, writers_of}
 use Rattle.strat_promote.specs.Stages.{stage_writers}
@@ -29,15 +26,15 @@ use Rattle.def_slice.proofs.BegunLemmas.{begun_goes, begun_is_open, begun_number
 use Rattle.def_slice.proofs.BudgetLemmas.{computed}
 use Rattle.def_slice.proofs.FedLemmas.{may_slice}
 use Rattle.def_slice.specs.Budget.{IsBudget, SliceNumbers, budget_for}
-use Rattle.def_slice.specs.Opened.{AreLent, AreNumbersOf, IsBegunOf, IsOpenOver, MayRead, OpenPromotion, opened_with, slice_numbers}
-use Rattle.def_publish.specs.Contents.{Contents, contents_head, contents_state, sealed_state}
+use Rattle.def_slice.specs.Opened.{AreLent, AreNumbersOf, IsBegunOf, IsOpenOver, MayRead, OpenPromotion, slice_numbers}
+use Rattle.def_publish.specs.Contents.{Contents, contents_state, sealed_state}
 use Rattle.def_publish.specs.Occupied.{IsSpaceOf, extents_of}
 use Rattle.def_publish.specs.Standing.{ReadsAs}
 use Rattle.def_state.specs.Level.{Level}
 use Rattle.def_state.specs.Sound.{IsSound}
 use Rattle.def_state.specs.State.{versions_of}
 use Rattle.strat_memory.proofs.OpenLemmas.{array_there}
-use Rattle.strat_memory.specs.Held.{Held, IsConsistent, IsOpenAt, MayGoOnWith, blocks_named, contents_held, head_held}
+use Rattle.strat_memory.specs.Held.{Held, IsConsistent, IsOpenAt, MayGoOnWith, contents_held, head_held}
 use Rattle.strat_memory.specs.Memory.{Memory, SealedLevel, oldest_entries, oldest_versions}
 use Rattle.strat_publish.proofs.SealedLemmas.{oldest_counts, oldest_listed, versions_then}
 use Rattle.strat_publish.proofs.WholeLemmas.{whole_promotes}

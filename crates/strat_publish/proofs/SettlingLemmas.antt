@@ -8,9 +8,8 @@ use Rattle.strat_base.specs.declared.descriptors.ArrayDesc.{ArrayDesc}
 use Rattle.strat_base.specs.declared.descriptors.Extent.{Extent}
 use Rattle.strat_base.specs.declared.descriptors.LevelDesc.{LevelDesc}
 use Rattle.def_crash.proofs.BlockLemmas.{blocks_refl}
-use Rattle.def_crash.specs.Blocks.{TearsBlocks}
 use Rattle.def_crash.specs.Image.{Image}
-use Rattle.def_crash.specs.Moments.{DiskView, Exposes}
+use Rattle.def_crash.specs.Moments.{DiskView}
 use Rattle.strat_extent.proofs.BlockLemmas.{times_listed}
 use Rattle.strat_extent.proofs.ChangeLemmas.{is_free_of, uses_unused}
 use Rattle.strat_extent.proofs.CountLemmas.{times_append}
@@ -34,7 +33,6 @@ use Rattle.def_publish.proofs.PartsLemmas.{reads_state}
 use Rattle.def_publish.specs.Contents.{Contents, contents_state, named_blocks}
 use Rattle.def_publish.specs.Next.{AreNewArrays, arrays_made}
 use Rattle.def_publish.specs.Occupied.{IsSpaceOf, UsesMore, arrays_in, extents_of}
-use Rattle.def_state.specs.Level.{Level}
 use Rattle.def_state.specs.State.{IsPaid}
 use Rattle.strat_publish.specs.Promoting.{StandsMade}
 use Rattle.strat_memory.specs.Filters.{LevelFilters, filters_after}

@@ -1,13 +1,12 @@
 -- One slice of a promotion that a store has open: what it writes beside the store, and what it leaves.
-use Rattle.std.proofs.Common.{◌≡◌, ◌≢◌, ◌≤◌, ◌<◌, ◌+◌, ◌-◌, ◌*◌, ◌^◌, ◌&&◌, ℕ, Bool, true, false, not, cond, leb, ltb, eqb, inl, inr, List, [], ◌∷◌, ◌++◌, length, map, flat_map, Contains, Option, Some, None, Result, Ok, Err, IsErrOf, refl, sym, ap, ◌∙◌, subst, arith}
+use Rattle.std.proofs.Common.{◌≡◌, ◌≤◌, ◌+◌, ◌-◌, ◌*◌, ◌&&◌, ℕ, Bool, true, false, not, cond, leb, ltb, eqb, List, [], ◌∷◌, ◌++◌, length, map, flat_map, Contains, Option, Some, None, Result, Ok, Err, refl, sym, ap, ◌∙◌, subst, arith}
 use Rattle.std.specs.List.{count_by}
 use Rattle.std.specs.Prelude.{IfOk, OnOk}
-use Rattle.std.proofs.lemmas.Bool.{and_parts, leb-true, false_from_ne_true, cases_Bool}
+use Rattle.std.proofs.lemmas.Bool.{and_parts, leb-true, false_from_ne_true}
 use Rattle.strat_array.specs.Progress.{ArrayProgress}
 use Rattle.strat_array.specs.Taking.{AreUsed}
 use Rattle.strat_arena.specs.declared.pool.PoolEntry.{PoolEntry}
 use Rattle.strat_base.proofs.ListFacts.{Among, among_right}
-use Rattle.strat_base.specs.Entries.{Entry}
 use Rattle.strat_base.specs.Tree.{Parents}
 use Rattle.strat_base.specs.declared.descriptors.ArrayDesc.{ArrayDesc}
 use Rattle.strat_base.specs.declared.descriptors.Extent.{Extent}
@@ -15,29 +14,26 @@ use Rattle.strat_base.specs.declared.descriptors.LevelDesc.{LevelDesc}
 use Rattle.def_crash.specs.Blocks.{TearsBlocks}
 use Rattle.def_crash.specs.Image.{Image}
 use Rattle.def_crash.specs.Moments.{DiskView, Exposes}
-use Rattle.strat_extent.specs.Blocks.{SpaceView, is_free, is_used, times_in, used_count, uses}
+use Rattle.strat_extent.specs.Blocks.{SpaceView, is_free, is_used, times_in, uses}
 use Rattle.def_bytes.specs.Arrays.{blocks_of}
 use Rattle.def_bytes.specs.Layout.{first_free}
 use Rattle.strat_level.specs.Memtable.{ItemList, ListStands, entries_held}
 use Rattle.strat_promote.proofs.SliceLemmas.{stage_few}
-use Rattle.strat_promote.specs.Closing.{AreAllUsed, all_extents}
+use Rattle.strat_promote.specs.Closing.{AreAllUsed}
 use Rattle.strat_promote.specs.Job.{Job, IsBadInput, arrays_to, blocks_listed}
 use Rattle.strat_promote.specs.Owned.{OwnsItsBlocks, extents_made}
-use Rattle.strat_promote.specs.Promotions.{FiltersStand, HasBegun, IsFed, IsItsJob, IsOpen, IsSliced, MatchProgress, ReadsFrom, ReadsOf, SamePromotion, entries_taken, extents_taken, inputs_given, level_of, target_of, writers_of}
+use Rattle.strat_promote.specs.Promotions.{FiltersStand, HasBegun, IsFed, IsItsJob, IsOpen, IsSliced, MatchProgress, ReadsFrom, ReadsOf, SamePromotion, entries_taken, extents_taken, level_of, target_of, writers_of}
 use Rattle.strat_promote.specs.Spaces.{HasAmpleRoom, TakesMore}
-use Rattle.strat_promote.specs.Stages.{IsSteady, IsUnderway, stage_writers}
 use Rattle.strat_promote.specs.StateInputs.{job_of_state}
-use Rattle.strat_promote.specs.Steps.{Inputs, IsReadySource, IsTaskIn}
+use Rattle.strat_promote.specs.Steps.{Inputs}
 use Rattle.strat_promote.specs.declared.promotion.Progress.{Progress}
 use Rattle.strat_promote.specs.declared.promotion.Progress.TheVariants as progress
 use Rattle.strat_promote.specs.declared.promotion.Promotion.{Promotion}
-use Rattle.strat_promote.specs.declared.stage.Stage.{Stage}
-use Rattle.strat_promote.specs.declared.stage.Stage.TheVariants as stage
 use Rattle.strat_promote.specs.declared.step.Task.{Task}
 use Rattle.def_publish.proofs.ListLemmas.{contained_among}
 use Rattle.def_publish.proofs.OccupiedLemmas.{counted_some, joined_beside}
 use Rattle.def_publish.proofs.PlaceLemmas.{newest_fits}
-use Rattle.def_publish.specs.Contents.{Contents, contents_state, sealed_state}
+use Rattle.def_publish.specs.Contents.{Contents, sealed_state}
 use Rattle.def_publish.specs.Next.{arrays_made}
 use Rattle.def_publish.specs.Occupied.{IsSpaceOf, extents_of}
 use Rattle.def_publish.specs.Standing.{LeavesContent, ReadsAs}
@@ -51,15 +47,14 @@ use Rattle.def_slice.specs.Budget.{KeepsToBudget}
 use Rattle.def_slice.specs.Ending.{SlicesLast}
 use Rattle.def_slice.specs.Opened.{AreLent, IsMostOfKey, IsOpenOver, LeavesEntry, OpenPromotion, job_open, slice_numbers, sliced_to}
 use Rattle.def_state.specs.Level.{Level}
-use Rattle.def_state.specs.Sound.{IsSound}
 use Rattle.strat_cursor.specs.Looking.{arrays_there}
 use Rattle.strat_memory.proofs.OpenLemmas.{array_there, block_there}
 use Rattle.strat_memory.specs.Held.{Held, IsConsistent, IsOpenAt, MayGoOnWith, StandsWith, blocks_named, contents_held}
-use Rattle.strat_memory.specs.Memory.{SealedLevel, oldest_entries}
+use Rattle.strat_memory.specs.Memory.{oldest_entries}
 use Rattle.strat_publish.proofs.BeginLemmas.{inputs, lent, sized, sliceable}
 use Rattle.strat_publish.proofs.SettledLemmas.{stands_beside}
 use Rattle.strat_publish.proofs.SettlingLemmas.{extents_have, listed_arrays, used_not_free}
-use Rattle.strat_publish.specs.Promoting.{HasMade, IsMadeBeside, IsPromotedTo, StandsEnded, StandsOpenWith}
+use Rattle.strat_publish.specs.Promoting.{HasMade, StandsEnded, StandsOpenWith}
 use Rattle.strat_publish.specs.Settling.{WritesBeside}
 
 -- what is told of a result with progress

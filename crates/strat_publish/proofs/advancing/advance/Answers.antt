@@ -1,13 +1,9 @@
-use Rattle.std.proofs.Common.{◌≡◌, ◌≤◌, ◌+◌, ℕ, inl, inr, ◌⊎◌, List, [], ◌∷◌, length, Option, None, Some, Result, Contains, refl, sym, ap, ◌∙◌, subst, arith}
-use Rattle.std.specs.Prelude.{IfSome, IsErrOf, is_some, option_map}
+use Rattle.std.proofs.Common.{◌≤◌, ◌+◌, ℕ, inr, List, [], ◌∷◌, length, Option, refl, sym, ap, ◌∙◌, subst, arith}
+use Rattle.std.specs.Prelude.{IfSome, option_map}
 use Rattle.strat_array.specs.Kept.{Blocks}
 use Rattle.strat_base.proofs.ResultFacts.{err_of, on_ok_then}
-use Rattle.strat_base.specs.declared.descriptors.ArrayDesc.{ArrayDesc}
 use Rattle.strat_base.specs.declared.descriptors.LevelDesc.{LevelDesc}
-use Rattle.def_crash.proofs.BlockLemmas.{exposed_once}
 use Rattle.def_crash.proofs.MomentLemmas.{reads_refl}
-use Rattle.def_crash.specs.Image.{Image}
-use Rattle.def_crash.specs.Moments.{Exposes}
 use Rattle.def_crash.specs.Trail.{Trail}
 use Rattle.strat_promote.proofs.ObstacleLemmas.{short_fit}
 use Rattle.strat_promote.specs.Job.{arrays_to, blocks_listed}
@@ -17,12 +13,12 @@ use Rattle.def_publish.specs.Contents.{Contents, contents_state}
 use Rattle.def_publish.specs.Occupied.{arrays_in}
 use Rattle.def_publish.specs.Standing.{ShowsTable}
 use Rattle.def_slice.specs.Budget.{KeepsToBudget, SliceNumbers}
-use Rattle.def_slice.specs.Opened.{OpenPromotion, AreNumbersOf, slice_numbers}
+use Rattle.def_slice.specs.Opened.{AreNumbersOf, slice_numbers}
 use Rattle.def_state.specs.State.{IsPaid}
 use Rattle.strat_cursor.specs.Looking.{arrays_there}
 use Rattle.strat_memory.proofs.OnDiskLemmas.{unread}
 use Rattle.strat_memory.specs.Memory.{Memory, IsReadyFrom}
-use Rattle.strat_memory.specs.Held.{HasReadFrom, Held, IsConsistent, IsOnDisk, IsOpenAt, MayGoOnWith, StandsWith, arrays_held}
+use Rattle.strat_memory.specs.Held.{IsConsistent, IsOnDisk, IsOpenAt, MayGoOnWith, StandsWith, arrays_held}
 use Rattle.strat_memory.specs.Paying.{ArePaidSince}
 use Rattle.strat_memory.specs.RecoveredFields.{held_of, empty_cache, open_of}
 use Rattle.strat_memory.specs.declared.open_store.OpenStore.{OpenStore}
@@ -35,9 +31,8 @@ use Rattle.strat_publish.proofs.RoomLemmas.{chain_short}
 use Rattle.strat_publish.proofs.SettledLemmas.{agree_once, agree_ready, consistent_ready, going_ready, none_damaged, open_ready, stands_ready, still_ready, trail_beside}
 use Rattle.strat_publish.proofs.SettlingLemmas.{chain_numbered, listed_left, unwritten}
 use Rattle.strat_publish.proofs.WholeLemmas.{arrays_few}
-use Rattle.strat_publish.specs.Advancing.{FillsLevel, HasAdvanced}
+use Rattle.strat_publish.specs.Advancing.{FillsLevel}
 use Rattle.strat_publish.specs.Promoting.{StandsOpenWith, leads_in_memory}
-use Rattle.strat_publish.specs.Settling.{KeepsPublished}
 use Rattle.strat_publish.proofs.advancing.advance.Given.{Over}
 use Rattle.strat_publish.proofs.advancing.advance.Goals.{After-seal_for_next, In_ok-promoting}
 use Rattle.strat_publish.proofs.advancing.advance.Goals as goal

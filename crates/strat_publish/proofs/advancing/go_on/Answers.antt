@@ -1,5 +1,5 @@
-use Rattle.std.proofs.Common.{◌≡◌, ◌≤◌, ◌<◌, ◌+◌, ◌-◌, ◌*◌, ℕ, inl, inr, ◌⊎◌, List, [], ◌∷◌, length, Option, None, Some, Result, refl, sym, ap, ◌∙◌, subst, arith}
-use Rattle.std.specs.Prelude.{is_some, option_map, OnOk}
+use Rattle.std.proofs.Common.{ℕ, inl, inr, ◌⊎◌, [], ◌∷◌, Option, refl, sym, ap, ◌∙◌, subst, arith}
+use Rattle.std.specs.Prelude.{is_some, option_map}
 use Rattle.strat_array.specs.Kept.{Blocks}
 use Rattle.strat_base.proofs.ResultFacts.{err_of, on_ok_then}
 use Rattle.def_crash.proofs.MomentLemmas.{passes_trans}
@@ -7,7 +7,7 @@ use Rattle.def_crash.proofs.BlockLemmas.{keeps_trans}
 use Rattle.def_crash.specs.Blocks.{AgreeOn}
 use Rattle.def_crash.specs.Faults.{HasCause}
 use Rattle.def_crash.specs.Image.{Image}
-use Rattle.def_crash.specs.Moments.{DiskView, Exposes, Passes}
+use Rattle.def_crash.specs.Moments.{Exposes, Passes}
 use Rattle.def_crash.specs.Trail.{Trail}
 use Rattle.strat_promote.proofs.PushingLemmas.{still_told}
 use Rattle.strat_promote.specs.Job.{blocks_listed}

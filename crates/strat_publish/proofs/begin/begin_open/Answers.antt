@@ -1,5 +1,4 @@
-use Rattle.std.proofs.Common.{◌≡◌, ◌≤◌, ◌+◌, ℕ, [], List, map, length, refl, sym, ap, ◌∙◌, subst, arith}
-use Rattle.std.specs.List.{sum}
+use Rattle.std.proofs.Common.{◌+◌, ℕ, [], sym, ap, ◌∙◌, subst, arith}
 use Rattle.std.proofs.lemmas.List.Sums.{sum_by-take-le}
 use Rattle.strat_base.proofs.ResultFacts.{err_of}
 use Rattle.strat_promote.specs.Job.{arrays_to}

@@ -1,8 +1,7 @@
-use Rattle.std.proofs.Common.{◌≡◌, ℕ, List, length, Option, None, Some, sym, subst}
+use Rattle.std.proofs.Common.{ℕ, List, length, Option, sym, subst}
 use Rattle.std.specs.Prelude.{IfSome, option_map}
 use Rattle.strat_base.proofs.ResultFacts.{if_ok_then}
 use Rattle.strat_promote.specs.Promotions.{target_of}
-use Rattle.def_slice.specs.Budget.{SliceNumbers}
 use Rattle.def_slice.specs.Opened.{AreNumbersOf, slice_numbers}
 use Rattle.strat_memory.specs.Held.{MayGoOnWith}
 use Rattle.strat_memory.specs.RecoveredFields.{held_of, open_of}

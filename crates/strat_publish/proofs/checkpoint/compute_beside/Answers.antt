@@ -1,8 +1,5 @@
-use Rattle.std.proofs.Common.{refl, sym, ap, subst, ◌∙◌, ℕ, arith, Option}
+use Rattle.std.proofs.Common.{refl, arith}
 use Rattle.strat_base.proofs.ResultFacts.{if_ok_then}
-use Rattle.strat_base.specs.declared.descriptors.LevelDesc.{LevelDesc}
-use Rattle.strat_manifest.specs.ManifestView.{manifest_of}
-use Rattle.def_publish.specs.Next.{arrays_made}
 use Rattle.strat_memory.specs.RecoveredFields.{held_of, empty_cache}
 use Rattle.strat_publish.proofs.CheckpointLemmas.{made_readied, made_apart}
 use Rattle.strat_publish.proofs.SettlingLemmas.{computes_all}

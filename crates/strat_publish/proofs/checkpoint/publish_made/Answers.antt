@@ -1,28 +1,21 @@
-use Rattle.std.proofs.Common.{◌≡◌, ◌<◌, ◌+◌, ℕ, List, length, Option, Result, Err, IsErrAnd, refl, sym, ap, ◌∙◌, subst, arith}
-use Rattle.std.proofs.lemmas.Result.{err_from_is_err_and}
+use Rattle.std.proofs.Common.{◌<◌, ℕ, refl, sym, ap, ◌∙◌, subst, arith}
 use Rattle.std.specs.Prelude.{option_map}
 use Rattle.strat_base.proofs.ResultFacts.{err_of}
-use Rattle.strat_base.specs.declared.failures.Trouble.TheVariants as trouble
 use Rattle.def_crash.proofs.MomentLemmas.{passes_trans}
 use Rattle.def_crash.specs.Blocks.{TearsBlocks}
-use Rattle.def_crash.specs.Moments.{DiskView}
 use Rattle.def_bytes.specs.SuperBlock.{Super}
 use Rattle.strat_array.specs.Kept.{Blocks}
 use Rattle.strat_gate.specs.SuperView.{super_of}
 use Rattle.strat_manifest.specs.ManifestView.{manifest_of}
-use Rattle.strat_promote.specs.Job.{blocks_listed}
-use Rattle.strat_promote.specs.Obstacles.{told_as}
-use Rattle.strat_promote.specs.declared.obstacle.Obstacle.{Obstacle}
-use Rattle.strat_promote.specs.declared.obstacle.Obstacle.TheVariants.{Device, Unfit}
 use Rattle.def_publish.specs.Contents.{Contents}
 use Rattle.def_publish.specs.Standing.{ShowsTable}
 use Rattle.strat_memory.proofs.PayingLemmas.{paid_then}
 use Rattle.strat_memory.specs.Admitting.{chained_of}
-use Rattle.strat_memory.specs.Held.{Held, IsConsistent, IsOnDisk, arrays_held}
+use Rattle.strat_memory.specs.Held.{Held, IsConsistent, IsOnDisk}
 use Rattle.strat_memory.specs.RecoveredFields.{held_of, empty_cache, open_of}
 use Rattle.strat_publish.proofs.CheckpointLemmas.{ended_made, made_taken_from}
 use Rattle.strat_publish.proofs.CountingLemmas.{paid_beside, counts_next}
-use Rattle.strat_publish.proofs.LaidLemmas.{beside_on, kept_on, published_on}
+use Rattle.strat_publish.proofs.LaidLemmas.{beside_on, published_on}
 use Rattle.strat_publish.proofs.ObstacleLemmas.{device_fit, device_short, off_ok, on_err}
 use Rattle.strat_publish.proofs.SettledLemmas.{trail_beside, stands_beside, arrays_kept, arrays_stay, one_trail, published_as, consistent_next}
 use Rattle.strat_publish.proofs.WholeLemmas.{whole_promotes}

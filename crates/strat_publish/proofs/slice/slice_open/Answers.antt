@@ -1,13 +1,11 @@
-use Rattle.std.proofs.Common.{◌≡◌, ◌≤◌, ◌+◌, ℕ, List, length, refl, sym, ap, ◌∙◌, subst, arith}
+use Rattle.std.proofs.Common.{◌+◌, sym, ap, subst}
 use Rattle.std.specs.Prelude.{option_map}
 use Rattle.strat_array.specs.Taking.{AreUsed}
 use Rattle.def_crash.proofs.BlockLemmas.{exposed_once}
 use Rattle.def_crash.specs.Image.{Image}
 use Rattle.def_crash.specs.Moments.{Exposes}
-use Rattle.def_slice.proofs.FedLemmas.{reads_its_arrays}
 use Rattle.def_slice.specs.Opened.{IsMostOfKey}
 use Rattle.def_publish.specs.Contents.{sealed_state}
-use Rattle.strat_memory.specs.Held.{contents_held}
 use Rattle.strat_memory.specs.RecoveredFields.{held_of, empty_cache, open_of}
 use Rattle.strat_promote.specs.Job.{Job, arrays_to, blocks_listed}
 use Rattle.strat_promote.specs.Promotions.{FiltersStand, HasBegun, IsItsJob, IsSliced, MatchProgress, ReadsOf, entries_taken, inputs_given, target_of}
