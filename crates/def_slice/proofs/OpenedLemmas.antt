@@ -23,7 +23,7 @@ use Rattle.def_bytes.specs.Arrays.{blocks_of, all_some}
 use Rattle.def_bytes.specs.Layout.{first_free}
 use Rattle.strat_level.specs.Levels.{level_numbered}
 use Rattle.strat_level.specs.Memtable.{ItemList}
-use Rattle.def_slice.specs.Opened.{KeepsBehind, AreLent, IsBegunOf, MayRead, OpenPromotion, MayBeSliced, IsOpenOver, LeavesEntry, job_open, sliced_to}
+use Rattle.def_slice.specs.Opened.{KeepsBehind, AreLent, IsBegunOf, IsMostOfKey, MayRead, OpenPromotion, MayBeSliced, IsOpenOver, LeavesEntry, job_open, slice_numbers, sliced_to}
 use Rattle.strat_promote.specs.Between.{KeepsItsBlocks}
 use Rattle.strat_promote.specs.Job.{Job, arrays_to, blocks_listed, input_count}
 use Rattle.strat_promote.specs.Promotions.{IsBegun, IsItsJob, HasBegun, extents_taken, entries_taken, leads_listed, target_of}
@@ -36,7 +36,7 @@ use Rattle.strat_promote.proofs.SliceLemmas.{count_same}
 use Rattle.strat_promote.proofs.StateInputsLemmas.{begun_its_job}
 use Rattle.def_recovery.specs.Head.{descriptors}
 use Rattle.def_recovery.specs.Opened.{level_on}
-use Rattle.def_slice.specs.Budget.{EndsInTime}
+use Rattle.def_slice.specs.Budget.{EndsInTime, KeepsToBudget}
 use Rattle.def_slice.proofs.BudgetLemmas.{goes_on as goes_on_time}
 use Rattle.def_publish.specs.Appending.{with_batch}
 use Rattle.def_publish.specs.Contents.{Contents, contents_state, named_blocks, sealed_state}

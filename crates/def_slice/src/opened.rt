@@ -27,7 +27,7 @@ ghost use Rattle.strat_promote.specs.declared.promotion.Progress.TheVariants as 
 ghost use Rattle.strat_promote.specs.declared.promotion.Promotion.{Promotion};
 ghost use Rattle.def_meaning.specs.StateTable.{table_of};
 ghost use Rattle.def_slice.specs.Budget.{IsBudget, KeepsToBudget, budget_for};
-ghost use Rattle.def_slice.specs.Opened.{KeepsBehind, AreLent, IsBegunOf, MayRead, OpenPromotion, MayBeSliced, IsOpenOver, StandsOpen, LeavesEntry, StepsOpen, AreNumbersOf, job_open, opened_with, sliced_to, slice_numbers};
+ghost use Rattle.def_slice.specs.Opened.{KeepsBehind, AreLent, IsBegunOf, IsMostOfKey, MayRead, OpenPromotion, MayBeSliced, IsOpenOver, StandsOpen, LeavesEntry, StepsOpen, AreNumbersOf, job_open, opened_with, sliced_to, slice_numbers};
 ghost use Rattle.def_publish.specs.Appending.{with_batch};
 ghost use Rattle.def_publish.specs.Contents.{Contents, contents_state, sealed_state};
 ghost use Rattle.def_publish.specs.Occupied.{IsSpaceOf};
