@@ -41,8 +41,7 @@ pub struct Buffers {
 }
 
 impl Buffers {
-    /// Empty buffers, with all the memory that frames, pairs and replies of a run need: about 1.1
-    /// MB.
+    /// Empty buffers, with all the memory that frames, pairs and replies of a run need: about 1.1 MB.
     pub fn new(alloc: Global) -> Result<Buffers, NoMemory>
         ensures ok { IfOk result (λ b. (b.frames.held ≡ []) × (b.pending ≡ none_pending)) }
     {
@@ -98,8 +97,8 @@ pub fn answer_frame<P: Protocol, D: Disk>(
     reply.fault()
 }
 
-/// Makes room for one reply more. Where the journal is full it sends all that are pending, since the next change empties the
-/// journal: what was sent for a change that was made leaves the run before the change leaves the journal.
+/// Makes room for one reply more. Where the journal is full it sends all that are pending, since the next change may do the
+/// last slice that empties the full region: what was sent for a change leaves the run before the change leaves the journal.
 fn make_way<K: Sink>(
     store: &Store,
     sink: &mut K,
