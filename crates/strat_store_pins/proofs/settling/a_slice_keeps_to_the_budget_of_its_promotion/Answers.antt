@@ -13,8 +13,8 @@ use Rattle.strat_store_pins.proofs.settling.a_slice_keeps_to_the_budget_of_its_p
 -- the budget of the promotion that is open
 open_budget : (f : Image) (s : Held) (x : Contents) (o : OpenPromotion) (now : Option OpenPromotion) (most : ℕ) → s.promoting ≡ Some o → HasMostOfKey f s x most → SlicesInBudget f s x now
     → KeepsToBudget (slice_numbers o) most (option_map slice_numbers now)
-open_budget f s x o now most open all slices =
-    slices (slice_numbers o) most (subst (λ (p : Option OpenPromotion). AreNumbersOf s.sb.mem (length s.log.list) (leads_in_memory s.memory s.levels) p (slice_numbers o)) (sym open) refl) all
+open_budget f s x o now most going all slices =
+    slices (slice_numbers o) most (subst (λ (p : Option OpenPromotion). AreNumbersOf s.sb.mem (length s.log.list) (leads_in_memory s.memory s.levels) p (slice_numbers o)) (sym going) refl) all
 
 -- that of one that begins
 begun_numbers : (s : Held) → ℕ → SliceNumbers
@@ -31,15 +31,15 @@ begun_budget f s x now target most none is all slices =
     (subst (λ (p : Option OpenPromotion). AreNumbersOf s.sb.mem (length s.log.list) (leads_in_memory s.memory s.levels) p (begun_numbers s target)) (sym none) (target, is, refl)) all
 
 pub returns-clause-same : goal.returns-clause-same
-returns-clause-same c = λ f s x o now most open all slices.
-    let kept = open_budget f s x o (Some now) most open all slices in (kept.0, kept.1)
+returns-clause-same c = λ f s x o now most going all slices.
+    let kept = open_budget f s x o (Some now) most going all slices in (kept.0, kept.1)
 
 pub returns-clause-ok : goal.returns-clause-ok
-returns-clause-ok c = λ f s x o now most open all slices.
-    let kept = open_budget f s x o (Some now) most open all slices in (kept.2, kept.3)
+returns-clause-ok c = λ f s x o now most going all slices.
+    let kept = open_budget f s x o (Some now) most going all slices in (kept.2, kept.3)
 
 pub returns-clause-none : goal.returns-clause-none
-returns-clause-none c = λ f s x o most open all slices. open_budget f s x o None most open all slices
+returns-clause-none c = λ f s x o most going all slices. open_budget f s x o None most going all slices
 
 pub returns-clause-found : goal.returns-clause-found
 returns-clause-found c = λ f s x now target most none is all slices.
