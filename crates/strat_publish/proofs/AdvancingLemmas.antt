@@ -25,14 +25,14 @@ use Rattle.strat_publish.specs.Promoting.{StandsOpenWith, leads_in_memory}
 use Rattle.strat_publish.specs.Settling.{HasPublished, IsInstalled, TakesOpen, WritesBeside}
 
 -- a call that succeeded, or gave up for want of memory
-pub ok_or_short : {A : Type 0} (r : Result ⊤ Obstacle) → OnOk r A → (RanShort r → A) → IsOkOrShort r → A
+pub ok_or_short : {T A : Type 0} (r : Result T Obstacle) → OnOk r A → (RanShort r → A) → IsOkOrShort r → A
 ok_or_short (Ok x) ok short is = ok
 ok_or_short (Err e) ok short is = short is
 
 -- what is told of both outcomes
 pub on_ok_both : {T E : Type 0} {A B : Type 0} (r : Result T E) → OnOk r A → OnOk r B → OnOk r (A × B)
-on_ok_both (Ok x) a b = (a, b)
-on_ok_both (Err e) a b = tt
+on_ok_both {T} {E} {A} {B} (Ok x) a b = (a, b)
+on_ok_both {T} {E} {A} {B} (Err e) a b = tt
 
 -- a store that keeps a promotion open
 pub whole_more : (s : Held) (o : OpenPromotion) → IsConsistent s → MayGoOnWith s o → IsConsistent (record s { promoting = Some o })
@@ -140,7 +140,7 @@ ready_leads mem m k levels (inr is) =
     ap (λ (j : Memory). leads_in_memory j levels) is.1 ∙ ap (λ (o : Option SealedLevel). leads_in_memory (record m { sealed = o }) levels) (sym is.0)
 
 -- its versions stay
-pub kept_parents : (r : Result ⊤ Obstacle) (s t : Held) → OnOk r (TakesOpen s t ⊎ IsInstalled s t) → OnErr r (t.memory ≡ s.memory) → t.memory.parents ≡ s.memory.parents
+pub kept_parents : {T : Type 0} (r : Result T Obstacle) (s t : Held) → OnOk r (TakesOpen s t ⊎ IsInstalled s t) → OnErr r (t.memory ≡ s.memory) → t.memory.parents ≡ s.memory.parents
 kept_parents (Ok u) s t (inl takes) err = ap (λ (h : Held). h.memory.parents) takes.held
 kept_parents (Ok u) s t (inr is) err = ap (λ (h : Held). h.memory.parents) is.next
 kept_parents (Err e) s t ok same = ap (λ (m : Memory). m.parents) same

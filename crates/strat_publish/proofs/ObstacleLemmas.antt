@@ -1,6 +1,6 @@
 -- Calls that give up without a fault of the device: memory ran out, or a bound was reached.
-use Rattle.std.proofs.Common.{◌≡◌, ℕ, Result, Err, IsErrAnd, refl, sym, ap, ◌∙◌, subst, arith}
-use Rattle.std.specs.Prelude.{IsErrOf}
+use Rattle.std.proofs.Common.{◌≡◌, ℕ, Result, Ok, Err, IsErrAnd, refl, sym, ap, ◌∙◌, subst, arith}
+use Rattle.std.specs.Prelude.{IsErrOf, OnErr, OnOk}
 use Rattle.std.proofs.lemmas.Result.{err_from_is_err_and}
 use Rattle.strat_base.specs.declared.failures.Trouble.{Trouble}
 use Rattle.strat_base.specs.declared.failures.Trouble.TheVariants as trouble
@@ -8,6 +8,15 @@ use Rattle.def_crash.specs.Faults.{HasCause}
 use Rattle.strat_promote.specs.Obstacles.{as_obstacle, told_as}
 use Rattle.strat_promote.specs.declared.obstacle.Obstacle.{Obstacle}
 use Rattle.strat_promote.specs.declared.obstacle.Obstacle.TheVariants.{NoMemory, Device, Damaged, Unfit}
+
+-- what is told where a call failed, and where it succeeded
+pub on_err : {T E : Type 0} (r : Result T E) (P : Type 0) → P → OnErr r P
+on_err (Ok x) P p = tt
+on_err (Err e) P p = p
+
+pub off_ok : {T E : Type 0} {Q : E → Type 0} (r : Result T E) (P : Type 0) → IsErrAnd r Q → OnOk r P
+off_ok (Ok x) P told = absurd told
+off_ok (Err e) P told = tt
 
 -- what is told as want of memory is no fault, and names no block
 not_device : (o : Obstacle) → told_as o ≡ trouble.NoMemory → o ≡ Device → ⊥

@@ -64,7 +64,7 @@ extents_have (r ∷ arrays) a b (inl same) here =
 extents_have (r ∷ arrays) a b (inr there) here = omega (arith, extents_have arrays a b there here, times_append r.extents (extents_of arrays) b)
 
 -- no block that is used is free
-used_not_free : (s : SpaceView) (b : ℕ) → 1 ≤ uses s b → is_free s b ≡ false
+pub used_not_free : (s : SpaceView) (b : ℕ) → 1 ≤ uses s b → is_free s b ≡ false
 used_not_free s b some = false_from_ne_true (is_free s b) (λ free.
     let no : is_used s b ≡ false = not-true (is_used s b) (and_parts (leb s.first b && ltb b 4294967295) (not (is_used s b)) free).1 in
     let none : uses s b ≡ 0 = ap {B = ℕ} (λ (u : Bool). cond u 1 0) no in

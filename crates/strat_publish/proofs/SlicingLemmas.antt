@@ -19,7 +19,7 @@ use Rattle.strat_extent.specs.Blocks.{SpaceView, is_free, is_used, times_in, use
 use Rattle.def_bytes.specs.Arrays.{blocks_of}
 use Rattle.def_bytes.specs.Layout.{first_free}
 use Rattle.strat_level.specs.Memtable.{ItemList, ListStands, entries_held}
-use Rattle.strat_promote.proofs.PlanBlocksLemmas.{writers_few}
+use Rattle.strat_promote.proofs.SliceLemmas.{stage_few}
 use Rattle.strat_promote.specs.Closing.{AreAllUsed, all_extents}
 use Rattle.strat_promote.specs.Job.{Job, IsBadInput, arrays_to, blocks_listed}
 use Rattle.strat_promote.specs.Owned.{OwnsItsBlocks, extents_made}
@@ -141,15 +141,6 @@ made_extents (Some level) = joined (λ (a : ArrayDesc). a.extents) level.arrays
 pub made_taken : (q : Promotion) (made : Option LevelDesc) → OwnsItsBlocks (writers_of q) made → extents_taken q ≡ extents_of (arrays_made made)
 made_taken q made owns =
     sym (joined (λ (w : ArrayProgress). w.extents) (writers_of q)) ∙ ap (λ (xs : List (List Extent)). flat_map (λ (es : List Extent). es) xs) (sym owns.owned) ∙ made_extents made
-
--- an open promotion has taken few blocks
-taken_few : (f : Image) (task : Task) (inputs : Inputs) (job : Job) (st : Stage) → IsReadySource task inputs → IsTaskIn f task inputs job → IsSteady task.horizon st → IsUnderway f job task.first st
-    → length (blocks_of (all_extents (stage_writers st))) ≤ 2 ^ 25
-taken_few f task inputs job stage.Begun ready told steady underway = omega arith
-taken_few f task inputs job (stage.Counting c) ready told steady underway = omega arith
-taken_few f task inputs job (stage.Writing w before) ready told steady underway =
-    let writing = underway.0 in
-    writers_few f task inputs job task.first w writing.all writing.groups ready told steady.filling writing.merged writing.planned _ writing.runs.merged writing.content
 
 -- a store with an open promotion, and what a slice of it did
 module _ (s : Held) (whole : IsConsistent s) (o : OpenPromotion) (going : MayGoOnWith s o) (list : ItemList) (pool : List PoolEntry) (parents : Parents)
@@ -341,5 +332,5 @@ module _ (s : Held) (whole : IsConsistent s) (o : OpenPromotion) (going : MayGoO
         let job = job_open x s.levels at.over.going.was in
         let its = does_its_job f x (length s.log.list) at.sealed.entries s.levels at.others o given (stands.stands.reads f stands.stands.left) stands.stands.sound at.over lent_x in
         let asks = asked list_stands in
-        let few = taken_few f o.promotion.task given job o.promotion.stage asks.1 its asks.0.steady at.over.underway in
+        let few = stage_few f o.promotion.task given job o.promotion.stage asks.1 its asks.0.steady at.over.underway in
         fits (omega (arith, at.room, few)) f job stands.stands.exposed its (listed_used f f x (length s.log.list) at.sealed.entries s.levels at.others o at.over) at.over.underway

@@ -75,7 +75,8 @@ pub record StandsOpenWith (v : DiskView) (s : Held) (x : Contents) (o : OpenProm
 abbrev pub KeepsOpenToBudget : DiskView → OpenStore → OpenPromotion → Option SliceNumbers → Type 0
 KeepsOpenToBudget v held o now = (f : Image) (x : Contents) (cached : Blocks) (most : ℕ)
     → Exposes v f → StandsOpenWith v (held_of held cached) x o
-    → IsMostOfKey f (job_of_state (sealed_state x) held.published.levels (target_of o.promotion)) most
+    → IsMostOfKey f
+    (job_of_state (sealed_state x) held.published.levels (target_of o.promotion)) most
     → KeepsToBudget (slice_numbers o) most now
 
 -- a promotion made this level of what a store holds, whatever its disk: its space has the blocks of the manifest, those of the

@@ -65,11 +65,11 @@ fn go_on<D: Disk>(
 ) -> Result<(), Obstacle>
     requires kept { ((cached : Blocks) → IsConsistent (held_of held.old cached)
         × MayGoOnWith (held_of held.old cached) (open_of promoting))
-        × (held.old.promoting ≡ None) }
-    requires len { held.old.sb.mem ≤ length held.old.journal.list }
-    requires room { length held.old.memory.cursors.retired
+        × (held.old.promoting ≡ None)
+        × (held.old.sb.mem ≤ length held.old.journal.list)
+        × (length held.old.memory.cursors.retired
         + length (arrays_in (manifest_of held.old.published.manifest).levels)
-        ≤ held.old.memory.cursors.room }
+        ≤ held.old.memory.cursors.room) }
     ensures ok { OnOk result ((x : Contents) (cached : Blocks)
         → StandsOpenWith (D.view disk.old) (held_of held.old cached) x (open_of promoting)
         → HasAdvanced (D.view disk.new) (held_of held.old cached) x (held_of held.new cached)) }
@@ -84,22 +84,23 @@ fn go_on<D: Disk>(
         → ReadsOf f (arrays_to held.old.published.levels (target_of promoting.promotion))
         promoting.promotion)
         → IsOnDisk (D.view disk.new) (held_of held.new cached) }
-    ensures none { RanShort result → (x : Contents) (cached : Blocks)
-        → StandsWith (D.view disk.old) (held_of held.old cached) x
-        → StandsWith (D.view disk.new) (held_of held.new cached) x }
     ensures trail { (x : Contents) (cached : Blocks)
         → StandsOpenWith (D.view disk.old) (held_of held.old cached) x (open_of promoting)
         → Trail ShowsTable (D.view disk.new) (D.view disk.old).moment
         (table_of (contents_state x) ∷ []) 0
         × (IsPaid (contents_state x) → ArePaidSince (D.view disk.new) (D.view disk.old).moment) }
-    ensures kept { OnOk result ((cached : Blocks) → IsConsistent (held_of held.new cached)) }
+    ensures kept { OnOk result ((cached : Blocks) → IsConsistent (held_of held.new cached))
+        × (RanShort result → (x : Contents) (cached : Blocks)
+        → StandsWith (D.view disk.old) (held_of held.old cached) x
+        → StandsWith (D.view disk.new) (held_of held.new cached) x) }
     ensures same { (held.new.sb.mem ≡ held.old.sb.mem)
         × (RanShort result → held.new ≡ held.old)
-        × OnErr result ((held.new.memory ≡ held.old.memory) × (held.new.promoting ≡ None)
-        × ((cached : Blocks) → KeepsPublished (held_of held.old cached) (held_of held.new cached))) }
+        × OnErr result ((held.new.memory ≡ held.old.memory)
+        × (held.new.promoting ≡ None) × ((cached : Blocks)
+        → KeepsPublished (held_of held.old cached) (held_of held.new cached))) }
     ensures err { IsErrOf result obstacle.Unfit → (x : Contents) (cached : Blocks)
         → StandsOpenWith (D.view disk.old) (held_of held.old cached) x (open_of promoting) → ⊥ }
-    ensures images { Passes (D.view disk.old) (D.view disk.new)
+    ensures time { Passes (D.view disk.old) (D.view disk.new)
         × ((f g : Image) → Exposes (D.view disk.old) f → Exposes (D.view disk.new) g
         → AgreeOn (blocks_listed (arrays_held held.old.memory held.old.published.levels)) f g) }
     ensures cause { HasCause Device (D.faults disk.old) (D.faults disk.new) result }
@@ -149,16 +150,16 @@ pub fn advance<D: Disk>(alloc: Global, held: &mut OpenStore, disk: &mut D) -> Re
     ensures disk { (IsErrOf result Device → ⊥) → (cached : Blocks)
         → IsOnDisk (D.view disk.old) (held_of held.old cached)
         → IsOnDisk (D.view disk.new) (held_of held.new cached) }
-    ensures none { RanShort result → (x : Contents) (cached : Blocks)
-        → StandsWith (D.view disk.old) (held_of held.old cached) x
-        → StandsWith (D.view disk.new) (held_of held.new cached) x }
     ensures trail { (x : Contents) (cached : Blocks)
         → StandsWith (D.view disk.old) (held_of held.old cached) x
         → Trail ShowsTable (D.view disk.new) (D.view disk.old).moment
         (table_of (contents_state x) ∷ []) 0
         × (IsPaid (contents_state x) → ArePaidSince (D.view disk.new) (D.view disk.old).moment) }
-    ensures kept { IsOkOrShort result → (cached : Blocks)
-        → IsConsistent (held_of held.new cached) }
+    ensures kept { (IsOkOrShort result → (cached : Blocks)
+        → IsConsistent (held_of held.new cached))
+        × (RanShort result → (x : Contents) (cached : Blocks)
+        → StandsWith (D.view disk.old) (held_of held.old cached) x
+        → StandsWith (D.view disk.new) (held_of held.new cached) x) }
     ensures same { (held.new.sb.mem ≡ held.old.sb.mem)
         × (held.new.memory.parents ≡ held.old.memory.parents)
         × (RanShort result → (held.new.journal ≡ held.old.journal)
@@ -168,7 +169,7 @@ pub fn advance<D: Disk>(alloc: Global, held: &mut OpenStore, disk: &mut D) -> Re
         × KeepsCursors (held_of held.old cached) (held_of held.new cached))) }
     ensures err { IsErrOf result obstacle.Unfit → (x : Contents) (cached : Blocks)
         → StandsWith (D.view disk.old) (held_of held.old cached) x → ⊥ }
-    ensures images { Passes (D.view disk.old) (D.view disk.new)
+    ensures time { Passes (D.view disk.old) (D.view disk.new)
         × ((f g : Image) → Exposes (D.view disk.old) f → Exposes (D.view disk.new) g
         → AgreeOn (blocks_listed (arrays_held held.old.memory held.old.published.levels)) f g) }
     ensures cause { HasCause Device (D.faults disk.old) (D.faults disk.new) result }

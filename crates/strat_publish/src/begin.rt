@@ -84,7 +84,7 @@ fn budget_at(fill: u32, mem: u32, sum: u64) -> u64
 /// store stands twice; none does where it stands.
 pub(crate) fn begin_open(alloc: Global, held: &OpenStore) -> Result<Promoting, Obstacle>
     requires kept { (cached : Blocks) → IsConsistent (held_of held.now cached) }
-    requires full { held.now.sb.mem ≤ length held.now.journal.list }
+    requires len { held.now.sb.mem ≤ length held.now.journal.list }
     requires found { IsTrue (is_some held.now.memory.sealed) }
     ensures kept { IfOk result (λ p. (cached : Blocks)
         → MayGoOnWith (held_of held.now cached) (open_of p)) }
@@ -130,7 +130,7 @@ pub(crate) fn open_now(
 ) -> Result<Promoting, Obstacle>
     requires kept { (cached : Blocks) → IsConsistent (held_of held.now cached)
         × IfSome (option_map open_of taken) (MayGoOnWith (held_of held.now cached)) }
-    requires full { held.now.sb.mem ≤ length held.now.journal.list }
+    requires len { held.now.sb.mem ≤ length held.now.journal.list }
     requires found { IsTrue (is_some held.now.memory.sealed) }
     ensures kept { IfOk result (λ p. (cached : Blocks)
         → MayGoOnWith (held_of held.now cached) (open_of p)) }

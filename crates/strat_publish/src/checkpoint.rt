@@ -368,12 +368,12 @@ pub(crate) fn publish_made<D: Disk>(
     requires kept { ((cached : Blocks) → IsConsistent (held_of held.old cached)
         × HasMade (held_of held.old cached) promoting.space (target_of promoting.promotion)
         (level_of promoting.promotion))
-        × (has_ended promoting.promotion ≡ true) × (held.old.promoting ≡ None) }
-    requires len { held.old.sb.mem ≤ length held.old.journal.list }
-    requires found { IsTrue (is_some held.old.memory.sealed) }
-    requires room { length held.old.memory.cursors.retired
+        × (has_ended promoting.promotion ≡ true) × (held.old.promoting ≡ None)
+        × (held.old.sb.mem ≤ length held.old.journal.list)
+        × IsTrue (is_some held.old.memory.sealed)
+        × (length held.old.memory.cursors.retired
         + length (arrays_in (manifest_of held.old.published.manifest).levels)
-        ≤ held.old.memory.cursors.room }
+        ≤ held.old.memory.cursors.room) }
     ensures ok { OnOk result ((x : Contents) (cached : Blocks)
         → StandsEnded (D.view disk.old) (held_of held.old cached) x (open_of promoting)
         → IsPublishedAs (D.view disk.new) x (held_of held.new cached)
@@ -384,22 +384,23 @@ pub(crate) fn publish_made<D: Disk>(
     ensures disk { (IsErrOf result Device → ⊥) → (cached : Blocks)
         → IsOnDisk (D.view disk.old) (held_of held.old cached)
         → IsOnDisk (D.view disk.new) (held_of held.new cached) }
-    ensures none { RanShort result → (x : Contents) (cached : Blocks)
-        → StandsWith (D.view disk.old) (held_of held.old cached) x
-        → StandsWith (D.view disk.new) (held_of held.new cached) x }
     ensures trail { (x : Contents) (cached : Blocks)
         → StandsEnded (D.view disk.old) (held_of held.old cached) x (open_of promoting)
         → Trail ShowsTable (D.view disk.new) (D.view disk.old).moment
         (table_of (contents_state x) ∷ []) 0
         × (IsPaid (contents_state x) → ArePaidSince (D.view disk.new) (D.view disk.old).moment) }
-    ensures kept { OnOk result ((cached : Blocks) → IsConsistent (held_of held.new cached)) }
+    ensures kept { OnOk result ((cached : Blocks) → IsConsistent (held_of held.new cached))
+        × (RanShort result → (x : Contents) (cached : Blocks)
+        → StandsWith (D.view disk.old) (held_of held.old cached) x
+        → StandsWith (D.view disk.new) (held_of held.new cached) x) }
     ensures same { (held.new.sb.mem ≡ held.old.sb.mem)
         × (RanShort result → held.new ≡ held.old)
-        × OnErr result ((held.new.memory ≡ held.old.memory) × (held.new.promoting ≡ None)
-        × ((cached : Blocks) → KeepsPublished (held_of held.old cached) (held_of held.new cached))) }
+        × OnErr result ((held.new.memory ≡ held.old.memory)
+        × (held.new.promoting ≡ None) × ((cached : Blocks)
+        → KeepsPublished (held_of held.old cached) (held_of held.new cached))) }
     ensures err { IsErrOf result obstacle.Unfit → (x : Contents) (cached : Blocks)
         → StandsEnded (D.view disk.old) (held_of held.old cached) x (open_of promoting) → ⊥ }
-    ensures images { Passes (D.view disk.old) (D.view disk.new)
+    ensures time { Passes (D.view disk.old) (D.view disk.new)
         × ((f g : Image) → Exposes (D.view disk.old) f → Exposes (D.view disk.new) g
         → AgreeOn (blocks_listed (arrays_held held.old.memory held.old.published.levels)) f g) }
     ensures cause { HasCause Device (D.faults disk.old) (D.faults disk.new) result }

@@ -227,8 +227,8 @@ pub(crate) fn compute_next<D: Disk>(
     space: &mut Space,
     disk: &mut D,
 ) -> Result<Computed, Obstacle>
-    requires len { made.entries ≡ min (entries_if_any made.level) (2 ^ 64 - 1) }
-    requires fits { (1 ≤ space.old.first) × (1 ≤ made.target) }
+    requires fits { (1 ≤ space.old.first) × (1 ≤ made.target)
+        × (made.entries ≡ min (entries_if_any made.level) (2 ^ 64 - 1)) }
     ensures ok { IfOk result (λ r. (x : Contents) (log : Log) (others : List Extent)
         → MayCompute (D.view disk.old) space.old memory.now log x made.target made.level
         made.filters others
@@ -237,14 +237,14 @@ pub(crate) fn compute_next<D: Disk>(
         r.made.target r.made.level r.first r.length r.chain others r.made.filters) }
     ensures found { IfOk result (λ r. manifest_of r.manifest
         ≡ manifest_after (manifest_of old.now) memory.now r.made.target r.made.level) }
-    ensures same { IfOk result (λ r. r.made ≡ made) }
     ensures disk { IfOk result (λ r. WritesManifest (D.view disk.old) (D.view disk.new)
         r.first r.length
         (record { manifest = manifest_of r.manifest; blocks = blocks_of r.chain })) }
     ensures room { IfOk result (λ r. IsMarked space.old r.chain space.new) }
     ensures fits { IfOk result (λ r. (space.old.first ≤ r.first) × (r.first < 4294967295)
         × (29 ≤ r.length)
-        × IsTrue (is_lawful_manifest newest_format (manifest_of r.manifest))) }
+        × IsTrue (is_lawful_manifest newest_format (manifest_of r.manifest))
+        × (r.made ≡ made)) }
     ensures err { IsErrOf result obstacle.Unfit
         → space.old.first + used_count space.old + 2 ^ 30
         < 4294967295 + length (blocks_of (extents_of (arrays_made made.level)))

@@ -9,7 +9,6 @@ use Rattle.def_crash.proofs.MomentLemmas.{reads_refl}
 use Rattle.def_crash.specs.Image.{Image}
 use Rattle.def_crash.specs.Moments.{Exposes}
 use Rattle.strat_promote.proofs.ObstacleLemmas.{short_fit}
-use Rattle.strat_promote.proofs.OpeningLemmas.{on_err}
 use Rattle.strat_promote.specs.Job.{arrays_to, blocks_listed}
 use Rattle.strat_promote.specs.Promotions.{ReadsOf, target_of}
 use Rattle.def_publish.specs.Contents.{Contents}
@@ -26,7 +25,7 @@ use Rattle.strat_memory.specs.declared.open_store.Promoting.{Promoting}
 use Rattle.strat_publish.proofs.AdvancingLemmas.{found_all, kept_parents, ok_or_short, on_err_then, read_open, ready_leads, stands_reads, taken_open}
 use Rattle.strat_publish.proofs.CountingLemmas.{paid_beside}
 use Rattle.strat_publish.proofs.LaidLemmas.{kept_on}
-use Rattle.strat_publish.proofs.ObstacleLemmas.{short_block, short_cause}
+use Rattle.strat_publish.proofs.ObstacleLemmas.{on_err, short_block, short_cause}
 use Rattle.strat_publish.proofs.RoomLemmas.{chain_short}
 use Rattle.strat_publish.proofs.SettledLemmas.{agree_once, agree_ready, consistent_ready, going_ready, none_damaged, open_ready, stands_ready, still_ready, trail_beside}
 use Rattle.strat_publish.proofs.SettlingLemmas.{chain_numbered, listed_left, unwritten}
@@ -52,16 +51,9 @@ pub open_now-requires-clause-found : goal.open_now-requires-clause-found
 open_now-requires-clause-found g c = c.in_ok-seal_for_next.ensures.ok.0
 
 pub go_on-requires-clause-kept : goal.go_on-requires-clause-kept
-go_on-requires-clause-kept g c = (λ cached. ((consistent_ready (held_of c.args.held.now cached) c.seal_for_next.new.memory (option_map open_of c.take-taken.new.self) (ap (option_map open_of) c.take-taken.ensures.after) c.seal_for_next.ensures.same c.requires.kept.1 (c.requires.kept.0 cached)), c.in_ok-promoting.ensures.kept cached), c.take-taken.ensures.after)
-
-pub go_on-requires-clause-room : goal.go_on-requires-clause-room
-go_on-requires-clause-room g c =
-    subst (λ (ls : List LevelDesc). length c.seal_for_next.new.memory.cursors.retired + length (arrays_in ls) ≤ c.seal_for_next.new.memory.cursors.room) c.as_slice.ensures.ok c.in_ok-seal_for_next.ensures.ok.1
+go_on-requires-clause-kept g c = (λ cached. ((consistent_ready (held_of c.args.held.now cached) c.seal_for_next.new.memory (option_map open_of c.take-taken.new.self) (ap (option_map open_of) c.take-taken.ensures.after) c.seal_for_next.ensures.same c.requires.kept.1 (c.requires.kept.0 cached)), c.in_ok-promoting.ensures.kept cached), c.take-taken.ensures.after, c.requires.kept.1, subst (λ (ls : List LevelDesc). length c.seal_for_next.new.memory.cursors.retired + length (arrays_in ls) ≤ c.seal_for_next.new.memory.cursors.room) c.as_slice.ensures.ok c.in_ok-seal_for_next.ensures.ok.1)
 
 -- no memory for the seal
-
-pub returns-in_err-seal_for_next-clause-none : goal.returns-in_err-seal_for_next-clause-none
-returns-in_err-seal_for_next-clause-none g c = λ short x cached stands. (stands_ready (g.D.Disk.view c.args.disk.now) (held_of c.args.held.now cached) x c.seal_for_next.new.memory (option_map open_of c.take-taken.new.self) (ap (option_map open_of) c.take-taken.ensures.after) stands)
 
 pub returns-in_err-seal_for_next-clause-trail : goal.returns-in_err-seal_for_next-clause-trail
 returns-in_err-seal_for_next-clause-trail g c = λ x cached stands.
@@ -69,7 +61,10 @@ returns-in_err-seal_for_next-clause-trail g c = λ x cached stands.
     (trail_beside (g.D.Disk.view c.args.disk.now) (g.D.Disk.view c.args.disk.now) (held_of c.args.held.now cached) x stands still, λ paid. paid_beside (g.D.Disk.view c.args.disk.now) (g.D.Disk.view c.args.disk.now) (held_of c.args.held.now cached) x stands still paid)
 
 pub returns-in_err-seal_for_next-clause-kept : goal.returns-in_err-seal_for_next-clause-kept
-returns-in_err-seal_for_next-clause-kept g c = λ short cached. (consistent_ready (held_of c.args.held.now cached) c.seal_for_next.new.memory (option_map open_of c.take-taken.new.self) (ap (option_map open_of) c.take-taken.ensures.after) c.seal_for_next.ensures.same c.requires.kept.1 (c.requires.kept.0 cached))
+returns-in_err-seal_for_next-clause-kept g c = (
+  λ short cached. (consistent_ready (held_of c.args.held.now cached) c.seal_for_next.new.memory (option_map open_of c.take-taken.new.self) (ap (option_map open_of) c.take-taken.ensures.after) c.seal_for_next.ensures.same c.requires.kept.1 (c.requires.kept.0 cached)),
+  λ short x cached stands. (stands_ready (g.D.Disk.view c.args.disk.now) (held_of c.args.held.now cached) x c.seal_for_next.new.memory (option_map open_of c.take-taken.new.self) (ap (option_map open_of) c.take-taken.ensures.after) stands),
+)
 
 pub returns-in_err-seal_for_next-clause-err : goal.returns-in_err-seal_for_next-clause-err
 returns-in_err-seal_for_next-clause-err g c = λ unfit. absurd (short_fit c.from_residual.result c.from_residual.ensures.1 unfit)
@@ -83,16 +78,13 @@ returns-in_err-seal_for_next-clause-same g c =
     let still = still_ready c.args.held.now.sb.mem c.args.held.now.memory c.seal_for_next.new.memory c.seal_for_next.new.memory refl c.seal_for_next.ensures.same in
     (refl, still.0, λ short. (refl, c.seal_for_next.ensures.same), on_err c.from_residual.result _ (c.take-taken.ensures.after, λ cached. (record { slot = refl; sb = refl; chained = refl; levels = refl; filters = refl }, still.1)))
 
-pub returns-in_err-seal_for_next-clause-images : goal.returns-in_err-seal_for_next-clause-images
-returns-in_err-seal_for_next-clause-images g c = (
+pub returns-in_err-seal_for_next-clause-time : goal.returns-in_err-seal_for_next-clause-time
+returns-in_err-seal_for_next-clause-time g c = (
   (reads_refl (g.D.Disk.view c.args.disk.now)).time,
   λ f h was now. agree_once (g.D.Disk.view c.args.disk.now) f h (blocks_listed (arrays_held c.args.held.now.memory c.args.held.now.published.levels)) was now,
 )
 
 -- no memory for the beginning, or a block stands twice
-
-pub returns-in_err-promoting-clause-none : goal.returns-in_err-promoting-clause-none
-returns-in_err-promoting-clause-none g c = λ short x cached stands. (stands_ready (g.D.Disk.view c.args.disk.now) (held_of c.args.held.now cached) x c.seal_for_next.new.memory (option_map open_of c.take-taken.new.self) (ap (option_map open_of) c.take-taken.ensures.after) stands)
 
 pub returns-in_err-promoting-clause-trail : goal.returns-in_err-promoting-clause-trail
 returns-in_err-promoting-clause-trail g c = λ x cached stands.
@@ -100,7 +92,10 @@ returns-in_err-promoting-clause-trail g c = λ x cached stands.
     (trail_beside (g.D.Disk.view c.args.disk.now) (g.D.Disk.view c.args.disk.now) (held_of c.args.held.now cached) x stands still, λ paid. paid_beside (g.D.Disk.view c.args.disk.now) (g.D.Disk.view c.args.disk.now) (held_of c.args.held.now cached) x stands still paid)
 
 pub returns-in_err-promoting-clause-kept : goal.returns-in_err-promoting-clause-kept
-returns-in_err-promoting-clause-kept g c = λ short cached. (consistent_ready (held_of c.args.held.now cached) c.seal_for_next.new.memory (option_map open_of c.take-taken.new.self) (ap (option_map open_of) c.take-taken.ensures.after) c.seal_for_next.ensures.same c.requires.kept.1 (c.requires.kept.0 cached))
+returns-in_err-promoting-clause-kept g c = (
+  λ short cached. (consistent_ready (held_of c.args.held.now cached) c.seal_for_next.new.memory (option_map open_of c.take-taken.new.self) (ap (option_map open_of) c.take-taken.ensures.after) c.seal_for_next.ensures.same c.requires.kept.1 (c.requires.kept.0 cached)),
+  λ short x cached stands. (stands_ready (g.D.Disk.view c.args.disk.now) (held_of c.args.held.now cached) x c.seal_for_next.new.memory (option_map open_of c.take-taken.new.self) (ap (option_map open_of) c.take-taken.ensures.after) stands),
+)
 
 pub returns-in_err-promoting-clause-err : goal.returns-in_err-promoting-clause-err
 returns-in_err-promoting-clause-err g c = λ unfit x cached stands.
@@ -115,8 +110,8 @@ returns-in_err-promoting-clause-same g c =
     let still = still_ready c.args.held.now.sb.mem c.args.held.now.memory c.seal_for_next.new.memory c.seal_for_next.new.memory refl c.seal_for_next.ensures.same in
     (refl, still.0, λ short. (refl, c.seal_for_next.ensures.same), on_err c.from_residual-in_err-promoting.result _ (c.take-taken.ensures.after, λ cached. (record { slot = refl; sb = refl; chained = refl; levels = refl; filters = refl }, still.1)))
 
-pub returns-in_err-promoting-clause-images : goal.returns-in_err-promoting-clause-images
-returns-in_err-promoting-clause-images g c = (
+pub returns-in_err-promoting-clause-time : goal.returns-in_err-promoting-clause-time
+returns-in_err-promoting-clause-time g c = (
   (reads_refl (g.D.Disk.view c.args.disk.now)).time,
   λ f h was now. agree_once (g.D.Disk.view c.args.disk.now) f h (blocks_listed (arrays_held c.args.held.now.memory c.args.held.now.published.levels)) was now,
 )
@@ -154,23 +149,22 @@ returns-clause-disk g c = λ other cached on.
     c.in_ok-promoting.ensures.reads f (subst (λ (o : Option Promoting). IfSome (option_map open_of o) (λ p. ReadsOf f (arrays_to c.args.held.now.published.levels (target_of p.promotion)) p.promotion)) (sym c.take-taken.ensures.value)
     (read_open (g.D.Disk.view c.args.disk.now) (held_of c.args.held.now cached) on f now)))
 
-pub returns-clause-none : goal.returns-clause-none
-returns-clause-none g c = λ short x cached stands. c.go_on.ensures.none short x cached (stands_ready (g.D.Disk.view c.args.disk.now) (held_of c.args.held.now cached) x c.seal_for_next.new.memory (option_map open_of c.take-taken.new.self) (ap (option_map open_of) c.take-taken.ensures.after) stands)
-
 pub returns-clause-trail : goal.returns-clause-trail
 returns-clause-trail g c = λ x cached stands. c.go_on.ensures.trail x cached (taken_open (g.D.Disk.view c.args.disk.now) (held_of (record c.args.held.now { promoting = c.take-taken.new.self; memory = c.seal_for_next.new.memory }) cached) x (stands_ready (g.D.Disk.view c.args.disk.now) (held_of c.args.held.now cached) x c.seal_for_next.new.memory (option_map open_of c.take-taken.new.self) (ap (option_map open_of) c.take-taken.ensures.after) stands) (open_of c.in_ok-promoting.promoting) (c.in_ok-promoting.ensures.ok stands.stands.content x cached (stands.stands.reads stands.stands.content stands.stands.left) stands.stands.sound stands.held (chain_short (g.D.Disk.view c.args.disk.now) (held_of c.args.held.now cached) x (c.requires.kept.0 cached) stands) (subst (λ (o : Option Promoting). IfSome (option_map open_of o) (IsOpenAt stands.stands.content (held_of (record c.args.held.now { promoting = c.take-taken.new.self; memory = c.seal_for_next.new.memory }) cached) x (length c.args.held.now.journal.list))) (sym c.take-taken.ensures.value) (open_ready stands.stands.content (held_of c.args.held.now cached) x (length c.args.held.now.journal.list) c.seal_for_next.new.memory (option_map open_of c.take-taken.new.self) c.seal_for_next.ensures.same stands.open_over))))
 
 pub returns-clause-kept : goal.returns-clause-kept
-returns-clause-kept g c =
-    ok_or_short c.go_on.result c.go_on.ensures.kept (λ short cached. subst (λ (h : OpenStore). IsConsistent (held_of h cached)) (sym (c.go_on.ensures.same.1 short)) (consistent_ready (held_of c.args.held.now cached) c.seal_for_next.new.memory (option_map open_of c.take-taken.new.self) (ap (option_map open_of) c.take-taken.ensures.after) c.seal_for_next.ensures.same c.requires.kept.1 (c.requires.kept.0 cached)))
+returns-clause-kept g c = (
+  ok_or_short c.go_on.result c.go_on.ensures.kept.0 (λ short cached. subst (λ (h : OpenStore). IsConsistent (held_of h cached)) (sym (c.go_on.ensures.same.1 short)) (consistent_ready (held_of c.args.held.now cached) c.seal_for_next.new.memory (option_map open_of c.take-taken.new.self) (ap (option_map open_of) c.take-taken.ensures.after) c.seal_for_next.ensures.same c.requires.kept.1 (c.requires.kept.0 cached))),
+  λ short x cached stands. c.go_on.ensures.kept.1 short x cached (stands_ready (g.D.Disk.view c.args.disk.now) (held_of c.args.held.now cached) x c.seal_for_next.new.memory (option_map open_of c.take-taken.new.self) (ap (option_map open_of) c.take-taken.ensures.after) stands),
+)
 
 pub returns-clause-err : goal.returns-clause-err
 returns-clause-err g c = λ unfit x cached stands. c.go_on.ensures.err unfit x cached (taken_open (g.D.Disk.view c.args.disk.now) (held_of (record c.args.held.now { promoting = c.take-taken.new.self; memory = c.seal_for_next.new.memory }) cached) x (stands_ready (g.D.Disk.view c.args.disk.now) (held_of c.args.held.now cached) x c.seal_for_next.new.memory (option_map open_of c.take-taken.new.self) (ap (option_map open_of) c.take-taken.ensures.after) stands) (open_of c.in_ok-promoting.promoting) (c.in_ok-promoting.ensures.ok stands.stands.content x cached (stands.stands.reads stands.stands.content stands.stands.left) stands.stands.sound stands.held (chain_short (g.D.Disk.view c.args.disk.now) (held_of c.args.held.now cached) x (c.requires.kept.0 cached) stands) (subst (λ (o : Option Promoting). IfSome (option_map open_of o) (IsOpenAt stands.stands.content (held_of (record c.args.held.now { promoting = c.take-taken.new.self; memory = c.seal_for_next.new.memory }) cached) x (length c.args.held.now.journal.list))) (sym c.take-taken.ensures.value) (open_ready stands.stands.content (held_of c.args.held.now cached) x (length c.args.held.now.journal.list) c.seal_for_next.new.memory (option_map open_of c.take-taken.new.self) c.seal_for_next.ensures.same stands.open_over))))
 
-pub returns-clause-images : goal.returns-clause-images
-returns-clause-images g c = (
-  c.go_on.ensures.images.0,
-  λ f h was now. agree_ready c.args.held.now.sb.mem c.args.held.now.memory c.seal_for_next.new.memory c.args.held.now.published.levels f h c.seal_for_next.ensures.same (c.go_on.ensures.images.1 f h was now),
+pub returns-clause-time : goal.returns-clause-time
+returns-clause-time g c = (
+  c.go_on.ensures.time.0,
+  λ f h was now. agree_ready c.args.held.now.sb.mem c.args.held.now.memory c.seal_for_next.new.memory c.args.held.now.published.levels f h c.seal_for_next.ensures.same (c.go_on.ensures.time.1 f h was now),
 )
 
 pub returns-clause-same : goal.returns-clause-same

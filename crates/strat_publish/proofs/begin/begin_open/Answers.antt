@@ -39,20 +39,20 @@ budget_at-budget-requires-clause-fits c =
 pub returns-clause-kept : goal.returns-clause-kept
 returns-clause-kept c = λ cached.
     goes (held_of c.args.held.now cached) (c.requires.kept cached) c.sealed_parts.result.0.now.list c.sealed_parts.result.1.now c.sealed_parts.result.2.now.parents (sealed_some c.args.held.now.memory.sealed c.requires.found).0 (sealed_some c.args.held.now.memory.sealed c.requires.found).1
-    c.sealed_parts.ensures.ok c.sealed_parts.ensures.found.0 c.requires.full c.sealed_counts-versions.result.0 c.sealed_counts-versions.ensures.ok.0 c.in_ok-promotion.promotion c.in_ok-promotion.ensures.ok c.in_ok-space.space (c.in_ok-space.ensures.ok cached []) c.budget_at-budget.result c.leads-sum.result (budget_some _ _ _ _ c.budget_at-budget.ensures.ok)
+    c.sealed_parts.ensures.ok c.sealed_parts.ensures.found.0 c.requires.len c.sealed_counts-versions.result.0 c.sealed_counts-versions.ensures.ok.0 c.in_ok-promotion.promotion c.in_ok-promotion.ensures.ok c.in_ok-space.space (c.in_ok-space.ensures.ok cached []) c.budget_at-budget.result c.leads-sum.result (budget_some _ _ _ _ c.budget_at-budget.ensures.ok)
 
 pub returns-clause-ok : goal.returns-clause-ok
 returns-clause-ok c = λ f x cached reads sound held short.
     open_at (held_of c.args.held.now cached) (c.requires.kept cached) c.sealed_parts.result.0.now.list c.sealed_parts.result.1.now c.sealed_parts.result.2.now.parents (sealed_some c.args.held.now.memory.sealed c.requires.found).0 (sealed_some c.args.held.now.memory.sealed c.requires.found).1
-    c.sealed_parts.ensures.ok c.sealed_parts.ensures.found.0 c.requires.full c.sealed_counts-versions.result.0 c.sealed_counts-versions.ensures.ok.0 c.in_ok-promotion.promotion c.in_ok-promotion.ensures.ok c.in_ok-space.space (c.in_ok-space.ensures.ok cached []) f x c.budget_at-budget.result c.leads-sum.result reads sound held c.leads-sum.ensures.ok
+    c.sealed_parts.ensures.ok c.sealed_parts.ensures.found.0 c.requires.len c.sealed_counts-versions.result.0 c.sealed_counts-versions.ensures.ok.0 c.in_ok-promotion.promotion c.in_ok-promotion.ensures.ok c.in_ok-space.space (c.in_ok-space.ensures.ok cached []) f x c.budget_at-budget.result c.leads-sum.result reads sound held c.leads-sum.ensures.ok
     (c.budget_at-budget.ensures.ok ∙ ap (λ (n : ℕ). budget_for c.args.held.now.sb.mem n c.leads-sum.result) c.count.ensures.ok) (c.in_ok-space.ensures.room short)
 
 pub returns-clause-found : goal.returns-clause-found
 returns-clause-found c = (
   numbers (held_of c.args.held.now (empty_cache 0)) (c.requires.kept (empty_cache 0)) c.sealed_parts.result.0.now.list c.sealed_parts.result.1.now c.sealed_parts.result.2.now.parents (sealed_some c.args.held.now.memory.sealed c.requires.found).0 (sealed_some c.args.held.now.memory.sealed c.requires.found).1
-      c.sealed_parts.ensures.ok c.sealed_parts.ensures.found.0 c.requires.full c.sealed_counts-versions.result.0 c.sealed_counts-versions.ensures.ok.0 c.in_ok-promotion.promotion c.in_ok-promotion.ensures.ok c.in_ok-space.space (c.in_ok-space.ensures.ok (empty_cache 0) []) c.budget_at-budget.result c.leads-sum.result c.leads-sum.ensures.ok (c.budget_at-budget.ensures.ok ∙ ap (λ (n : ℕ). budget_for c.args.held.now.sb.mem n c.leads-sum.result) c.count.ensures.ok),
+      c.sealed_parts.ensures.ok c.sealed_parts.ensures.found.0 c.requires.len c.sealed_counts-versions.result.0 c.sealed_counts-versions.ensures.ok.0 c.in_ok-promotion.promotion c.in_ok-promotion.ensures.ok c.in_ok-space.space (c.in_ok-space.ensures.ok (empty_cache 0) []) c.budget_at-budget.result c.leads-sum.result c.leads-sum.ensures.ok (c.budget_at-budget.ensures.ok ∙ ap (λ (n : ℕ). budget_for c.args.held.now.sb.mem n c.leads-sum.result) c.count.ensures.ok),
   fills (held_of c.args.held.now (empty_cache 0)) (c.requires.kept (empty_cache 0)) c.sealed_parts.result.0.now.list c.sealed_parts.result.1.now c.sealed_parts.result.2.now.parents (sealed_some c.args.held.now.memory.sealed c.requires.found).0 (sealed_some c.args.held.now.memory.sealed c.requires.found).1
-      c.sealed_parts.ensures.ok c.sealed_parts.ensures.found.0 c.requires.full c.sealed_counts-versions.result.0 c.sealed_counts-versions.ensures.ok.0 c.in_ok-promotion.promotion c.in_ok-promotion.ensures.ok c.in_ok-space.space (c.in_ok-space.ensures.ok (empty_cache 0) []),
+      c.sealed_parts.ensures.ok c.sealed_parts.ensures.found.0 c.requires.len c.sealed_counts-versions.result.0 c.sealed_counts-versions.ensures.ok.0 c.in_ok-promotion.promotion c.in_ok-promotion.ensures.ok c.in_ok-space.space (c.in_ok-space.ensures.ok (empty_cache 0) []),
   c.in_ok-space.ensures.ok,
 )
 

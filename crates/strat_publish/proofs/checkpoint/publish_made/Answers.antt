@@ -10,7 +10,6 @@ use Rattle.def_bytes.specs.SuperBlock.{Super}
 use Rattle.strat_array.specs.Kept.{Blocks}
 use Rattle.strat_gate.specs.SuperView.{super_of}
 use Rattle.strat_manifest.specs.ManifestView.{manifest_of}
-use Rattle.strat_promote.proofs.OpeningLemmas.{on_err}
 use Rattle.strat_promote.specs.Job.{blocks_listed}
 use Rattle.strat_promote.specs.Obstacles.{told_as}
 use Rattle.strat_promote.specs.declared.obstacle.Obstacle.{Obstacle}
@@ -24,7 +23,7 @@ use Rattle.strat_memory.specs.RecoveredFields.{held_of, empty_cache, open_of}
 use Rattle.strat_publish.proofs.CheckpointLemmas.{ended_made, made_taken_from}
 use Rattle.strat_publish.proofs.CountingLemmas.{paid_beside, counts_next}
 use Rattle.strat_publish.proofs.LaidLemmas.{beside_on, kept_on, published_on}
-use Rattle.strat_publish.proofs.ObstacleLemmas.{device_fit, device_short}
+use Rattle.strat_publish.proofs.ObstacleLemmas.{device_fit, device_short, off_ok, on_err}
 use Rattle.strat_publish.proofs.SettledLemmas.{trail_beside, stands_beside, arrays_kept, arrays_stay, one_trail, published_as, consistent_next}
 use Rattle.strat_publish.specs.Counting.{CountsWritten}
 use Rattle.strat_publish.specs.Outcomes.{IsPublishedAs}
@@ -63,13 +62,17 @@ returns-in_err-next-clause-err g c = λ unfit x cached st.
 pub returns-in_err-install-clause-err : goal.returns-in_err-install-clause-err
 returns-in_err-install-clause-err g c = λ unfit. absurd (device_fit c.from_residual-in_err-install.result c.from_residual-in_err-install.ensures.1 unfit)
 
-pub returns-in_err-next-clause-none : goal.returns-in_err-next-clause-none
-returns-in_err-next-clause-none g c = λ short x cached stands.
-    stands_beside (g.D.Disk.view c.args.disk.now) (g.D.Disk.view c.prepare_next.new.disk) (held_of c.args.held.now cached) x (ap (option_map open_of) c.requires.kept.2) stands (c.prepare_next.ensures.images cached)
-    (g.met.D.Disk.leaves_content c.prepare_next.new.disk)
+pub returns-in_err-next-clause-kept : goal.returns-in_err-next-clause-kept
+returns-in_err-next-clause-kept g c = (
+  off_ok c.from_residual.result _ c.from_residual.ensures.1,
+  λ short x cached stands.
+      stands_beside (g.D.Disk.view c.args.disk.now) (g.D.Disk.view c.prepare_next.new.disk) (held_of c.args.held.now cached) x (ap (option_map open_of) c.requires.kept.2) stands (c.prepare_next.ensures.images cached)
+      (g.met.D.Disk.leaves_content c.prepare_next.new.disk),
+)
 
-pub returns-in_err-install-clause-none : goal.returns-in_err-install-clause-none
-returns-in_err-install-clause-none g c = λ short. absurd (device_short c.from_residual-in_err-install.result c.from_residual-in_err-install.ensures.1 short)
+pub returns-in_err-install-clause-kept : goal.returns-in_err-install-clause-kept
+returns-in_err-install-clause-kept g c =
+    (off_ok c.from_residual-in_err-install.result _ c.from_residual-in_err-install.ensures.1, λ short. absurd (device_short c.from_residual-in_err-install.result c.from_residual-in_err-install.ensures.1 short))
 
 pub returns-in_err-next-clause-trail : goal.returns-in_err-next-clause-trail
 returns-in_err-next-clause-trail g c = λ x cached st.
@@ -89,7 +92,7 @@ returns-in_err-install-clause-trail g c = λ x cached st.
       one_trail ShowsTable w (g.D.Disk.view c.install.new.disk) _ _ c.install.ensures.time (trail_beside v w (held_of c.args.held.now cached) x st.stands (c.prepare_next.ensures.images cached)) laid.0,
       λ paid.
           paid_then w (g.D.Disk.view c.install.new.disk) v.moment c.install.ensures.time
-          (paid_beside v w (held_of c.args.held.now cached) x st.stands (c.prepare_next.ensures.images cached) paid) (laid.1 paid (ready.paid paid c.requires.len)),
+          (paid_beside v w (held_of c.args.held.now cached) x st.stands (c.prepare_next.ensures.images cached) paid) (laid.1 paid (ready.paid paid c.requires.kept.3)),
     )
 
 pub returns-clause-trail : goal.returns-clause-trail
@@ -101,7 +104,7 @@ returns-clause-trail g c = λ x cached st.
       one_trail ShowsTable w (g.D.Disk.view c.install.new.disk) _ _ c.install.ensures.time (trail_beside v w (held_of c.args.held.now cached) x st.stands (c.prepare_next.ensures.images cached)) laid.0,
       λ paid.
           paid_then w (g.D.Disk.view c.install.new.disk) v.moment c.install.ensures.time
-          (paid_beside v w (held_of c.args.held.now cached) x st.stands (c.prepare_next.ensures.images cached) paid) (laid.1 paid (ready.paid paid c.requires.len)),
+          (paid_beside v w (held_of c.args.held.now cached) x st.stands (c.prepare_next.ensures.images cached) paid) (laid.1 paid (ready.paid paid c.requires.kept.3)),
     )
 
 pub returns-clause-ok : goal.returns-clause-ok
@@ -122,12 +125,15 @@ returns-clause-ok g c = λ x cached st.
     )
 
 pub returns-clause-kept : goal.returns-clause-kept
-returns-clause-kept g c = λ cached.
-    let next = c.in_ok-next.next in
-    let admitted = c.in_ok-next.ensures.kept.0 in
-    subst IsConsistent (sym (c.in_ok-install.ensures.ok cached))
-    (consistent_next (held_of c.args.held.now cached) next.target (super_of next.sb) (chained_of next.published) next.published.levels next.filters (c.requires.kept.0 cached).0 c.requires.found c.requires.len
-    (c.in_ok-next.ensures.fits cached) c.in_ok-next.ensures.found admitted.spelled admitted.belonging admitted.placed (c.in_ok-next.ensures.kept.1 cached))
+returns-clause-kept g c = (
+  λ cached.
+      let next = c.in_ok-next.next in
+      let admitted = c.in_ok-next.ensures.kept.0 in
+      subst IsConsistent (sym (c.in_ok-install.ensures.ok cached))
+      (consistent_next (held_of c.args.held.now cached) next.target (super_of next.sb) (chained_of next.published) next.published.levels next.filters (c.requires.kept.0 cached).0 c.requires.kept.4 c.requires.kept.3
+      (c.in_ok-next.ensures.fits cached) c.in_ok-next.ensures.found admitted.spelled admitted.belonging admitted.placed (c.in_ok-next.ensures.kept.1 cached)),
+  λ short. absurd short,
+)
 
 pub returns-clause-found : goal.returns-clause-found
 returns-clause-found g c = λ cached.
@@ -171,15 +177,15 @@ returns-in_err-install-clause-same g c =
       on_err c.from_residual-in_err-install.result _ (told.0, told.1 ∙ c.requires.kept.2, told.2),
     )
 
-pub returns-in_err-next-clause-images : goal.returns-in_err-next-clause-images
-returns-in_err-next-clause-images g c =
+pub returns-in_err-next-clause-time : goal.returns-in_err-next-clause-time
+returns-in_err-next-clause-time g c =
     let s = held_of c.args.held.now (empty_cache 0) in (
       (c.prepare_next.ensures.images (empty_cache 0)).tears.time,
       arrays_kept (g.D.Disk.view c.args.disk.now) (g.D.Disk.view c.prepare_next.new.disk) s (c.prepare_next.ensures.images (empty_cache 0)) (c.requires.kept.0 (empty_cache 0)).0.placed,
     )
 
-pub returns-in_err-install-clause-images : goal.returns-in_err-install-clause-images
-returns-in_err-install-clause-images g c =
+pub returns-in_err-install-clause-time : goal.returns-in_err-install-clause-time
+returns-in_err-install-clause-time g c =
     let s = held_of c.args.held.now (empty_cache 0) in
     let whole = (c.requires.kept.0 (empty_cache 0)).0 in (
       passes_trans (c.prepare_next.ensures.images (empty_cache 0)).tears.time c.install.ensures.time,
@@ -187,8 +193,8 @@ returns-in_err-install-clause-images g c =
           (c.prepare_next.ensures.images (empty_cache 0)) c.install.ensures.images,
     )
 
-pub returns-clause-images : goal.returns-clause-images
-returns-clause-images g c =
+pub returns-clause-time : goal.returns-clause-time
+returns-clause-time g c =
     let s = held_of c.args.held.now (empty_cache 0) in
     let whole = (c.requires.kept.0 (empty_cache 0)).0 in (
       passes_trans (c.prepare_next.ensures.images (empty_cache 0)).tears.time c.install.ensures.time,
