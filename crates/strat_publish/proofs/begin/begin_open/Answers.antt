@@ -1,4 +1,4 @@
-use Rattle.std.proofs.Common.{◌≡◌, ◌≤◌, ℕ, [], List, map, length, refl, sym, ap, ◌∙◌, subst, arith}
+use Rattle.std.proofs.Common.{◌≡◌, ◌≤◌, ◌+◌, ℕ, [], List, map, length, refl, sym, ap, ◌∙◌, subst, arith}
 use Rattle.std.specs.List.{sum}
 use Rattle.std.proofs.lemmas.List.Sums.{sum_by-take-le}
 use Rattle.strat_base.proofs.ResultFacts.{err_of}
@@ -21,20 +21,22 @@ begin-requires-clause-room c =
     let lawful = (c.requires.kept (empty_cache 0)).lawful in
     (lawful.mem_least, lawful.mem_most)
 
-pub leads-sum-requires-clause-fits : goal.leads-sum-requires-clause-fits
-leads-sum-requires-clause-fits c =
-    leads_few_here (held_of c.args.held.now (empty_cache 0)) (c.requires.kept (empty_cache 0)) c.sealed_parts.result.0.now.list c.sealed_parts.result.1.now c.sealed_parts.result.2.now.parents (sealed_some c.args.held.now.memory.sealed c.requires.found).0 (sealed_some c.args.held.now.memory.sealed c.requires.found).1
-    c.sealed_parts.ensures.ok c.sealed_parts.ensures.found.0
+pub leads-sum-requires : goal.leads-sum-requires
+leads-sum-requires c = record {
+  fits =
+      leads_few_here (held_of c.args.held.now (empty_cache 0)) (c.requires.kept (empty_cache 0)) c.sealed_parts.result.0.now.list c.sealed_parts.result.1.now c.sealed_parts.result.2.now.parents (sealed_some c.args.held.now.memory.sealed c.requires.found).0 (sealed_some c.args.held.now.memory.sealed c.requires.found).1
+      c.sealed_parts.ensures.ok c.sealed_parts.ensures.found.0;
+}
 
-pub budget_at-budget-requires-clause-fits : goal.budget_at-budget-requires-clause-fits
-budget_at-budget-requires-clause-fits c =
+pub budget_at-budget-requires : goal.budget_at-budget-requires
+budget_at-budget-requires c =
     let whole = c.requires.kept (empty_cache 0) in
     let leads = leads_listed c.sealed_parts.result.0.now.list c.args.held.now.published.levels in
     let all =
     leads_few_here (held_of c.args.held.now (empty_cache 0)) whole c.sealed_parts.result.0.now.list c.sealed_parts.result.1.now c.sealed_parts.result.2.now.parents (sealed_some c.args.held.now.memory.sealed c.requires.found).0 (sealed_some c.args.held.now.memory.sealed c.requires.found).1
     c.sealed_parts.ensures.ok c.sealed_parts.ensures.found.0 in
     let front = sum_by-take-le (λ (n : ℕ). n) leads (target_of c.in_ok-promotion.promotion + 1) in
-    (whole.lawful.mem_least, whole.lawful.mem_most, (let few = whole.log.few in omega (arith, few, c.count.ensures.ok)), omega (arith, all, front, c.leads-sum.ensures.ok))
+    record { fits = (whole.lawful.mem_least, whole.lawful.mem_most, (let few = whole.log.few in omega (arith, few, c.count.ensures.ok)), omega (arith, all, front, c.leads-sum.ensures.ok)) }
 
 pub returns-clause-kept : goal.returns-clause-kept
 returns-clause-kept c = λ cached.
