@@ -29,8 +29,8 @@ show_help() {
     cat <<END
 castle keeps dictionaries whose versions form a tree, in one file.
 
-    castle format FILE M C V          makes a store: M changes in its journal (4 to 4096), C in its life
-                                      (1 to 16777216), V versions (1 to 16384)
+    castle format FILE M C V          makes a store: M changes in a region of its journal (4 to 4096),
+                                      C in its life (1 to 16777216), V versions (1 to 16384)
     castle serve FILE                 answers frames on standard input; people use castle-shell FILE
     castle levels FILE                prints what is in which level of a store
     castle check FILE                 tells whether a store's file keeps every rule, and which one it breaks

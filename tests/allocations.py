@@ -17,6 +17,7 @@ import tempfile
 
 import formats
 import model
+import promotions
 from faulty import Rig, counts_of, made_over
 from model import bodies_of, reply, tag_of
 from program import Skipped, Wrong, complaint, expect, expect_alike, has_check
@@ -27,23 +28,31 @@ NO_MEMORY = 32  # a reply's status
 CHANGES = (model.PUT, model.DELETE, model.CLONE)
 
 
-def may_be_refused(store, body):
+def may_be_refused(journal, body):
     """Whether the command may want memory that is not there: a change that meets a full journal, or the opening of a cursor."""
-    changes = store.counts()[2]
-    return body[4] == model.OPEN_CURSOR or body[4] in CHANGES and changes > 0 and changes % store.limits[0] == 0
+    return body[4] == model.OPEN_CURSOR or body[4] in CHANGES and len(journal.changes) >= journal.mem
 
 
-def after_refusals(name, store, frames, ran):
-    """The store after a run whose replies are the model's, but for those commands that were refused for want of memory; and how many were."""
+def after_refusals(name, data, store, frames, ran):
+    """The store after a run whose replies are the model's, but for those commands that were refused for want of memory; and how many were.
+
+    The run was over a file with these bytes. A promotion is given up where a change is refused, and the next change begins it anew.
+    """
     now, got, refused = copy.deepcopy(store), bodies_of(ran.out), 0
     now.start_run()
+    journal = promotions.opened(data, formats.read(data))
     expect(f"{name}, replies", len(got), len(frames) if ran.status == model.ENDED else 0)
     for number, body in enumerate(got):
         asked = frames[number][4:]
-        if model.frame(body) == reply(tag_of(asked), NO_MEMORY) and may_be_refused(now, asked):
+        if model.frame(body) == reply(tag_of(asked), NO_MEMORY) and may_be_refused(journal, asked):
             refused += 1
-        else:
-            expect(f"{name}, reply {number}", model.frame(body), now.answer(asked))
+            if asked[4] in CHANGES:
+                journal.left = None
+            continue
+        changes = now.counts()[2]
+        expect(f"{name}, reply {number}", model.frame(body), now.answer(asked))
+        if now.counts()[2] > changes:
+            journal.take(now.changes[-1])
     return now, refused
 
 
@@ -65,7 +74,7 @@ def served_without(rig, data, store, frames):
     """How many runs served these frames with allocations refused, and how many commands and openings were refused then."""
     found = collections.Counter()
     for name, ran in each_refusal(rig, data, "serve", sent=b"".join(frames)):
-        now, refused = after_refusals(name, store, frames, ran)
+        now, refused = after_refusals(name, data, store, frames, ran)
         status, got = formats.opened(rig.bytes())
         expect(f"{name}, the file", status, model.ENDED)
         expect_alike(name, got, now)

@@ -1,13 +1,20 @@
 """Damaged files: arrays with wrong bytes, files cut short or overwritten, and the block that is named."""
 
+import os
 import random
 import struct
 
+import damages
 import formats
 import model
-from model import BLOCK, close_cursor, get, info, next_pairs, open_cursor, put, reply, scan, stat, tag_of
-from program import GET_A, PUT_A, StoreFile, Talk, bytes_of, complaint, expect, expect_opened, expect_said, read_exactly, serve
-from samples import DISTINCT, PUBLISHED, altered, store_after
+import promotions
+import replicas
+from faulty import made_over
+from model import BLOCK, bodies_of, clone, close_cursor, delete, get, info, next_pairs, open_cursor, put, reply, scan, stat, tag_of
+from program import (
+    GET_A, PUT_A, StoreFile, Talk, Wrong, bytes_of, complaint, expect, expect_alike, expect_opened, expect_said, expect_sound, expect_told,
+    in_memory, left_behind, read_exactly, run, serve)
+from samples import DISTINCT, PUBLISHED, altered, drawn_beside_cursors, drawn_changes, store_after
 
 
 def expect_damaged(name, store, frames, block):
@@ -174,6 +181,175 @@ def a_published_store_overwritten_with_noise_is_refused_by_name(folder):
         expect("statuses", seen, {0, 9})
 
 
+# Changes behind a full region
+
+def full_store(chance, folder, mem):
+    """The bytes of a store whose journal fills one region, with two versions and more in levels."""
+    frames, journal, store = [], promotions.Journal(mem), model.Store(mem, 1000, 10)
+    for frame in drawn_changes(chance, 400, 1, 8, 0.05):
+        frames.append(frame)
+        store.answer(frame[4:])
+        if len(store.changes) > journal.times * mem + len(journal.changes):
+            journal.take(store.changes[-1])
+        if len(journal.changes) == mem and journal.emptied.levels and journal.emptied.parents:
+            return made_over(folder, mem, frames)[0]
+    raise Wrong("no such store is drawn")
+
+
+def behind(chance, data):
+    """The same with each number of changes behind the full region that there may be, the first of them a clone; and that number."""
+    contents = formats.read(data)
+    head, store = contents.head, formats.store_of(data, contents)
+    place, last, piece = formats.region_start(head.mem, 1 - head.region) * BLOCK, len(store.parents) - 1, b""
+    changes = [(model.CLONE, last), (model.DELETE, last + 1, b"%d" % chance.randrange(8))]
+    changes += [(model.PUT, last + 1, b"%d" % chance.randrange(8), chance.randbytes(5)) for _ in range(head.mem - 4)]
+    for many, change in enumerate(changes, 1):
+        piece += formats.record_of(change)
+        yield many, damages.patched(data, place, piece + b"\0")
+
+
+def expect_lead(name, path, data, frames=()):
+    """A leader over a file with these bytes writes the changes of its journal, and what it accepts of the frames."""
+    with open(path, "wb") as file:
+        file.write(data)
+    status, store = formats.opened(data)
+    want = b""
+    if store is not None:
+        want, status = replicas.lead(store, formats.read(data), b"".join(frames))
+    expect(f"{name}, lead", run(["lead", path], input=b"".join(frames)), (want, status, complaint(status)))
+    return store
+
+
+def expect_exported(name, path, store):
+    """Each version that reads no damaged block is exported as the store has it, and of the others what is damaged is told."""
+    for version, pairs in enumerate(store.pairs):
+        before = left_behind(path)
+        out, status, said = run(["export", path, str(version)])
+        if version in store.unread:
+            expect(f"{name}, export of version {version}, damaged", status, model.DAMAGED)
+        else:
+            expect(f"{name}, export of version {version}", (out, status), (replicas.exported(pairs), model.ENDED))
+        expect(f"{name}, export of version {version}, said", (said, left_behind(path) == before), (complaint(status), True))
+
+
+def expect_taken(name, path, store):
+    """The file has what this store has, and is sound."""
+    data = bytes_of(path)
+    status, got = formats.opened(data)
+    expect(f"{name}, the file", status, model.ENDED)
+    expect_alike(name, got, store)
+    expect_sound(name, data)
+    expect_told(name, path)
+
+
+def expect_used(name, folder, data, chance):
+    """Each job does with a file of these bytes what the model does, with cursors over changes; or it ends as the opening does."""
+    path = os.path.join(folder, "used.store")
+    status = expect_opened(name, path, data)
+    expect_lead(name, path, data)
+    if status != model.ENDED:
+        expect(f"{name}, export", run(["export", path, "0"]), (b"", status, complaint(status)))
+        return status
+    store = formats.opened(data)[1]
+    expect_exported(name, path, store)
+    last = len(store.parents) - 1
+    frames = [clone(1, last), delete(2, b"1", last + 1), *(scan(3, version=version) for version in range(last + 2))]
+    frames += drawn_beside_cursors(chance, 60, store, 8, 0.1)
+    expect_taken(f"{name}, lead", path, expect_lead(f"{name}, changes", path, data, frames))
+    with open(path, "wb") as file:
+        file.write(data)
+    out, status = store.serve(b"".join(frames))
+    expect(f"{name}, serve", serve(path, [b"".join(frames)]), (out, status, complaint(status)))
+    expect_taken(f"{name}, serve", path, store)
+    return status
+
+
+@in_memory
+def every_job_takes_a_file_with_changes_behind_a_full_region(folder):
+    chance = random.Random(10)
+    for mem in (4, 5, 9):
+        for many, data in behind(chance, full_store(chance, folder, mem)):
+            name = f"M {mem}, {many} behind a full region"
+            journal = formats.read(data).journal
+            expect(f"{name}, the journal", len(journal), mem + many)
+            expect(name, expect_used(name, folder, data, chance), model.ENDED)
+
+
+@in_memory
+def noise_in_either_region_of_such_a_file_is_refused_by_name_or_taken(folder):
+    chance, seen = random.Random(11), set()
+    for mem in (4, 9):
+        for many, data in behind(chance, full_store(chance, folder, mem)):
+            logged, head = formats.read(data).journal, formats.read(data).head
+            ends = [sum(len(formats.record_of(change)) for change, _ in part) for part in (logged[:mem], logged[mem:])]
+            for turn in range(30 // mem):
+                active = chance.random() < 0.5
+                place = formats.region_start(head.mem, head.region if active else 1 - head.region) * BLOCK
+                place += chance.randrange(ends[not active] + 2)
+                noisy = damages.patched(data, place, chance.randbytes(chance.choice((1, 1, 2, 8))))
+                seen.add(expect_used(f"M {mem}, {many} behind, noise {turn} at {place}", folder, noisy, chance))
+    expect("statuses", seen, {model.ENDED, model.DAMAGED})
+
+
+@in_memory
+def what_is_damaged_in_such_a_file_is_told_by_jobs_that_change_nothing(folder):
+    chance, path, seen = random.Random(12), os.path.join(folder, "damaged.store"), set()
+    bases = [damages.Base(data) for mem in (4, 9) for _, data in behind(chance, full_store(chance, folder, mem))]
+    for turn in range(200):
+        found = damages.damaged(chance, bases)
+        if found is None:
+            continue
+        what, data = found
+        expect_lead(f"damage {turn}, {what}", path, data)
+        with open(path, "wb") as file:
+            file.write(data)
+        expect_told(f"damage {turn}, {what}", path)
+        seen.add(formats.levels_printed(data)[1])
+    expect("statuses", seen >= {model.ENDED, model.DAMAGED}, True)
+
+
+def damaged_arrays_are_named_behind_a_full_region(folder):
+    # the active region has k09 to k12, the other one k13, and level 1 the eight keys before; the next change does the whole promotion
+    store, contents = store_after(folder, *DISTINCT[:2])
+    array, = formats.arrays_of(contents.manifest)
+    block, mended = array.extents[0][0], bytes_of(store.path)
+    altered(store.path, block * BLOCK, b"\0\0")
+    fine = [get(1, b"k09"), get(2, b"k13"), stat(3), info(4), get(5, b"k01", 1), open_cursor(6), close_cursor(7, 1), clone(8, 1)]
+    for name, last in (("a get", get(9, b"k01")), ("a scan", scan(9)), ("a put", put(9, b"a", b"1")), ("a clone", clone(9)),
+                       ("a deletion", delete(9, b"k13"))):
+        expect_damaged(name, store, [*fine, last], block)
+    expect_damaged("a cursor", store, [*fine, open_cursor(8), next_pairs(9, 2)], block)
+    expect_told("its levels", store.path)
+    data = bytes_of(store.path)
+    expect_exported("its export", store.path, formats.opened(data)[1])
+    expect_lead("no change", store.path, data)
+    want = replicas.sent_at_first(formats.read(data))
+    expect("a change", run(["lead", store.path], input=get(1, b"k01") + put(2, b"a", b"1")), (want, 9, complaint(9)))
+    expect("the file's bytes are the same", bytes_of(store.path) == data, True)
+    altered(store.path, 0, mended)
+    store.expect_served("mended", [clone(1) + delete(2, b"k13", 1) + scan(3) + scan(4, version=1)])
+
+
+def a_damaged_block_that_a_later_slice_reads_is_named_then(folder):
+    # level 1 has 32 keys, level 2 has 48 in twelve blocks, and a slice takes some fourteen of both and of level 0
+    store, contents = store_after(folder, 16, [put(i, b"%03d" % (i * 7 % 150), b"v" * 1000) for i in range(93)], 1000, 10)
+    array = formats.arrays_of(contents.manifest)[-1]
+    block, room = formats.blocks_of(array)[-1], 16 - len(contents.journal)
+    altered(store.path, block * BLOCK, b"\0\0")
+    frames, changes = [put(i, b"%03d" % i, b"w") for i in range(40)], store.model.counts()[2]
+    for turn in range(2):
+        out, status, said = serve(store.path, [b"".join(frames)])
+        expect(f"{turn}, the end", (status, said), (9, complaint(9)))
+        *made, last = bodies_of(out)
+        done, frames = frames[:len(made)], frames[len(made):]
+        expect(f"{turn}, the answers", made, [reply(tag_of(frame[4:]), model.DONE)[4:] for frame in done])
+        expect(f"{turn}, the last", last, reply(tag_of(frames[0][4:]), model.DAMAGED_BLOCK, struct.pack(">I", block))[4:])
+        # neither with the change that begins the promotion nor once it would have ended; the next run begins it anew
+        expect(f"{turn}, slices before it", 0 < len(made) - room < 14, True)
+        changes, room = changes + len(made), 0
+        expect(f"{turn}, the file", formats.opened(bytes_of(store.path))[1].counts()[2], changes)
+
+
 CHECKS = [
     damaged_arrays_are_named,
     a_damaged_array_that_only_a_cursor_reads_is_named,
@@ -181,4 +357,9 @@ CHECKS = [
     a_store_overwritten_with_noise_is_refused_by_name,
     altered_bytes_are_named,
     a_published_store_overwritten_with_noise_is_refused_by_name,
+    every_job_takes_a_file_with_changes_behind_a_full_region,
+    noise_in_either_region_of_such_a_file_is_refused_by_name_or_taken,
+    what_is_damaged_in_such_a_file_is_told_by_jobs_that_change_nothing,
+    damaged_arrays_are_named_behind_a_full_region,
+    a_damaged_block_that_a_later_slice_reads_is_named_then,
 ]

@@ -1,4 +1,4 @@
-"""Memory: what a serving run and a check take, by the formulas that the documents say."""
+"""Memory: what a serving run, an open promotion and a check take, by the formulas that the documents say."""
 
 import os
 import re
@@ -8,7 +8,8 @@ import threading
 import time
 
 import formats
-from model import DONE, clone, get, put, reply, stat
+import promotions
+from model import DONE, PUT, clone, fields_of, get, put, reply, stat
 from program import DEADLINE, PROGRAM, TOP, Skipped, StoreFile, Wrong, bytes_of, close, expect, fed, memory_of, read_exactly, send, start
 
 MEMORY = "/dev/shm"  # a folder where a sync costs nothing
@@ -26,6 +27,17 @@ def said_of_serving():
     return base * 1e6, mem * 1e3, versions, blocks * 1e6, entry
 
 
+def said_of_promotion():
+    """What README says of an open promotion: bytes for each of M, of them those of a memtable, for each byte of the pairs, each version,
+    array that is read, array that is written, and block."""
+    text = " ".join((TOP / "README.md").read_text().split())
+    memtable = re.search(r"a second memtable takes ([\d.]+) KB for each of M", text)
+    found = re.search(r"`([\d.]+) KB \* M \+ (\d+) \* pairs \+ (\d+) bytes \* versions \+ ([\d.]+) KB \* read \+ ([\d.]+) KB \* written "
+                      r"\+ (\d+) bytes \* blocks`", text)
+    mem, pairs, version, read, written, block = map(float, found.groups())
+    return float(memtable[1]) * 1e3, mem * 1e3, pairs, version, read * 1e3, written * 1e3, block
+
+
 def said_of_check():
     """What docs/ERRORS.md says of a check: bytes in all, for each of M, each version, each array, and each one of the largest level."""
     text = (TOP / "docs" / "ERRORS.md").read_text()
@@ -40,10 +52,15 @@ def needs_proc():
         raise Skipped(f"no /proc here, or no {MEMORY}, without which it would take minutes")
 
 
+def told_of(child, name):
+    """A number of bytes that the kernel tells of a process."""
+    with open(f"/proc/{child.pid}/status") as file:
+        return int(re.search(rf"^{name}:\s+(\d+) kB$", file.read(), re.M)[1]) * 1024
+
+
 def allocated(child):
     """How many bytes a process has asked for, whether it has touched them or not."""
-    with open(f"/proc/{child.pid}/status") as file:
-        return int(re.search(r"^VmData:\s+(\d+) kB$", file.read(), re.M)[1]) * 1024
+    return told_of(child, "VmData")
 
 
 def store_with(folder, mem, frames):
@@ -74,6 +91,93 @@ def a_serving_run_takes_the_memory_of_its_formula(folder):
         said = base + each * mem + version * versions
         if not said <= taken <= 1.03 * said + OWN:
             raise Wrong(f"M {mem}, V {versions}: {taken:,} bytes are taken, said are {said:,.0f}")
+
+
+# An open promotion
+
+def asked(child, frame):
+    """Has a run make a put, which is done."""
+    child.stdin.write(frame)
+    expect("a put", read_exactly(child.stdout, 9)[8], DONE)
+
+
+def generation_in(path):
+    with open(path, "rb") as file:
+        return formats.newest(file.read(2 * formats.BLOCK))[1].generation
+
+
+def grown_by_promotion(path, room, frames):
+    """How many bytes a run takes more by the first put that meets a full journal, and at most until the promotion has ended.
+
+    The journal has room for so many of the puts until it is full.
+    """
+    child = start(path)
+    guard = threading.Timer(10 * DEADLINE, child.kill)
+    guard.start()
+    try:
+        for frame in frames[:room]:
+            asked(child, frame)
+        before, size, generation = allocated(child), told_of(child, "VmSize"), generation_in(path)
+        asked(child, frames[room])
+        first = allocated(child) - before
+        expect("it is open", generation_in(path), generation)
+        for frame in frames[room + 1:]:
+            if generation_in(path) > generation:
+                break
+            asked(child, frame)
+        expect("it has ended", generation_in(path), generation + 1)
+        return first, told_of(child, "VmPeak") - size
+    finally:
+        guard.cancel()
+        child.kill()
+        child.wait()
+        close(child)
+
+
+def put_in(frame):
+    """The change that a frame asks for, which is of a put."""
+    version, fields, _ = fields_of(frame[4:], 2)
+    return PUT, version, *fields
+
+
+def said_of_next(path, frames):
+    """What a promotion of the journal with these puts behind it takes by the formula: once it has begun, and as its second pass begins.
+
+    And for how many of the puts the journal has room before it is full, and how many arrays are merged.
+    """
+    memtable, each, pair, version, read, written, block = said_of_promotion()
+    data = bytes_of(path)
+    contents = formats.read(data)
+    journal, mem = promotions.opened(data, contents), contents.head.mem
+    room = mem - len(journal.changes)
+    changes = journal.changes + [put_in(frame) for frame in frames[:room]]
+    after = promotions.emptied_into(journal.emptied, changes, mem)
+    target = min(after.levels)
+    zero, made = promotions.last_updates(changes).values(), after.levels[target][1]
+    merged = [array for level in contents.manifest.levels if level.number <= target for array in level.arrays]
+    blocks = sum(len(formats.blocks_of(array)) for array in formats.arrays_of(contents.manifest)) + len(contents.chain)
+    input_of_pass = each * mem + pair * sum(len(entry.key) + len(entry.value) for entry in zero) + read * len(merged)
+    versions = len(after.parents) + 1
+    first = memtable * mem + input_of_pass + version * versions + block * blocks
+    return first, first + input_of_pass + written * len(made) + sum(len(part.entries) for part in made), room, len(merged)
+
+
+def an_open_promotion_takes_the_memory_of_its_formula(_):
+    needs_proc()
+    with tempfile.TemporaryDirectory(dir=MEMORY) as folder:
+        # small pairs and the largest, a few more than a power of two; and a level of many arrays, which the next promotion merges
+        stores = [(StoreFile(folder, 2050, 2 ** 24, 1), [put(1, b"%05d" % at, b"v") for at in range(4098)], 0),
+                  (StoreFile(folder, 1030, 2 ** 24, 1), [put(1, b"%0255d" % at, b"v" * 1024) for at in range(2058)], 0),
+                  (store_with(folder, 64, star(1000)[:7089]), [put(1, b"n%d" % at, b"v", 999) for at in range(190)], 300)]
+        for store, frames, least in stores:
+            said, said_most, room, merged = said_of_next(store.path, frames)
+            first, most = grown_by_promotion(store.path, room, frames)
+            name = f"{os.path.basename(store.path)}, {merged} arrays merged"
+            if merged < least:
+                raise Wrong(f"{name}: these are too few for this to tell anything")
+            for what, taken, wanted in (("begun", first, said), ("at most", most, said_most)):
+                if not 0.9 * wanted - OWN <= taken <= 1.1 * wanted + OWN:
+                    raise Wrong(f"{name}, {what}: a promotion takes {taken:,} bytes, said are {wanted:,.0f}")
 
 
 def grown_by_gets(path, count):
@@ -164,6 +268,7 @@ def a_check_takes_memory_for_versions_and_arrays_and_none_for_entries(_):
 
 CHECKS = [
     a_serving_run_takes_the_memory_of_its_formula,
+    an_open_promotion_takes_the_memory_of_its_formula,
     blocks_and_hints_take_what_is_said_however_many_blocks_there_are,
     a_check_takes_memory_for_versions_and_arrays_and_none_for_entries,
 ]

@@ -53,7 +53,7 @@ class Levels(NamedTuple):
     generation: int
     """One more than how often the journal was emptied."""
     mem: int
-    """M, how many changes the journal takes."""
+    """M, how many changes a region of the journal takes."""
     changes: int
     changes_max: int
     """C."""
@@ -72,6 +72,11 @@ class Levels(NamedTuple):
     def capacity(self, level: int) -> int:
         """How many leads the level with this number has room for."""
         return self.mem << level
+
+    @property
+    def journal_most(self) -> int:
+        """How many changes the journal takes: M until it is full, and M - 2 more while it is emptied."""
+        return self.mem if self.journal_changes <= self.mem else 2 * self.mem - 2
 
     @property
     def depth(self) -> int:

@@ -52,11 +52,11 @@ def _rows(drawing: Drawing, levels: Levels, top: float) -> float:
 
     Each row has a scale of its own: it is as long as the level has room for leads, or for its entries where these are more.
     """
-    _label(drawing, top, "journal", f"{levels.journal_changes:,} of {counted(levels.mem, 'change')}",
+    _label(drawing, top, "journal", f"{levels.journal_changes:,} of {counted(levels.journal_most, 'change')}",
            counted(levels.journal_updates, "update"))
     drawing.box("capacity", LEFT, top, WIDE, BOX)
     if levels.journal_changes:
-        drawing.box("journal", LEFT, top, WIDE * min(1.0, levels.journal_changes / levels.mem), BOX)
+        drawing.box("journal", LEFT, top, WIDE * levels.journal_changes / levels.journal_most, BOX)
     for level in levels.levels:
         top += ROW
         room = levels.capacity(level.number)
@@ -107,7 +107,8 @@ class Gauge(NamedTuple):
 
 def limited(levels: Levels) -> List[Gauge]:
     """The numbers of a store that its limits bound."""
-    return [Gauge("journal", levels.journal_changes, levels.mem, "changes until it is emptied (M)"),
+    meaning = "changes until it is emptied (M)" if levels.journal_most == levels.mem else "changes while it is emptied (2M - 2)"
+    return [Gauge("journal", levels.journal_changes, levels.journal_most, meaning),
             Gauge("changes", levels.changes, levels.changes_max, "changes of the store's life (C)"),
             Gauge("versions", levels.versions, levels.versions_max, "versions of the store's life (V)")]
 

@@ -131,7 +131,7 @@ class Store:
                overwrite: bool = False) -> None:
         """Makes a new store in a file, with its limits for life.
 
-        `mem` is M, how many changes its journal takes (4 to 4096): more takes more memory and is faster. `changes` is
+        `mem` is M, how many changes a region of its journal takes (4 to 4096): more takes more memory and is faster. `changes` is
         C, how many it takes in its life (up to 16,777,216), and `versions` is V (up to 16,384). A file that is there
         already and is not empty is refused, unless `overwrite`: then all that it had is forgotten, its names too.
         """

@@ -26,7 +26,7 @@ import shim  # noqa: E402
 from shim import FOR_EVER, Fault  # noqa: E402
 
 PROGRAM = TOP / "crates" / "castle" / "out" / "castle"
-MEM = 4  # changes that the journal takes, so that the fifth change is a publication
+MEM = 4  # changes of a region, so that the fifth change does a slice and the sixth one a publication
 
 Pairs = Dict[bytes, bytes]
 

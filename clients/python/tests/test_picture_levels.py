@@ -150,6 +150,13 @@ class LevelsPictureTest(unittest.TestCase):
             found = LEVELS._replace(changes=changes + 1)
             self.assertEqual((found.depth, found.written_most), (depth, 4 * depth * changes))
 
+    def test_a_journal_that_is_being_emptied_has_room_for_more(self) -> None:
+        for changes, said in ((0, "0 of 8 changes until it is emptied (M)"), (8, "8 of 8 changes until it is emptied (M)"),
+                              (9, "9 of 14 changes while it is emptied (2M - 2)"), (14, "14 of 14 changes while it is emptied (2M - 2)")):
+            picture = Picture("".join(svg(levels.read(TEXT)._replace(journal_changes=changes, changes=changes + 8), "a.store")))
+            self.assertIn(said, picture.written())
+            self.assertIn(said[:said.index("changes") + len("changes")], picture.written())
+
     def test_every_part_lies_within_the_picture_and_no_text_on_another_or_on_a_box(self) -> None:
         most = 2 ** 24
         largest = Levels(2 ** 63, 4, most, most, 16384, 16384, 4, 4, (Level(22, 16384, most, 2 * most, (

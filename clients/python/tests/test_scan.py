@@ -107,7 +107,7 @@ class ScanTest(Filled):
             got.append(pair)
         store.put(store.clone(0), b"0000", b"of a clone")
         self.assertEqual([got, *map(list, scans[1:])], want)
-        # each publication promotes the four changes of the journal, and merges levels below
+        # each publication promotes the four changes of a region, and merges levels below
         self.assertGreater(store.levels().generation, before + 140)
         self.assertNotEqual(list(store.scan(0)), pairs)
         self.assertEqual(self.cursors(store), 0)

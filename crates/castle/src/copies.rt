@@ -36,10 +36,11 @@ ghost use Rattle.castle.specs.Outcomes.{EndsAsFound, EndsAsInput, LeavesAlone, R
 
 use def_crash::laws::Viewed;
 
-/// A run that is asked to follow, over a disk each of whose crash states shows a log's table after a prefix, which may differ from
-/// state to state. Say that each body in the bytes that it takes which spells a numbered change spells that of the log at its
-/// number. They come in any order, with gaps and repeats, and among them bodies that are no change. Then each crash state of the run shows the log's table after a prefix, and at the end after one that has
-/// each change which was answered as taken: so the next run may begin there, whatever failed. What it sends are receipts. It
+/// A run that is asked to follow, over a disk each of whose crash states shows a log's table after a prefix, which may
+/// differ from state to state. Say that each body in the bytes that it takes which spells a numbered change spells that
+/// of the log at its number. They come in any order, with gaps and repeats, and among them bodies that are no change.
+/// Then each crash state of the run shows the log's table after a prefix, and at the end after one that has each change
+/// which was answered as taken: so the next run may begin there, whatever failed. What it sends are receipts. It
 /// refuses a change as out of memory, or as the device failed, which the disk counted.
 pub fn a_following_run_keeps_to_its_log<D: Viewed>()
     ensures ok { (path : List ℕ) (status changes versions : ℕ) (x y : Streams) (d e : D)
@@ -74,11 +75,12 @@ pub fn a_following_run_keeps_to_its_log<D: Viewed>()
         ⊎ ((cause ≡ why.DeviceFault) × Rose x.disk_faults y.disk_faults)) k.receipts }
 {}
 
-/// A run that is asked to lead, over a disk that shows a table, answers what it takes as a run of that table does. What it sends
-/// are the frames of the changes that its journal had, and of those that it carried out, in order, and no others. They are
-/// numbered from those of the manifest on. If the sink failed it sends a front of these, and if the opening gave up nothing. The
-/// table accepts the changes that were carried out one after the other. At the end a crash leaves the table after all that was
-/// answered otherwise than by a fault, or after one command more and the rest of its batch.
+/// A run that is asked to lead, over a disk that shows a table, answers what it takes as a run of that table does. What
+/// it sends are the frames of the changes that its journal had, and of those that it carried out, in order, and no
+/// others. They are numbered from those of the manifest on. If the sink failed it sends a front of these, and if the
+/// opening gave up nothing. The table accepts the changes that were carried out one after the other. At the end a crash
+/// leaves the table after all that was answered otherwise than by a fault, or after one command more and the rest of
+/// its batch.
 pub fn a_leading_run_sends_its_changes<D: Viewed>()
     ensures ok { (path : List ℕ) (status : ℕ) (x y : Streams) (d e : D) (f : Image) (t : Table)
         → Runs (Some (Lead path)) 1099511627776 status (beside x (D.view d)) (beside y (D.view e))
@@ -108,10 +110,10 @@ pub fn a_leading_run_sends_its_changes<D: Viewed>()
         × At (tables_continued l.run l.continued.end) i (ShowsTable c)) }
 {}
 
-/// A following run gave up before its first read, or it served: it took bytes, answered the first of the bodies among them as
-/// the protocol of followers says, and sent these receipts. If the disk shows a table, they are those of a run of that table.
-/// A leading run may also have stopped at the changes of its journal, as the sink failed. Otherwise it sent these, and served
-/// as the protocol of leaders says.
+/// A following run gave up before its first read, or it served: it took bytes, answered the first of the bodies among
+/// them as the protocol of followers says, and sent these receipts. If the disk shows a table, they are those of a run
+/// of that table. A leading run may also have stopped at the changes of its journal, as the sink failed. Otherwise it
+/// sent these, and served as the protocol of leaders says.
 pub fn a_copying_run_answers_each_body<D: Viewed>()
     ensures ok { (path : List ℕ) (status : ℕ) (x y : Streams) (d e : D)
         → Runs (Some (Follow path)) 1099511627776 status (beside x (D.view d)) (beside y (D.view e))
@@ -136,8 +138,8 @@ pub fn a_copying_run_answers_each_body<D: Viewed>()
         × SendsSaid leads how held y.held s)) }
 {}
 
-/// Whatever the disk shows: the cause of each end of a leading or a following run, how it ends if nothing failed, and that an
-/// end before the first read leaves both streams as they were.
+/// Whatever the disk shows: the cause of each end of a leading or a following run, how it ends if nothing failed, and
+/// that an end before the first read leaves both streams as they were.
 pub fn leading_and_following_runs_end_for_a_cause<D: Viewed>()
     ensures cause { (path : List ℕ) (status : ℕ) (x y : Streams) (d e : D)
         → Runs (Some (Lead path)) 1099511627776 status (beside x (D.view d)) (beside y (D.view e))

@@ -25,11 +25,12 @@ pub(crate) const BUDGET: u64 = 1_099_511_627_776;
 /// program's own name. If they name no subcommand, nothing is read or written.
 ///
 /// - Serving takes the memory for its buffers, versions, journal and level 0 at its start.
-/// - A change makes one insertion into level 0. Changes that came together, sixteen at most, make two writes and two syncs.
-///   A change that meets a full journal makes a checkpoint first, which takes memory until it is done.
-/// - A get asks level 0, and then one array of each level at most, until one says something.
-/// - Opening a cursor copies level 0's items, 12 bytes each, and reads nothing. A level 0 that was emptied stays in memory
-///   while a cursor reads it. A page costs what a scan of as many pairs costs.
+/// - A change makes one insertion into level 0. Changes that came together, sixteen at most, make two writes and two
+///   syncs. A change that meets a full journal is made alone, behind a slice of the promotion that empties that. The
+///   promotion takes memory until its last slice, whose change makes a checkpoint, too.
+/// - A get asks level 0, a sealed one, and then one array of each level at most, until one says something.
+/// - Opening a cursor copies the items of level 0 and of a sealed one, 12 bytes each, and reads nothing. A level 0 that
+///   was emptied stays in memory while a cursor reads it. A page costs what a scan of as many pairs costs.
 /// - A report of the levels reads what recovery reads, and no block of an array.
 /// - A check reads beside that each block of an array three times at most, and writes nothing to the disk.
 /// - A workload makes a store, serves its changes to it and reads it once more.

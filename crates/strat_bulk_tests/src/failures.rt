@@ -16,7 +16,7 @@ fn no_store_is_told_of(rt: HostRuntime) {
     assert!(rt; exports(rt.alloc(), &mut disk, 0, b"", Ended::NotAStore));
 }
 
-/// A store of thirteen puts, twelve of them in one array.
+/// A store of thirteen puts: eight in one array, and five in the journal, of which one is behind a full region.
 fn thirteen(alloc: Global) -> Option<MemDisk> {
     let mut disk = new_store(alloc, 4, 100, 10)?;
     (run(alloc, &mut disk, THIRTEEN_PUTS) == Some(Ended::Done)).then_some(disk)

@@ -91,8 +91,8 @@ fn a_leader_stops_at_its_journal(rt: HostRuntime) {
     assert!(rt; stops_at_journal(rt.alloc(), &mut disk) == Some(true));
 }
 
-/// Whether a leader that gets five puts at once, over a journal of four changes, writes the frames of the first four before the
-/// fifth empties the journal: its first write fails, and one that starts anew has these four to send.
+/// Whether a leader that gets five puts at once, over a journal of four changes, writes the frames of the first four
+/// before the fifth begins to empty that: its first write fails, and one that starts anew has these four to send.
 fn sends_what_was_waiting(alloc: Global, disk: &mut MemDisk) -> Option<bool> {
     let mut source = MemSource::new(alloc, PUTS, &[], 4096).ok()?;
     let mut sink = MemSink::new(alloc, &[1], 4096).ok()?;

@@ -42,8 +42,7 @@ pub struct Buffers {
 }
 
 impl Buffers {
-    /// Empty buffers, with all the memory that frames, pairs and replies of a run need: about 1.1
-    /// MB.
+    /// Empty buffers, with all the memory that frames, pairs and replies of a run need: about 1.1 MB.
     pub fn new(alloc: Global) -> Result<Buffers, NoMemory>
         ensures ok { IfOk result (λ b. (b.frames.held ≡ []) × (b.pending ≡ none_pending)) }
     {

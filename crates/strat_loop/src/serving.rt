@@ -180,7 +180,7 @@ pub fn open_store<D: Disk>(alloc: Global, disk: &mut D) -> Result<Store, Ended>
 /// were read as the budget has. It takes the memory for frames, pairs and replies before it touches the disk. It reads at
 /// most 4,096 bytes at a time, and reads on only when every whole frame before has its reply, and these went out. A reply
 /// goes out only when the change that it answers is durable, in one write with those around it: before more than sixteen
-/// wait, or more than 65,536 bytes.
+/// wait, or more than 65,536 bytes, and before each command that meets a full journal.
 #[tactic(auto, using(def_crash::proofs::MomentLemmas::passes_trans))]
 pub fn serve_by<P: Protocol, S: Source, K: Sink, D: Disk>(
     alloc: Global,

@@ -502,7 +502,8 @@ impl Memory {
     }
 
     /// Opens a cursor over a range of a version as it is now, and answers its number. After a refusal all is as before.
-    /// O(items of level 0), 12 bytes for each, and the time of copying at most 22 descriptors: no block is read.
+    /// O(items of level 0 and of a sealed one), 12 bytes for each, and the time of copying at most 22 descriptors: no block
+    /// is read.
     pub fn open_cursor(
         &mut self,
         levels: &Levels,

@@ -1,6 +1,6 @@
 //! Reading a store without opening it: what recovery finds is taken into memory, and nothing is written.
 
-ghost use Rattle.std.specs.Prelude.{◌≡◌, ◌≤◌, ◌+◌, ◌*◌, ℕ, length, option_map, Ok, Err, Some, None, IfOk, IfSome, IsErrOf};
+ghost use Rattle.std.specs.Prelude.{◌≡◌, ◌≤◌, ◌<◌, ◌+◌, ◌*◌, ℕ, length, option_map, Ok, Err, Some, None, IfOk, IfSome, IsErrOf};
 ghost use Rattle.def_crash.specs.Faults.{HasCause, ReadsAtMost};
 ghost use Rattle.def_crash.specs.Image.{Image};
 ghost use Rattle.def_crash.specs.Moments.{Exposes, OnlyReads};

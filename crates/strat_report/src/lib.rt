@@ -1,4 +1,4 @@
-//! Texts about a store: a report of its levels, and a summary of a workload.
+//! Texts about a store: a report of its levels, a summary of a workload, and the line that says what a check found.
 #![tactic(auto)]
 
 mod checking;

@@ -1,4 +1,4 @@
-//! The public calls: a store is read, what is to be said of it is put together in memory, and then it is written.
+//! Reports and summaries: a store is read, what is to be said of it is put together in memory, and that is written.
 
 ghost use Rattle.std.specs.Prelude.{◌≡◌, [], ◌∷◌, IfOk, IfErr, string_bytes};
 ghost use Rattle.def_crash.specs.Faults.{HasCause, ReadsAtMost, Rose};

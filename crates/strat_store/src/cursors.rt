@@ -63,8 +63,8 @@ fn reply_of_close(there: bool) -> Reply
 }
 
 /// Opens a cursor over the pairs of a version as they are now, from `lo` on and below `hi`. It reads no block: O(items of
-/// level 0), and the time of copying at most 22 descriptors. UnknownVersion: there is no such version. CursorLimit: 64
-/// are open. NoMemory: memory ran out. After a refusal all is as before.
+/// level 0 and of a sealed one), and the time of copying at most 22 descriptors. UnknownVersion: there is no such
+/// version. CursorLimit: 64 are open. NoMemory: memory ran out. After a refusal all is as before.
 pub(crate) fn reply_to_open_cursor(
     held: &mut OpenStore,
     version: Version,

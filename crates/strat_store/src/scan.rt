@@ -38,10 +38,11 @@ fn reply_of_scan(found: Result<bool, Fault>) -> Reply
     }
 }
 
-/// The first pairs of a version from `lo` on and below `hi`, at most `limit` of them, which are put into `out`, and whether
-/// others follow. Costs what `strat_cursor::scan` does, over level 0, a sealed one, and the array of each level that is for the version, and
-/// takes no memory but for blocks that are cached. UnknownVersion: there is no such version, and nothing was read. DeviceFault:
-/// the disk counted a fault. Damaged: this block of one of the arrays is no block of entries.
+/// The first pairs of a version from `lo` on and below `hi`, at most `limit` of them, which are put into `out`, and
+/// whether others follow. Costs what `strat_cursor::scan` does, over level 0, a sealed one, and the array of each level
+/// that is for the version, and takes no memory but for blocks that are cached. UnknownVersion: there is no such version,
+/// and nothing was read. DeviceFault: the disk counted a fault. Damaged: this block of one of the arrays is no block of
+/// entries.
 pub(crate) fn scan_range<D: Disk>(
     held: &OpenStore,
     cache: &mut Cache,

@@ -281,8 +281,8 @@ impl Store {
         self.held.memory.counts().0
     }
 
-    /// How many changes its journal has, those that are in no level yet: in the active region, and behind it in the other
-    /// one. O(1).
+    /// How many changes its journal has, those that are in no level yet: in the active region, and, once that is full,
+    /// behind it in the other one. Staged changes are not among them. O(1).
     pub fn journal_counts(&self) -> (u32, u32)
         ensures ok { (result.0 ≡ length (take self.now.log.mem self.now.log.list))
             × (result.1 ≡ length (drop self.now.log.mem self.now.log.list)) }
@@ -299,7 +299,8 @@ impl Store {
         self.held.journal.count() >= self.held.sb.mem && change_asked(command).is_some()
     }
 
-    /// The records of these changes in their order, as they stand on the disk, region by region. O(1).
+    /// The records of the journal's changes in their order, as they stand on the disk: those of the active region, and
+    /// those behind it in the other one. O(1).
     pub fn journal_records(&self) -> (&[u8], &[u8])
         ensures ok { (result.0.now ≡ records_bytes (take self.now.log.mem self.now.log.list))
             × (result.1.now ≡ records_bytes (drop self.now.log.mem self.now.log.list)) }
@@ -380,22 +381,22 @@ impl Store {
     /// A change is durable before it is answered: two writes and two syncs, and in memory one insertion into level 0, or
     /// O(log versions_max) for a clone. It takes no memory.
     ///
-    /// A change that meets a full journal also does one slice of a promotion, which empties that into the levels; the first
-    /// one begins it. A promotion reads the blocks that it merges twice and writes the new arrays once, and each slice takes
-    /// such a share that the last one comes while the journal has room: up to 2 `mem` - 2 changes. The change of the last slice
-    /// also writes the manifest and syncs five times at most. A slice takes its memory before anything of the store is
-    /// replaced. Without it the answer is `NoMemory`, the promotion is given up and begins anew with the next change, and all
-    /// else is as it was.
+    /// A change that meets a full journal also does one slice of a promotion, which empties that into the levels. The
+    /// first of them seals level 0 and begins the promotion. A promotion reads
+    /// the blocks that it merges twice and writes the new arrays once, and each slice takes such a share that the last one
+    /// comes while the journal has room: up to 2 `mem` - 2 changes. The change of the last slice also writes the manifest
+    /// and syncs five times at most. A slice takes its memory before anything of the store is replaced. Without it the
+    /// answer is `NoMemory`, the promotion is given up and begins anew with the next change, and all else is as it was.
     ///
-    /// A get asks level 0, and then one array of each level at most, but none whose filter refuses the key. A scan goes through
-    /// level 0 and one array of each level, pair by pair. In an array of fewer than 2^n blocks either reads n + 4 at most to
-    /// search, and each once more at most. No array that is not asked at the version, or that refuses a get's key, adds to
-    /// these reads. These take no memory but for blocks that are cached.
+    /// A get asks level 0, then the sealed one, where there is one, and then one array of each level at most, but none
+    /// whose filter refuses the key. A scan goes through the same lists and arrays, pair by pair. In an array of fewer
+    /// than 2^n blocks either reads n + 4 at most to search, and each once more at most. No array that is not asked at the
+    /// version, or that refuses a get's key, adds to these reads. These take no memory but for blocks that are cached.
     ///
-    /// Opening a cursor copies level 0's items, 12 bytes each, and at most 22 descriptors, and reads no block; `NoMemory`
-    /// if there is no room for these. It shares the pairs: a level 0 that was emptied keeps its memory while a cursor reads
-    /// it. A page costs what a scan does, over the cursor's arrays. Closing costs O(arrays kept for cursors * arrays of all
-    /// cursors). Other look-ups are O(1), and read nothing.
+    /// Opening a cursor copies the items of level 0 and of the sealed one, 12 bytes each, and at most 22 descriptors, and
+    /// reads no block; `NoMemory` if there is no room for these. It shares the pairs: a level 0 that was emptied keeps its
+    /// memory while a cursor reads it. A page costs what a scan does, over the cursor's lists and arrays. Closing costs
+    /// O(arrays kept for cursors * arrays of all cursors). Other look-ups are O(1), and read nothing.
     ///
     /// `DeviceFault`: the disk counted a fault. `Damaged`: this block of an array of the levels, or of one that a cursor
     /// holds on to, holds no entries, or in a level none that come after those before it. After these two, and no other,
@@ -462,10 +463,11 @@ impl Store {
         told
     }
 
-    /// Stages a change, where it is one that the table accepts after the staged changes, fewer than sixteen are staged and
-    /// the journal has room for one more behind these, and answers whether it did. Memory takes it at once: one insertion
-    /// into level 0, or O(log versions_max) for a clone. Where it answers false nothing has changed. No memory is taken, and
-    /// the disk is not reached: the change is not to be acknowledged before `commit`.
+    /// Stages a change, where it is one that the table accepts after the staged changes, fewer than sixteen are staged,
+    /// and the active region of the journal has room for one more behind these, and answers whether it did. So none is
+    /// staged once that region is full. Memory takes it at once: one insertion into level 0, or O(log versions_max) for a
+    /// clone. Where it answers false nothing has changed. No memory is taken, and the disk is not reached: the change is
+    /// not to be acknowledged before `commit`.
     pub fn stage(&mut self, command: &Command<'_>) -> bool
         requires kept { self.old.spent ≡ false }
         requires fits { has_lawful_sizes (request_of command.now) ≡ true }
@@ -542,7 +544,7 @@ impl Store {
     /// the same way where the active one is full. It reads no block of an array. If that gate is open while the active
     /// region has room, it shuts the gate (a run that was killed in a checkpoint leaves it open): at most one read, one
     /// write and one sync more. Where the journal goes on in the other region, level 0 is sealed with what fills the active
-    /// one, and the next change empties that first. Linear in the manifest and the journal, but for O(log) at each array
+    /// one, and the next change begins the promotion of that. Linear in the manifest and the journal, but for O(log) at each array
     /// and each version. Until the first sync succeeds a crash leaves only what it might have left before. After an error
     /// other than `Device` the disk is as it was; after `Device` it is so too, unless it was the last step that failed,
     /// which shuts the gate.

@@ -16,7 +16,11 @@ ghost use Rattle.strat_model.specs.Request.{Delete, Get, Stat};
 ghost use Rattle.strat_model.specs.declared.replies.Refusal.TheVariants as why;
 ghost use Rattle.strat_model.specs.declared.replies.Reply.{Reply};
 ghost use Rattle.strat_model.specs.declared.replies.Reply.TheVariants as reply;
+ghost use Rattle.strat_level.specs.Target.{IsTarget, leads_down_to};
 ghost use Rattle.strat_promote.specs.Job.{blocks_listed};
+ghost use Rattle.strat_promote.specs.Promotions.{entries_taken};
+ghost use Rattle.def_slice.specs.Budget.{budget_for};
+ghost use Rattle.def_slice.specs.Opened.{OpenPromotion};
 ghost use Rattle.def_recovery.specs.Head.{parent_numbers};
 ghost use Rattle.def_publish.specs.Contents.{Contents, contents_state};
 ghost use Rattle.def_publish.specs.Next.{arrays_made};
@@ -24,6 +28,8 @@ ghost use Rattle.def_state.specs.State.{IsPaid};
 ghost use Rattle.strat_store.specs.Applying.{TellsTroubleOf};
 ghost use Rattle.strat_memory.specs.Held.{Held, IsConsistent, IsOnDisk, StandsWith, arrays_held};
 ghost use Rattle.strat_memory.specs.Memory.{Memory, oldest_changes, oldest_parents, oldest_updates};
+ghost use Rattle.strat_publish.specs.Advancing.{HasMostOfKey, SlicesInBudget};
+ghost use Rattle.strat_publish.specs.Promoting.{leads_in_memory};
 ghost use Rattle.strat_publish.specs.Counting.{CountsWritten, KeepsCount, manifest_with_array};
 ghost use Rattle.strat_memory.specs.Paying.{IsPaidIn};
 ghost use Rattle.strat_publish.specs.Settling.{ArePublishedTo, HasPublished, IsPromoting, LeavesPublished, arrays_taken};
@@ -124,6 +130,29 @@ pub fn what_is_on_the_disk_is_in_each_crash_state<D: Viewed>()
         → manifest_at s.sb.format c s.sb.manifest s.sb.length ≡ Ok s.chained }
     ensures exposed { (d : D) (s : Held) → (on : IsOnDisk (D.view d) s)
         → Exposes (D.view d) on.content }
+{}
+
+/// A change at a full journal keeps to the budget with which its promotion began: it takes so many entries at least, fewer than
+/// these and those of one key, and leaves the budget as it was. The change that begins one takes as many as its fill and its
+/// leads say. The last one does not come early.
+pub fn a_slice_keeps_to_the_budget_of_its_promotion()
+    ensures same { (f : Image) (s : Held) (x : Contents) (o now : OpenPromotion) (most : ℕ)
+        → s.promoting ≡ Some o → HasMostOfKey f s x most → SlicesInBudget f s x (Some now)
+        → (now.budget ≡ o.budget) × (now.sum ≡ o.sum) }
+    ensures ok { (f : Image) (s : Held) (x : Contents) (o now : OpenPromotion) (most : ℕ)
+        → s.promoting ≡ Some o → HasMostOfKey f s x most → SlicesInBudget f s x (Some now)
+        → (entries_taken o.promotion + o.budget ≤ entries_taken now.promotion)
+        × (entries_taken now.promotion < entries_taken o.promotion + o.budget + most) }
+    ensures none { (f : Image) (s : Held) (x : Contents) (o : OpenPromotion) (most : ℕ)
+        → s.promoting ≡ Some o → HasMostOfKey f s x most → SlicesInBudget f s x None
+        → 2 * o.sum < entries_taken o.promotion + o.budget + most }
+    ensures found { (f : Image) (s : Held) (x : Contents) (now : OpenPromotion) (target most : ℕ)
+        → s.promoting ≡ None
+        → IsTarget (leads_in_memory s.memory s.levels) s.sb.mem target
+        → HasMostOfKey f s x most → SlicesInBudget f s x (Some now)
+        → (now.budget ≡ budget_for s.sb.mem (length s.log.list)
+        (leads_down_to (leads_in_memory s.memory s.levels) target))
+        × (now.budget ≤ entries_taken now.promotion) }
 {}
 
 /// An array that was numbered before is one of the manifest before: here it has other entries, and the number that is written fits.
