@@ -33,7 +33,7 @@ advance-requires g c = record { kept = c.requires.kept }
 pub returns-in-Err-clause-ok : goal.returns-in-Err-clause-ok
 returns-in-Err-clause-ok g c x cached stands =
     told_up c.args.held.now cached (c.requires.kept.0 cached) (g.D.Disk.view c.args.disk.now) x stands _ c.requires.none c.requires.kept.1 c.advance.new.held (g.D.Disk.view c.advance.new.disk)
-    (told_as c.in-Err.obstacle) c.refusal_of.result c.refusal_of.ensures.ok (λ short. c.in-Err.ensures.none short x cached stands) (λ short. (c.in-Err.ensures.same.2 short).0)
+    (told_as c.in-Err.obstacle) c.refusal_of.result c.refusal_of.ensures.ok (λ short. c.in-Err.ensures.kept.1 short x cached stands) (λ short. (c.in-Err.ensures.same.2 short).0)
     (λ b bad. (c.in-Err.ensures.damaged b (handed (damaged_told c.in-Err.obstacle b bad))).2 x cached stands)
 
 pub returns-in-Err-clause-trail : goal.returns-in-Err-clause-trail
@@ -41,13 +41,13 @@ returns-in-Err-clause-trail g c x cached stands =
     trail_so_far (g.D.Disk.view c.args.disk.now) (g.D.Disk.view c.advance.new.disk) x _ (c.advance.ensures.trail x cached stands).0
 
 pub returns-in-Err-clause-kept : goal.returns-in-Err-clause-kept
-returns-in-Err-clause-kept g c calm = c.in-Err.ensures.kept (calm_short (told_as c.in-Err.obstacle) c.refusal_of.result c.refusal_of.ensures.ok calm)
+returns-in-Err-clause-kept g c calm = c.in-Err.ensures.kept.0 (calm_short (told_as c.in-Err.obstacle) c.refusal_of.result c.refusal_of.ensures.ok calm)
 
 pub returns-in-Err-clause-budget : goal.returns-in-Err-clause-budget
 returns-in-Err-clause-budget g c = λ done. absurd (let e : false ≡ true = done in cc)
 
 pub carry_out-requires-clause-kept : goal.carry_out-requires-clause-kept
-carry_out-requires-clause-kept g c = c.in_default.ensures.kept tt
+carry_out-requires-clause-kept g c = c.in_default.ensures.kept.0 tt
 
 pub carry_out-requires-clause-none : goal.carry_out-requires-clause-none
 carry_out-requires-clause-none g c =
@@ -66,7 +66,7 @@ carry_out-requires-clause-room g c =
     elim (c.in_default.ensures.found (empty_cache 0)) [
       | inl stays ↦ (
         omega (arith, ap (λ (l : Log). length l.list) (log_stays s mid stays), c.advance.ensures.same.0, stays.room),
-        λ unsealed. absurd (sealed_open mid stays.promotion stays.open_is (c.in_default.ensures.kept tt (empty_cache 0)).going unsealed),
+        λ unsealed. absurd (sealed_open mid stays.promotion stays.open_is (c.in_default.ensures.kept.0 tt (empty_cache 0)).going unsealed),
       )
       | inr emptied ↦
           let low : length c.advance.new.held.journal.list < c.advance.new.held.sb.mem =
@@ -89,7 +89,7 @@ returns-clause-ok g c x cached stands =
           (c.carry_out.ensures.ok x cached (one_open u mid x (advanced_open u s mid x stays went)))
       | inr emptied ↦
           let p = (advanced_published u s mid x emptied went).0 in
-          renewed c.args.held.now cached kept v x stands _ c.requires.none c.requires.kept.1 c.advance.new.held u (c.in_default.ensures.kept tt cached) c.advance.ensures.same.0 emptied.journal p
+          renewed c.args.held.now cached kept v x stands _ c.requires.none c.requires.kept.1 c.advance.new.held u (c.in_default.ensures.kept.0 tt cached) c.advance.ensures.same.0 emptied.journal p
           c.carry_out.new.held w c.carry_out.result (c.carry_out.ensures.ok p.after cached (one_published u mid p.after emptied.published.closed p.stands))
     ]
 
@@ -122,7 +122,7 @@ returns-in-Err-clause-disk g c = λ cached.
     let keeps = c.in-Err.ensures.same.3.1 cached in (
       gives_up (g.D.Disk.view c.args.disk.now) (g.D.Disk.view c.advance.new.disk) c.args.held.now c.advance.new.held cached (told_as c.in-Err.obstacle) c.refusal_of.result c.refusal_of.ensures.ok
           (let full = c.requires.kept.1 in let mem = (c.requires.kept.0 cached).log.mem in omega (arith, full, mem)) keeps.0 (λ other. c.in-Err.ensures.disk (λ e. other (let x : ◌≡◌ {A = Result _ Obstacle} (Err c.in-Err.obstacle) (Err Device) = e in let same : c.in-Err.obstacle ≡ Device = cc in ap told_as same)) cached)
-          (λ x stands. (c.advance.ensures.trail x cached stands).1) c.advance.ensures.images.1,
+          (λ x stands. (c.advance.ensures.trail x cached stands).1) c.advance.ensures.time.1,
       cursors_left (held_of c.args.held.now cached) (held_after c.advance.new.held cached (reply.Refused c.refusal_of.result)) _ _ keeps.1,
     )
 
@@ -140,7 +140,7 @@ returns-clause-disk g c = λ cached.
     let going = c.carry_out.ensures.found.2 cached in
     let still = c.in_default.ensures.disk (λ e. absurd (cc)) cached in
     let agree : c.carry_out.result ≢ reply.Refused why.DeviceFault → KeepsArrays v w s = λ other.
-    both_keep v u w s c.advance.new.held.sb.mem kept c.advance.ensures.same.0 c.advance.ensures.images.0 c.advance.ensures.images.1 (c.carry_out.ensures.images.1 other) in
+    both_keep v u w s c.advance.new.held.sb.mem kept c.advance.ensures.same.0 c.advance.ensures.time.0 c.advance.ensures.time.1 (c.carry_out.ensures.images.1 other) in
     elim (c.in_default.ensures.found cached) [
       | inl stays ↦ (
         promotes v u w s mid t c.carry_out.result stays keeps going still
@@ -148,7 +148,7 @@ returns-clause-disk g c = λ cached.
             let more = advanced_open u s mid x stays (c.in_default.ensures.ok x cached stands) in
             let first = (c.advance.ensures.trail x cached stands).1 paid in
             paid_then u w v.moment c.carry_out.ensures.images.0 first
-            ((c.carry_out.ensures.trail x cached more.stands).1 (paid_now u v.moment x more.stands.stands c.advance.ensures.images.0.later first)))
+            ((c.carry_out.ensures.trail x cached more.stands).1 (paid_now u v.moment x more.stands.stands c.advance.ensures.time.0.later first)))
             agree,
         cursors_left s after _ _ (cursors_ready s mid after stays.ready c.carry_out.ensures.found.0),
       )
@@ -158,7 +158,7 @@ returns-clause-disk g c = λ cached.
             let p = (advanced_published u s mid x emptied (c.in_default.ensures.ok x cached stands)).0 in
             let first = (c.advance.ensures.trail x cached stands).1 paid in
             paid_then u w v.moment c.carry_out.ensures.images.0 first
-            ((c.carry_out.ensures.trail p.after cached p.stands).1 (paid_now u v.moment p.after p.stands.stands c.advance.ensures.images.0.later first)))
+            ((c.carry_out.ensures.trail p.after cached p.stands).1 (paid_now u v.moment p.after p.stands.stands c.advance.ensures.time.0.later first)))
             (λ x stands. (advanced_published u s mid x emptied (c.in_default.ensures.ok x cached stands)).1)
             agree,
         cursors_published s after _ _ kept.placed (still_published s mid after emptied.published (keeps_spent mid t (is_fault c.carry_out.result) keeps.0) c.carry_out.ensures.found.0 going),
