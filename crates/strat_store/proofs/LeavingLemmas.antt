@@ -1,5 +1,5 @@
 -- What a command leaves of the superblock and the manifest of a store.
-use Rattle.std.proofs.Common.{◌≡◌, ◌≢◌, ◌≤◌, ◌<◌, ◌+◌, ◌-◌, ◌*◌, ◌&&◌, ℕ, Bool, true, false, inl, inr, List, length, Contains, Option, Some, None, refl, sym, ap, ◌∙◌, subst, arith, true≢false}
+use Rattle.std.proofs.Common.{◌≡◌, ◌≢◌, ◌≤◌, ◌<◌, ◌+◌, ◌*◌, ◌&&◌, ℕ, Bool, true, false, inl, inr, List, length, Contains, Option, Some, None, refl, sym, ap, ◌∙◌, subst, arith, true≢false}
 use Rattle.std.specs.Prelude.{IfSome, option_map}
 use Rattle.std.proofs.lemmas.Grind.{flat_map-append}
 use Rattle.std.proofs.lemmas.List.Elements.{Contains-append_left, Contains-append_right}
@@ -24,8 +24,6 @@ use Rattle.def_bytes.specs.Chained.{Chained}
 use Rattle.def_bytes.specs.Layout.{first_free, region_at, region_size}
 use Rattle.def_bytes.specs.Manifest.{Manifest}
 use Rattle.def_bytes.specs.SuperBlock.{Super}
-use Rattle.strat_gate.specs.SuperView.{super_of}
-use Rattle.strat_manifest.specs.ManifestView.{manifest_of}
 use Rattle.strat_model.specs.Answer.{Answer, accepts}
 use Rattle.strat_model.specs.Request.{Request, Put, Delete, Clone, DropVersion}
 use Rattle.strat_model.specs.Run.{is_change}

@@ -1,5 +1,5 @@
 -- A change that meets a full region: a promotion goes on first, and stays open, or a publication empties that region.
-use Rattle.std.proofs.Common.{◌≡◌, ◌≤◌, ◌<◌, ◌+◌, ◌-◌, ℕ, Bool, true, false, inl, inr, eqb, not, if◌then◌else◌, List, [], ◌∷◌, drop, length, Some, None, refl, sym, ap, ◌∙◌, subst, true≢false, arith}
+use Rattle.std.proofs.Common.{◌≡◌, ◌≤◌, ◌<◌, ◌+◌, ℕ, Bool, true, false, inl, inr, eqb, not, if◌then◌else◌, List, [], ◌∷◌, drop, length, Some, None, refl, sym, ap, ◌∙◌, subst, true≢false, arith}
 use Rattle.std.proofs.lemmas.List.{length-drop}
 use Rattle.strat_array.specs.Kept.{Blocks}
 use Rattle.strat_base.specs.Change.{Change}

@@ -1,7 +1,6 @@
 use Rattle.std.proofs.Common.{◌≡◌, ◌≢◌, ◌<◌, ◌∙◌, Option, true, false, length, Err, inl, inr, refl, ap, sym, subst, arith}
 use Rattle.std.specs.Prelude.{Result, IsErrOf}
 use Rattle.std.proofs.lemmas.List.{length-drop}
-use Rattle.strat_cursor.specs.Held.{HeldCursors}
 use Rattle.strat_journal.specs.Log.{Log}
 use Rattle.strat_model.specs.Answer.{accepts}
 use Rattle.strat_model.specs.declared.replies.Refusal.TheVariants as why
@@ -10,7 +9,6 @@ use Rattle.strat_promote.specs.Obstacles.{told_as}
 use Rattle.strat_promote.specs.declared.obstacle.Obstacle.{Obstacle}
 use Rattle.strat_promote.specs.declared.obstacle.Obstacle.TheVariants.{Device}
 use Rattle.def_slice.specs.Opened.{OpenPromotion}
-use Rattle.strat_memory.specs.Held.{Held}
 use Rattle.strat_memory.specs.RecoveredFields.{empty_cache, held_of}
 use Rattle.strat_publish.proofs.AdvancingLemmas.{read_open}
 use Rattle.strat_publish.proofs.ObstacleLemmas.{damaged_told}
