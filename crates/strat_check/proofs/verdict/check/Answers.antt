@@ -71,5 +71,5 @@ returns-clause-cause g c = told_why g (goal.at.returns-clause-cause g c).After-o
 pub returns-clause-reads : goal.returns-clause-reads
 returns-clause-reads g c = (
   reads_both _ _ _ _ _ c.read_store.ensures.reads.0 c.check_store-told.ensures.reads.0,
-  λ f h exposed found memory device. reads_of_store f h _ _ _ _ (c.in-Ok.ensures.found f exposed) found c.in-Ok.ensures.reads.1 c.check_store-told.ensures.reads.1,
+  λ f h exposed found memory device. reads_of_store f h _ _ _ _ (c.in-Ok.ensures.found f exposed) found c.in-Ok.ensures.reads.1.0 c.check_store-told.ensures.reads.1,
 )

@@ -27,7 +27,7 @@ answered : (g : Over) (c : After-keep g) (y : Streams) (sink : g.row.K.Denot) �
     (shown g y c.make_way.new.sink c.args.disk.now) (shown g y sink c.answer_frame-met.new.disk) c.args.buffers.now.frames.body c.answer_frame-met.result c.answer_frame-met.new.out
 answered g c y sink = record {
   left = refl;
-  is = subst (λ (b : List ℕ). IsAnswered g.P.Protocol.speech (g.D.Disk.view c.args.disk.now) (g.D.Disk.view c.answer_frame-met.new.disk) c.args.store.now b c.answer_frame-met.result c.answer_frame-met.new.store c.answer_frame-met.new.out) c.body.ensures c.answer_frame-met.ensures.ok;
+  is = subst (λ (b : List ℕ). IsAnswered g.P.Protocol.speech (g.D.Disk.view c.args.disk.now) (g.D.Disk.view c.answer_frame-met.new.disk) c.args.store.now b c.answer_frame-met.result c.answer_frame-met.new.store c.answer_frame-met.new.out) c.body-2.ensures c.answer_frame-met.ensures.ok;
   passes = c.answer_frame-met.ensures.time;
   cause = c.answer_frame-met.ensures.cause;
   spent = c.answer_frame-met.ensures.state;
