@@ -17,7 +17,7 @@ open_budget f s x o now most going all slices =
     slices (slice_numbers o) most (subst (λ (p : Option OpenPromotion). AreNumbersOf s.sb.mem (length s.log.list) (leads_in_memory s.memory s.levels) p (slice_numbers o)) (sym going) refl) all
 
 -- that of one that begins
-begun_numbers : (s : Held) → ℕ → SliceNumbers
+abbrev begun_numbers : (s : Held) → ℕ → SliceNumbers
 begun_numbers s target = record {
   budget = budget_for s.sb.mem (length s.log.list) (leads_down_to (leads_in_memory s.memory s.levels) target);
   sum = leads_down_to (leads_in_memory s.memory s.levels) target;
