@@ -99,7 +99,8 @@ def levels_of_a_damaged_file_name_the_block(folder):
     store, contents = store_after(folder, *DISTINCT[:2])
     data, path = bytes_of(store.path), os.path.join(folder, "a.store")
     manifest, journal = contents.chain[0] * BLOCK, formats.region_start(4, contents.head.region) * BLOCK
-    for name, place, piece, block in (("a manifest", manifest + 4, b"\xff", 8), ("its link", manifest, b"\1", 8),
+    for name, place, piece, block in (("a manifest", manifest + 4, b"\xff", contents.chain[0]),
+                                      ("its link", manifest, b"\1", contents.chain[0]),
                                       ("a superblock", contents.slot * BLOCK + 9, b"\xff", contents.slot),
                                       ("a record", journal + 1, b"\xff", journal // BLOCK),
                                       ("a version that is not there", journal + 5, b"\1", journal // BLOCK)):
