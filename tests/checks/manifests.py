@@ -200,7 +200,8 @@ def a_long_chain_is_followed_by_a_longer_one(folder):
     with open(path, "wb") as file:
         file.write(data)
     store = formats.store_of(data, formats.read(data))
-    puts = [put(i, key, b"1", 2099) for i, key in enumerate((b"b", b"c", b"d", b"e", b"f"))]
+    # four fill a region, the fifth begins their promotion, and the sixth publishes it
+    puts = [put(i, key, b"1", 2099) for i, key in enumerate((b"b", b"c", b"d", b"e", b"f", b"g"))]
     looks = [get(9, key, version) for version in (0, 1, 2098, 2099, 2100) for key in (b"a", b"b", b"f")]
     for sent in (puts + looks, looks):
         out, status = store.serve(b"".join(sent))
