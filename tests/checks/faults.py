@@ -51,7 +51,7 @@ def a_fault_amid_a_publication_leaves_the_store_before_or_after(folder):
             expect(f"{call} {number}, acknowledged", store.model.counts()[2] in (answered, answered + 1), True)
             seen.add((call, answered, formats.read(bytes_of(store.path)).head.generation))
             store.expect_answers(f"{call} {number}, again", [*puts, *(get(tag, b"%d" % tag) for tag in range(6))])
-    expect("what was seen", seen >= {(call, 4, generation) for call in ("fdatasync", "pwrite64") for generation in (1, 2)}, True)
+    expect("what was seen", seen >= {(call, 5, generation) for call in ("fdatasync", "pwrite64") for generation in (1, 2)}, True)
 
 
 def a_folder_or_file_without_leave_is_a_device_fault(folder):
