@@ -215,8 +215,8 @@ class StoreCase(unittest.TestCase):
 
     def damaged(self) -> Store:
         """A store of the keys `k01` to `k13`, of which all but the last are in block 7, which is damaged."""
-        with self.made(4, 100, 10) as store:  # docs/FORMATS.md: so many puts with M 4 leave one array, in that block
-            for number in range(1, 14):
+        with self.made(4, 100, 10) as store:  # so many puts with M 4 leave one array, in that block, and two changes behind it
+            for number in (*range(1, 14), 13):
                 store.put(0, f"k{number:02}", "")
         with open(self.path, "r+b") as file:
             file.seek(7 * 4096)
