@@ -60,8 +60,8 @@ fn a_leader_sends_its_changes_alone(rt: HostRuntime) {
     assert!(rt; sends_its_change(rt.alloc(), &mut disk));
 }
 
-/// Whether a follower takes what a leader sent, and knows all of what that sends as it starts anew, as far as its journal has
-/// it: the last of five changes.
+/// Whether a follower takes what a leader sent, and knows all of what that sends as it starts anew: five changes, four of which
+/// fill the active region of the leader's journal.
 fn follows_leader(alloc: Global, leader: &mut MemDisk, follower: &mut MemDisk) -> Option<bool> {
     let (_, first) = lead_all(alloc, leader, PUTS)?;
     let (_, again) = lead_all(alloc, leader, b"")?;
@@ -69,9 +69,9 @@ fn follows_leader(alloc: Global, leader: &mut MemDisk, follower: &mut MemDisk) -
     let (_, known) = follow_all(alloc, follower, again.bytes())?;
     Some(
         first.bytes() == CHANGES
-            && again.bytes() == &CHANGES[72..]
+            && again.bytes() == CHANGES
             && count_status(receipts.bytes(), 0) == 5
-            && count_status(known.bytes(), 1) == 1,
+            && count_status(known.bytes(), 1) == 5,
     )
 }
 
