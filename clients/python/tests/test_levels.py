@@ -17,6 +17,8 @@ stored 8 updates 6 written 7
 """
 ARRAYS = (Array(1, 3, 3, 2, (0, 1)), Array(2, 4, 2, 3, (2, 3)))
 LEVELS = Levels(2, 8, 9, 100, 4, 10, 1, 1, (Level(1, 4, 5, 7, ARRAYS),), 8, 6, 7)
+# After the change with which the promotion into them ended, the fourth at a full journal
+FILLED = LEVELS._replace(changes=12, journal_changes=4, journal_updates=4, stored=11, updates=9)
 EMPTY = Levels(1, 64, 0, 1000, 1, 10, 0, 0, (), 0, 0, 0)
 
 
@@ -62,14 +64,15 @@ class LevelsTest(unittest.TestCase):
 
 
 def fill(store: Store) -> None:
-    """Changes that lead to the levels above, in a store with M 8."""
+    """Changes that lead to the levels of `FILLED`, in a store with M 8."""
     store.put(0, "a", "1")
     store.put(0, "b", "1")
     for _ in range(3):
         store.clone(0)
     for version in (1, 2, 3):
         store.put(version, "c", f"{version}")
-    store.put(1, "d", "1")
+    for _ in range(4):
+        store.put(1, "d", "1")
 
 
 class StoreLevelsTest(StoreCase):
@@ -77,13 +80,13 @@ class StoreLevelsTest(StoreCase):
         store = self.made(8, 100, 10)
         self.assertEqual(store.levels(), EMPTY._replace(mem=8, changes_max=100))
         fill(store)
-        self.assertEqual(store.levels(), LEVELS)
-        self.assertEqual(store.stat().changes, 9)
+        self.assertEqual(store.levels(), FILLED)
+        self.assertEqual(store.stat().changes, 12)
         with store.batch() as batch:
             for number in range(3):
                 batch.put(1, f"{number}", "1")
             found = store.levels()
-        self.assertEqual((found.changes, found.journal_updates), (12, 4))
+        self.assertEqual((found.changes, found.journal_updates), (15, 7))
         self.assertEqual(store.get(1, "2"), b"1")
         store.close()
         with self.assertRaises(errors.StoreClosed):
@@ -94,9 +97,9 @@ class StoreLevelsTest(StoreCase):
         with self.made(8, 100, 10) as store:
             fill(store)
         out, complaint, status = self.shell("levels\nlevels --svg levels.svg\n")
-        self.assertEqual((out.splitlines(), complaint, status), ([*levels.lines(LEVELS), "wrote levels.svg"], "", 0))
+        self.assertEqual((out.splitlines(), complaint, status), ([*levels.lines(FILLED), "wrote levels.svg"], "", 0))
         with open(os.path.join(self.folder, "levels.svg"), encoding="utf-8") as file:
-            self.assertEqual(file.read(), "".join(picture_levels.svg(LEVELS, "a.store")))
+            self.assertEqual(file.read(), "".join(picture_levels.svg(FILLED, "a.store")))
         self.assertIn("usage: levels [--svg FILE]", self.shell("levels --svg\n")[1])
 
     def test_levels_that_can_not_be_told_say_why(self) -> None:

@@ -8,7 +8,7 @@ from typing import Any, Iterable, List, Sequence
 from xml.etree import ElementTree
 
 from support import StoreCase
-from test_levels import EMPTY, LEVELS, fill
+from test_levels import EMPTY, FILLED, LEVELS, fill
 
 from drawing import SPACE, Picture
 from session import carried_out
@@ -109,7 +109,7 @@ class StoreReportTest(StoreCase):
             fill(store)
             store.names["staging"] = 1
             found = gathered(store)
-            self.assertEqual((found.levels, list(found.versions), dict(found.names)), (LEVELS, list(VERSIONS), {1: ["staging"]}))
+            self.assertEqual((found.levels, list(found.versions), dict(found.names)), (FILLED, list(VERSIONS), {1: ["staging"]}))
             self.assertEqual(found.keys, {0: Count(2), 1: Count(4), 2: Count(3), 3: Count(3)})
             self.assertEqual(found.samples, {1: [b"a", b"b", b"c"], 2: [b"a", b"b", b"c"], 3: [b"a", b"b", b"c"]})
             self.assertEqual((found.name, found.is_copy, found.size), ("a.store", False, os.path.getsize(self.path)))
