@@ -4,17 +4,21 @@
 import argparse
 import array
 import contextlib
+import functools
 import gc
 import importlib.machinery
 import importlib.util
 import io
 import os
+import pathlib
 import random
 import re
 import subprocess
 import sys
 
+import formats
 import model
+import promotions
 from program import PROGRAM, TOP, Skipped, StoreFile, Wrong, expect, run_checks
 
 CASTLE, SQLITE = "castle", "SQLite"
@@ -104,9 +108,12 @@ ANSWERER = """\
 #!{python}
 import sys, time
 sys.path.insert(0, {tests!r})
-import model
+import formats, model
 
-store = model.Store(16, 1000, 1000)
+path, store = sys.argv[2], model.Store(16, 1000, 1000)
+if sys.argv[1] == "format":
+    with open(path, "wb") as file:
+        file.write(formats.unpublished(store))
 place = -1  # of the change, behind a frame that asks for the counts
 while sys.argv[1] == "serve" and (head := sys.stdin.buffer.read(4)):
     reply = store.answer(sys.stdin.buffer.read(int.from_bytes(head, "big")))
@@ -179,17 +186,22 @@ def the_plain_stores_answers_are_waited_for_too(folder):
 
 
 def a_wait_is_from_a_question_to_its_answer(folder):
-    """The clock of this test stands still except while questions are answered."""
-    now, collects = [1000], []
+    """The clock of this test stands still except while questions are answered, and while something is looked at in between."""
+    now, collects, looks = [1000], [], []
 
     def ask(question):
         now[0] += question
         collects.append(gc.isenabled())
         return -question
 
+    def look(place):
+        now[0] += 7
+        looks.append((place, len(collects)))
+
     with changed(bench.time, "perf_counter_ns", lambda: now[0]):
-        waits, answers = bench.timed(ask, [3, 5, 900])
+        waits, answers = bench.timed(ask, [3, 5, 900], look)
     expect("waits and answers", (list(waits), answers), ([3, 5, 900], [-3, -5, -900]))
+    expect("places that were looked at, and how many were answered", looks, [(0, 1), (1, 2), (2, 3)])
     expect("garbage is collected meanwhile, and afterwards", (collects, gc.isenabled()), ([False] * 3, True))
 
 
@@ -244,30 +256,85 @@ def a_table_shows_what_was_measured(folder):
 def percentiles_are_those_of_the_nearest_rank(folder):
     waits = array.array("q", range(1, 2001))
     random.Random(1).shuffle(waits)
-    expect("of 2,000", bench.values_of_waits(waits), (1000, 1980, 1998, 2000, 2, *[None] * 5))
-    expect("of 3", bench.values_of_waits(array.array("q", [9, 1, 4])), (4, 9, 9, 9, 9 / 4, *[None] * 5))
+    expect("of 2,000", bench.values_of_waits(waits), (1000, 1980, 1998, 2000, 2, *[None] * 8))
+    expect("of 3", bench.values_of_waits(array.array("q", [9, 1, 4])), (4, 9, 9, 9, 9 / 4, *[None] * 8))
     ten = list(range(1, 11))
     ranks = [(1, 1), (100, 1), (101, 2), (500, 5), (501, 6), (900, 9), (901, 10), (1000, 10)]
     expect("of 10", [bench.percentile(ten, thousandths) for thousandths, _ in ranks], [rank for _, rank in ranks])
     expect("of one, and of none", (bench.percentile([7], 1), bench.percentile([], 500)), (7, None))
 
 
-def changes_that_empty_the_journal_are_told_apart(folder):
-    # with M 4 these are the changes 5 and 9, counted from 1
-    waits = array.array("q", [20, 10, 10, 10, 700, 10, 10, 10, 900, 30])
-    expect("two", bench.values_of_waits(waits, 4), (10, 900, 900, 900, 90, 2, 700, 900, 30, 3))
-    expect("what was given", list(waits), [20, 10, 10, 10, 700, 10, 10, 10, 900, 30])
-    expect("none", bench.values_of_waits(waits, 10), (10, 900, 900, 900, 90, 0, None, None, 900, 90))
-    expect("one, the last", bench.values_of_waits(waits, 9)[5:], (1, 30, 30, 900, 90))
+def changes_with_a_checkpoint_and_with_a_slice_are_told_apart(folder):
+    # with M 4 the changes from place 4 on do a slice; the checkpoint of place 6 leaves 3 of 7, and with place 7 there are 4 again
+    waits = array.array("q", [20, 10, 10, 10, 60, 40, 900, 20, 50, 700, 20])
+    found = (20, 900, 900, 900, 45)
+    expect("two", bench.values_of_waits(waits, 4, [6, 9]), (*found, 2, 700, 900, 60, 3, 3, 50, 60))
+    expect("what was given", list(waits), [20, 10, 10, 10, 60, 40, 900, 20, 50, 700, 20])
+    expect("one with the first slice", bench.values_of_waits(waits, 9, [9]), (*found, 1, 700, 700, 900, 45, 0, None, None))
+    expect("none, and slices", bench.values_of_waits(waits, 8), (*found, 0, None, None, 900, 45, 3, 50, 700))
+    expect("none, and no slice", bench.values_of_waits(waits, 11), (*found, 0, None, None, 900, 45, 0, None, None))
+
+
+def a_checkpoint_is_seen_where_it_is_made(folder):
+    path, store = os.path.join(folder, "new.store"), model.Store(16, 1000, 1000)
+    pathlib.Path(path).write_bytes(formats.unpublished(store))
+    seen, lay = bench.Superblocks(path), functools.partial(formats.lay, path, store.limits)
+    for place in range(10):
+        if place in (0, 3, 4, 9):
+            lay(len(seen.places) + 2)
+        seen.look(place)
+    expect("places", seen.checkpoints(), [0, 3, 4, 9])
+    lay(6)
+    lay(7)
+    seen.look(10)
+    try:
+        seen.checkpoints()
+    except bench.Different:
+        return
+    raise Wrong("two checkpoints are taken for one")
+
+
+def checkpoints_of_a_made_up_program_are_counted(folder):
+    for statement, status, row in (("formats.lay(path, store.limits, 2)", 0, ["1"]), ("formats.lay(path, store.limits, 3)", 1, [])):
+        with answerer(folder, 16, statement):
+            ended, out, errors = waited(folder)
+        expect(statement, (ended, [line.split("|")[8].strip() for line in out.splitlines() if "| castle, " in line]), (status, row))
+        expect(f"{statement}, complaints", errors.count("1 checkpoints were seen, and the store has generation 3"), status)
+
+
+def as_the_model_has_it(change):
+    kind = {bench.Put: model.PUT, bench.Delete: model.DELETE, bench.Clone: model.CLONE}[type(change)]
+    return (kind, *change)
+
+
+def checkpoints_of_the_model(changes, mem):
+    """The places of changes that make a checkpoint, and how many do a slice and make none."""
+    journal, places, slices = promotions.Journal(mem), [], 0
+    for place, change in enumerate(changes):
+        times, full = journal.times, len(journal.changes) >= mem
+        journal.take(as_the_model_has_it(change))
+        if journal.times != times:
+            places.append(place)
+        elif full:
+            slices += 1
+    return places, slices
+
+
+def checkpoints_are_those_of_the_model(folder):
+    for name in bench.WORKLOADS:
+        for mem in (4, 5, 16):
+            changes = bench.drawn(name, 200, 1)[0]
+            places = bench.waited_for(folder, mem, list(bench.frames_of(changes)))[2]
+            expect(f"{name}, M {mem}", places, checkpoints_of_the_model(changes, mem)[0])
 
 
 def a_table_shows_waits(folder):
     waits = array.array("q", [2_000] * 10 + [1_234_567])
-    rows = [(11, {"castle, synced": bench.values_of_waits(waits, 10), "a pipe alone": bench.values_of_waits(waits[:10])})]
+    rows = [(11, {"castle, synced": bench.values_of_waits(waits, 8, [10]), "a pipe alone": bench.values_of_waits(waits[:10])})]
     *_, castle, alone, end = bench.table("puts", bench.WAITS, rows)
     expect("the rows", (castle, alone, end), (
-        "| 11 | castle, synced | 2.0 | 1,234.6 | 1,234.6 | 1,234.6 | 617.3 | 1 | 1,234.6 | 1,234.6 | 2.0 | 1.0 |",
-        "| 11 | a pipe alone | 2.0 | 2.0 | 2.0 | 2.0 | 1.0 |  |  |  |  |  |", ""))
+        "| 11 | castle, synced | 2.0 | 1,234.6 | 1,234.6 | 1,234.6 | 617.3 | 1 | 1,234.6 | 1,234.6 | 2.0 | 1.0 | 2 | 2.0 | 2.0 |",
+        "| 11 | a pipe alone | 2.0 | 2.0 | 2.0 | 2.0 | 1.0 |  |  |  |  |  |  |  |  |", ""))
 
 
 def the_waits_of_both_stores_and_a_pipe_are_told(folder):
@@ -277,11 +344,12 @@ def the_waits_of_both_stores_and_a_pipe_are_told(folder):
     rows = [line.strip("| ").split(" | ") for line in ran.stdout.splitlines() if re.match(r"\| [48]0 \|", line)]
     stores = ["castle, synced", "SQLite, synced", "castle, in memory", "SQLite, in memory", "a pipe alone"]
     expect("its rows", [row[:2] for row in rows], [[count, store] for count in ("40", "80") for store in stores] * 2)
-    for count, store, *cells in rows:
+    wanted = [checkpoints_of_the_model(bench.drawn(name, count, 1)[0], 16) for name in ("puts", "star") for count in (40, 80) for _ in stores]
+    for (count, store, *cells), (places, slices) in zip(rows, wanted):
         figures = [float(cell.replace(",", "")) for cell in cells if cell.strip(" |")]
         expect(f"{store}, in order", figures[:4], sorted(figures[:4]))
-        emptied = [{"40": 2, "80": 4}[count]] if store.startswith("castle") else []
-        expect(f"{store}, its journal", (len(figures), figures[5:6]), (10 if emptied else 5, emptied))
+        told = [len(places), slices] if store.startswith("castle") else []
+        expect(f"{store}, checkpoints and slices", (len(figures), figures[5::5]), (13 if told else 5, told))
     expect("what is left behind", os.listdir(folder), [])
 
 
@@ -444,7 +512,10 @@ CHECKS = [
     replies_are_no_bytes_of_the_file,
     a_table_shows_what_was_measured,
     percentiles_are_those_of_the_nearest_rank,
-    changes_that_empty_the_journal_are_told_apart,
+    changes_with_a_checkpoint_and_with_a_slice_are_told_apart,
+    a_checkpoint_is_seen_where_it_is_made,
+    checkpoints_of_a_made_up_program_are_counted,
+    checkpoints_are_those_of_the_model,
     a_table_shows_waits,
     the_waits_of_both_stores_and_a_pipe_are_told,
     a_place_without_a_name_is_left_out,

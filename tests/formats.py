@@ -533,3 +533,10 @@ def unpublished(store):
     """The file of a store that never emptied its journal, where no run on it was cut off."""
     head = new_head(*store.limits)
     return file_of(0, head, EMPTY, [head.first], (), store.changes)
+
+
+def lay(path, limits, generation):
+    """Writes a superblock of a generation into its slot of a file, and nothing else."""
+    with open(path, "r+b") as file:
+        file.seek((generation - 1) % 2 * BLOCK)
+        file.write(head_bytes(new_head(*limits)._replace(generation=generation)))
