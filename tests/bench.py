@@ -32,6 +32,7 @@ def bench_as_library(name):
 
 
 bench = bench_as_library("run")
+waiting = importlib.import_module("waits")  # found where the bench found it
 clones = bench_as_library("clones")
 
 
@@ -260,8 +261,8 @@ def percentiles_are_those_of_the_nearest_rank(folder):
     expect("of 3", bench.values_of_waits(array.array("q", [9, 1, 4])), (4, 9, 9, 9, 9 / 4, *[None] * 8))
     ten = list(range(1, 11))
     ranks = [(1, 1), (100, 1), (101, 2), (500, 5), (501, 6), (900, 9), (901, 10), (1000, 10)]
-    expect("of 10", [bench.percentile(ten, thousandths) for thousandths, _ in ranks], [rank for _, rank in ranks])
-    expect("of one, and of none", (bench.percentile([7], 1), bench.percentile([], 500)), (7, None))
+    expect("of 10", [waiting.percentile(ten, thousandths) for thousandths, _ in ranks], [rank for _, rank in ranks])
+    expect("of one, and of none", (waiting.percentile([7], 1), waiting.percentile([], 500)), (7, None))
 
 
 def changes_with_a_checkpoint_and_with_a_slice_are_told_apart(folder):
@@ -328,6 +329,22 @@ def checkpoints_are_those_of_the_model(folder):
             expect(f"{name}, M {mem}", places, checkpoints_of_the_model(changes, mem)[0])
 
 
+def a_change_waits_as_long_as_in_the_run_where_it_waited_least(folder):
+    runs = [array.array("q", waits) for waits in ([5, 1, 9], [4, 2, 9], [6, 7, 8])]
+    expect("of three", bench.least(runs), array.array("q", [4, 1, 8]))
+    expect("of one", bench.least(runs[:1]), runs[0])
+    asked = []
+    with answerer(folder, None, "pass"), changed(bench, "least", lambda runs: asked.append(len(runs)) or runs[0]):
+        expect("runs of the bench", (waited(folder, "--runs", "3")[0], asked), (0, [3, 3, 3]))
+
+
+def a_checkpoint_that_comes_elsewhere_in_another_run_is_noticed(folder):
+    for runs, places, status in (("2", [[7], [7]], 0), ("2", [[7], [8]], 1), ("3", [[7], [7], []], 1)):
+        with answerer(folder, None, "pass"), changed(bench.Superblocks, "checkpoints", lambda seen, told=iter(places): next(told)):
+            ended, _, errors = waited(folder, "--runs", runs)
+        expect(f"{places}", (ended, errors.count("checkpoints elsewhere in another run")), (status, status))
+
+
 def a_table_shows_waits(folder):
     waits = array.array("q", [2_000] * 10 + [1_234_567])
     rows = [(11, {"castle, synced": bench.values_of_waits(waits, 8, [10]), "a pipe alone": bench.values_of_waits(waits[:10])})]
@@ -364,13 +381,19 @@ def a_place_without_a_name_is_left_out(folder):
 
 def wrong_words_of_the_bench_are_refused(folder):
     for words in (["--gets", "5"], ["--wholes", "0"], ["--mem", "3"], ["--mem", "4097"], ["--counts", "9"], ["--counts", "x"],
-                  ["--counts", "16777217"], ["--workloads", "others"], ["--disk", ""], ["--disk", os.path.join(folder, "none")], ["--waits=5"]):
+                  ["--counts", "16777217"], ["--workloads", "others"], ["--disk", ""], ["--disk", os.path.join(folder, "none")], ["--waits=5"], ["--runs", "0"], ["--runs", "101"]):
         try:
             waited(folder, *words)
         except SystemExit as ended:
             expect(f"{words}", ended.code, 2)
         else:
             raise Wrong(f"{words} are taken")
+    try:
+        measured(folder, "--runs", "2")
+    except SystemExit as ended:
+        expect("runs without --waits", ended.code, 2)
+    else:
+        raise Wrong("--runs is taken without --waits")
     with changed(bench, "PROGRAM", os.path.join(folder, "none")):
         expect("no program", waited(folder), (2, "", "bench: the program isn't built: run ./castle once\n"))
 
@@ -395,7 +418,6 @@ def the_wear_is_within_its_bounds(folder):
                          capture_output=True, timeout=60)
     expect("its status", (ran.returncode, ran.stderr.count(b"\n")), (0, 2))
     rows = re.findall(rb"^\| (100|2,000) \| ([\d.]+) \| (\d+) \| ([\d.]+) \| 2 \|", ran.stdout, re.MULTILINE)
-    # the promotion of the first 64 changes is open when 100 were made
     expect("its rows", rows, [(b"100", b"0.00", b"4", b"1.00"), (b"2,000", b"3.52", b"20", b"1.19")])
 
 
@@ -516,6 +538,8 @@ CHECKS = [
     a_checkpoint_is_seen_where_it_is_made,
     checkpoints_of_a_made_up_program_are_counted,
     checkpoints_are_those_of_the_model,
+    a_change_waits_as_long_as_in_the_run_where_it_waited_least,
+    a_checkpoint_that_comes_elsewhere_in_another_run_is_noticed,
     a_table_shows_waits,
     the_waits_of_both_stores_and_a_pipe_are_told,
     a_place_without_a_name_is_left_out,
