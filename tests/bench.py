@@ -418,6 +418,7 @@ def the_wear_is_within_its_bounds(folder):
                          capture_output=True, timeout=60)
     expect("its status", (ran.returncode, ran.stderr.count(b"\n")), (0, 2))
     rows = re.findall(rb"^\| (100|2,000) \| ([\d.]+) \| (\d+) \| ([\d.]+) \| 2 \|", ran.stdout, re.MULTILINE)
+    # the promotion of the first 64 changes is open when 100 were made
     expect("its rows", rows, [(b"100", b"0.00", b"4", b"1.00"), (b"2,000", b"3.52", b"20", b"1.19")])
 
 
