@@ -79,7 +79,7 @@ def a_byte(chance, base):
 
 def with_manifest(base, manifest, **fields):
     """The bytes with this manifest in the chain's blocks, or behind the file where it takes more. Fields are of the superblock."""
-    contents, spelling = base.contents, formats.spelled(manifest)
+    contents, spelling = base.contents, formats.spelled(manifest, base.contents.head.form)
     count, end = -(-len(spelling) // formats.CHAINED), -(-len(base.data) // BLOCK)
     chain = [*contents.chain, *range(end, end + count)][:count]
     data = base.data.ljust((max(chain) + 1) * BLOCK, b"\0")
@@ -99,7 +99,8 @@ def a_field_of_the_superblock(chance, base):
 
 def a_field_of_the_manifest(chance, base):
     manifest = base.contents.manifest
-    name, most = chance.choice((("changes", 2 ** 32 - 1), ("updates", 2 ** 32 - 1), ("written", 2 ** 64 - 1), ("next_array", 2 ** 64 - 1)))
+    name, most = chance.choice((("changes", 2 ** 32 - 1), ("updates", 2 ** 32 - 1), ("written", 2 ** 64 - 1), ("compacted", 2 ** 64 - 1),
+                                ("next_array", 2 ** 64 - 1)))
     return with_manifest(base, manifest._replace(**{name: near(chance, getattr(manifest, name), most)}))
 
 
@@ -306,7 +307,7 @@ def a_chain(chance, base):
     if way == 1:
         link = chance.choice((0, *contents.chain, *base.blocks, end, 2 ** 32 - 1, chance.randrange(2 ** 32)))
         return patched(base.data, chance.choice(contents.chain) * BLOCK, link.to_bytes(4, "big"))
-    spelling = formats.spelled(contents.manifest)
+    spelling = formats.spelled(contents.manifest, contents.head.form)
     if way == 2:
         spelling += bytes(chance.choice((1, formats.CHAINED)))
     count = -(-len(spelling) // formats.CHAINED)

@@ -18,10 +18,14 @@ LEVELS = 22
 BLOCKS_END = 2 ** 32 - 1
 FORM = ">B8sHQIIBIII"  # the fields of a superblock slot
 MAGIC = b"STRATBT1"
+SHORTEST = {1: 29, 2: 38}  # bytes of the shortest manifest in each format
+NEWEST = 2  # the format that checkpoints write
 
 Head = collections.namedtuple("Head", "gate magic form generation first length region mem changes_max versions_max")
-# What is in levels: `parents` has one number for each version from 1 on
-Manifest = collections.namedtuple("Manifest", "changes updates written next_array parents levels")
+# What is in levels: `parents` has one number for each version from 1 on, `marks` one for each from 0 on, or nothing where
+# no version was dropped
+Manifest = collections.namedtuple(
+    "Manifest", "changes updates written next_array parents levels compacted marks", defaults=(0, ()))
 Level = collections.namedtuple("Level", "number horizon arrays")
 # `extents` has pairs of a first block and a length
 Array = collections.namedtuple("Array", "id entries leads least extents versions")
@@ -67,8 +71,8 @@ def block_at(data, number):
 # Superblocks
 
 def lawful(head):
-    return (head.form == 1 and head.generation >= 1 and 4 <= head.mem <= 4096
-            and first_free(head.mem) <= head.first < BLOCKS_END and head.length >= 29 and head.region <= 1
+    return (head.form in SHORTEST and head.generation >= 1 and 4 <= head.mem <= 4096
+            and first_free(head.mem) <= head.first < BLOCKS_END and head.length >= SHORTEST[head.form] and head.region <= 1
             and 1 <= head.changes_max <= 2 ** 24 and 1 <= head.versions_max <= 2 ** 14)
 
 
@@ -135,18 +139,29 @@ def level_in(fields, count, next_array):
     return Level(number, horizon, tuple(arrays))
 
 
-def manifest_in(data):
-    """The manifest with this spelling. A ValueError tells that there is none."""
+def marks_in(fields, parents):
+    """The marks of versions with these parents: below a dropped one all were."""
+    marks = [fields.number(1, 0, 0)]
+    for parent in parents:
+        marks.append(fields.number(1, marks[parent], 1))
+    return tuple(marks) if any(marks) else ()
+
+
+def manifest_in(data, form=NEWEST):
+    """The manifest with this spelling in a format. A ValueError tells that there is none."""
     fields = Fields(data)
     changes = fields.number(4)
-    updates, written, next_array = fields.number(4, 0, changes), fields.number(8), fields.number(8, 1)
+    updates, written = fields.number(4, 0, changes), fields.number(8)
+    compacted = fields.number(8) if form == 2 else 0
+    next_array = fields.number(8, 1)
     count = fields.number(4, 1, 2 ** 14)
     parents = tuple(fields.number(4, 0, version - 1) for version in range(1, count))
+    marks = marks_in(fields, parents) if form == 2 else ()
     levels = tuple(level_in(fields, count, next_array) for _ in range(fields.number(1, 0, LEVELS)))
     ascend([level.number for level in levels])
     if fields.place != len(data):
         raise ValueError
-    return Manifest(changes, updates, written, next_array, parents, levels)
+    return Manifest(changes, updates, written, next_array, parents, levels, compacted, marks)
 
 
 def spelled_array(array):
@@ -156,11 +171,15 @@ def spelled_array(array):
         struct.pack(">I", len(array.versions)), *(struct.pack(">I", version) for version in array.versions)))
 
 
-def spelled(manifest):
-    """The bytes of a manifest."""
+def spelled(manifest, form=NEWEST):
+    """The bytes of a manifest in a format."""
+    count = len(manifest.parents) + 1
     return b"".join((
-        struct.pack(">IIQQI", *manifest[:4], len(manifest.parents) + 1),
+        struct.pack(">IIQ", *manifest[:3]),
+        struct.pack(">Q", manifest.compacted) if form == 2 else b"",
+        struct.pack(">QI", manifest.next_array, count),
         *(struct.pack(">I", parent) for parent in manifest.parents),
+        bytes(manifest.marks or count) if form == 2 else b"",
         bytes([len(manifest.levels)]),
         *(struct.pack(">BII", level.number, level.horizon, len(level.arrays)) + b"".join(map(spelled_array, level.arrays))
           for level in manifest.levels)))
@@ -226,8 +245,10 @@ def complaints(head, manifest, chain):
         yield "a generation that is too great"
     if manifest.next_array > 16384 * manifest.changes + 1:
         yield "an array number that is too great"
-    if manifest.written > 33554432 * manifest.changes:
+    if max(manifest.written, manifest.compacted) > 33554432 * manifest.changes:
         yield "more written than can be"
+    if manifest.marks:
+        yield "a version was dropped"
 
 
 def manifest_of(data, head):
@@ -237,7 +258,7 @@ def manifest_of(data, head):
     if any(whole[head.length:]):
         raise Damaged(head.first, "the last block of the manifest is not filled with zeros")
     try:
-        manifest = manifest_in(whole[:head.length])
+        manifest = manifest_in(whole[:head.length], head.form)
     except ValueError:
         raise Damaged(head.first, "these are the bytes of no manifest") from None
     for why in complaints(head, manifest, chain):
@@ -522,11 +543,11 @@ def file_with(slot, head, spelling, chain, blocks=(), journal=()):
 
 def file_of(slot, head, manifest, chain, blocks=(), journal=()):
     """The same of a manifest."""
-    return file_with(slot, head, spelled(manifest), chain, blocks, journal)
+    return file_with(slot, head, spelled(manifest, head.form), chain, blocks, journal)
 
 
-def new_head(mem, changes_max, versions_max):
-    return Head(OPEN, MAGIC, 1, 1, first_free(mem), 29, 0, mem, changes_max, versions_max)
+def new_head(mem, changes_max, versions_max, form=NEWEST):
+    return Head(OPEN, MAGIC, form, 1, first_free(mem), SHORTEST[form], 0, mem, changes_max, versions_max)
 
 
 def unpublished(store):

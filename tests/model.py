@@ -273,4 +273,4 @@ class Store:
 
     def line(self):
         """What formatting prints."""
-        return b"format 1 mem %d changes %d versions %d\n" % self.limits
+        return b"format 2 mem %d changes %d versions %d\n" % self.limits

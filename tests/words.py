@@ -64,10 +64,6 @@ EXCEPTIONS = {
     ("Plan", "Plan.antt"): "the plan that contracts see",
 }
 
-# What a line of crates.txt has though the sources of its crate don't name it. A line that changes has its crate, and all above
-# it, proved anew: so it goes with the next change of these sources.
-STILL_LISTED = {("strat_store", "strat_manifest")}
-
 README_LINES = (15, 60)
 README_HEADINGS = ("Proved", "Premises", "Only tested", "Limits")
 
@@ -435,7 +431,7 @@ def crates_list_what_they_name(tree):
         named = {it for text in texts for it in re.findall(r"\w+", text) if it in listed} - {crate}
         below[crate] = named.union(*(below.get(it, set()) for it in named))
         wanted = below[crate] if crate == "castle" or crate.endswith("_tests") else named
-        for it in sorted((has ^ wanted) - {it for other, it in STILL_LISTED if other == crate}):
+        for it in sorted(has ^ wanted):
             yield "crates.txt", line, f"{crate} {'lacks' if it in wanted else 'does not name'} {it}"
 
 

@@ -39,6 +39,9 @@ def at_the_bounds():
     yield "the next array", HEAD, TREE._replace(next_array=16384 * 12 + 1)
     yield "what was written", HEAD, TREE._replace(written=33554432 * 12)
     yield "what was written, nothing", HEAD, TREE._replace(written=0)
+    yield "what was compacted", HEAD, TREE._replace(compacted=33554432 * 12)
+    yield "format 1", HEAD._replace(form=1), TREE
+    yield "one version in format 1", HEAD._replace(form=1), formats.EMPTY._replace(changes=2)
     yield "twice the leads", HEAD, with_array(FIRST, leads=1, least=1)
     yield "no entries live", HEAD, with_array(NEXT, least=0)
     yield "as many blocks as entries", HEAD, with_array(FIRST, extents=((7, 1), (11, 1)))
@@ -56,6 +59,11 @@ def refused_spellings():
     yield "no next array", TREE._replace(next_array=0, levels=())
     yield "a parent that is its child", TREE._replace(parents=(0, 2, 1))
     yield "a parent that comes later", TREE._replace(parents=(0, 3, 1))
+    yield "version 0 dropped", TREE._replace(marks=(1, 1, 1, 1))
+    yield "a living child of a dropped version", TREE._replace(marks=(0, 1, 1, 0))
+    yield "a mark of 2", TREE._replace(marks=(0, 0, 0, 2))
+    yield "a mark too few", TREE._replace(marks=(0, 0, 0))
+    yield "a mark too many", TREE._replace(marks=(0, 0, 0, 0, 0))
     yield "level 0", with_level(TREE, 0, number=0)
     yield "level 23", with_level(TREE, 1, number=23)
     yield "a level twice", with_level(TREE, 1, number=1)
@@ -92,6 +100,7 @@ def refused_openings():
         ("entries", with_array(FIRST, leads=0, least=0)), ("blocks", with_array(FIRST, extents=((7, 1), (11, 2)))),
         ("the next array", TREE._replace(next_array=16384 * 12 + 2)), ("what was written", TREE._replace(written=33554432 * 12 + 1)),
         ("what was written, all", TREE._replace(written=2 ** 64 - 1)), ("the next array, all", TREE._replace(next_array=2 ** 64 - 1)),
+        ("what was compacted", TREE._replace(compacted=33554432 * 12 + 1)), ("a version that was dropped", TREE._replace(marks=(0, 0, 0, 1))),
     ):
         yield name, HEAD, tree
     yield "versions", HEAD._replace(versions_max=3), TREE
@@ -118,14 +127,20 @@ def each_refusal_of_a_manifest_has_a_file(folder):
         expect_refused(name, path, formats.file_of(1, HEAD, tree, [9], blocks), 9)
     for name, head, tree in refused_openings():
         expect_refused(name, path, formats.file_of(1, head, tree, [9], blocks), 9)
+    for form, other in ((1, 2), (2, 1)):
+        wrong = formats.file_with(1, HEAD._replace(form=other), formats.spelled(TREE, form), [9], blocks)
+        expect_refused(f"format {form} under {other}", path, wrong, 9)
+    for head in (HEAD._replace(form=0), HEAD._replace(form=3)):
+        expect_refused(f"format {head.form}", path, formats.file_with(1, head, formats.spelled(TREE), [9], blocks), 1)
     spelling = formats.spelled(TREE)
     # numbers of levels, versions and arrays, and the length
-    for name, place, piece in (("no versions", 24, bytes(4)), ("versions", 24, struct.pack(">I", 16385)),
-                               ("levels", 40, b"\x17"), ("levels, too few", 40, b"\1"), ("levels, too many", 40, b"\3")):
+    for name, place, piece in (("no versions", 32, bytes(4)), ("versions", 32, struct.pack(">I", 16385)),
+                               ("a mark", 49, b"\2"), ("a mark of version 0", 48, b"\1"),
+                               ("levels", 52, b"\x17"), ("levels, too few", 52, b"\1"), ("levels, too many", 52, b"\3")):
         wrong = spelling[:place] + piece + spelling[place + len(piece):]
         data = formats.file_with(1, HEAD, wrong, [9], blocks)
         expect_refused(name, path, data, 9)
-    for name, wrong in (("a byte behind it", spelling + b"\0"), ("a byte less", spelling[:-1]), ("cut short", spelling[:29])):
+    for name, wrong in (("a byte behind it", spelling + b"\0"), ("a byte less", spelling[:-1]), ("cut short", spelling[:38])):
         expect_refused(name, path, formats.file_with(1, HEAD, wrong, [9], blocks), 9)
 
 

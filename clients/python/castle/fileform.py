@@ -16,11 +16,11 @@ BLOCK = 4096
 CHAINED = BLOCK - 4  # bytes of the manifest in a block of its chain
 SLOT = struct.Struct(">9sHQIIBIII")
 OPEN = b"\xa7STRATBT1"
-FORM = 1  # the format that is read here
+FORMS = (1, 2)  # the formats that are read here, and written as they were read
 OFTEN = 1024  # blocks between two times that it is told how many are done
 NUMBER = struct.Struct(">I")
 SIZE = struct.Struct(">H")
-MANIFEST_HEAD = struct.Struct(">IIQQI")
+MANIFEST_HEADS = {1: struct.Struct(">IIQQI"), 2: struct.Struct(">IIQQQI")}  # format 2 has the entries compacted as well
 LEVEL_HEAD = struct.Struct(">BII")
 ARRAY_HEAD = struct.Struct(">QIIII")
 EXTENT = struct.Struct(">II")
@@ -34,6 +34,7 @@ class Head(NamedTuple):
     """A superblock slot. `slot` is its number."""
 
     slot: int
+    form: int
     generation: int
     first: int
     length: int
@@ -68,11 +69,15 @@ class Level(NamedTuple):
 
 
 class Manifest(NamedTuple):
-    """The manifest, of which `head` has the numbers of changes, updates, entries written and the next array."""
+    """The manifest in a format, of which `head` has the numbers of changes, updates, entries written, in format 2 of those
+    compacted, and of the next array."""
 
-    head: Tuple[int, int, int, int]
+    form: int
+    head: Tuple[int, ...]
     parents: Tuple[int, ...]
     """The parent of each version from 1 on."""
+    marks: bytes
+    """A byte for each version from 0 on, in format 2 alone."""
     levels: Tuple[Level, ...]
 
 
@@ -96,12 +101,12 @@ def read_head(file: int) -> Head:
     for slot in (0, 1):
         text, form, generation, first, length, region, mem, changes, versions = SLOT.unpack(_bytes_at(file, slot * BLOCK, SLOT.size))
         if text == OPEN:
-            found.append((generation, -slot, form, Head(slot, generation, first, length, region, mem, changes, versions)))
+            found.append((generation, -slot, Head(slot, form, generation, first, length, region, mem, changes, versions)))
     if not found:
         raise ValueError("no superblock counts")
-    _, _, form, head = max(found)
-    if form != FORM:
-        raise ValueError(f"it has format {form}")
+    _, _, head = max(found)
+    if head.form not in FORMS:
+        raise ValueError(f"it has format {head.form}")
     return head
 
 
@@ -113,18 +118,19 @@ def read_manifest(file: int, head: Head) -> Manifest:
         pieces.append(piece[4:])
         block = NUMBER.unpack_from(piece)[0]
     try:
-        return _manifest_of(b"".join(pieces)[:head.length])
+        return _manifest_of(head.form, b"".join(pieces)[:head.length])
     except (struct.error, IndexError):
         raise ValueError("the manifest ends amid a field") from None
 
 
-def _manifest_of(data: bytes) -> Manifest:
-    *head, count = MANIFEST_HEAD.unpack_from(data)
-    at = MANIFEST_HEAD.size
+def _manifest_of(form: int, data: bytes) -> Manifest:
+    *head, count = MANIFEST_HEADS[form].unpack_from(data)
+    at = MANIFEST_HEADS[form].size
     parents = struct.unpack_from(f">{count - 1}I", data, at)
     at += 4 * len(parents)
+    marks: bytes = struct.unpack_from(f"{count if form == 2 else 0}s", data, at)[0]
     levels: List[Level] = []
-    at += 1
+    at += len(marks) + 1
     for _ in range(data[at - 1]):
         number, horizon, arrays = LEVEL_HEAD.unpack_from(data, at)
         at += LEVEL_HEAD.size
@@ -135,7 +141,7 @@ def _manifest_of(data: bytes) -> Manifest:
         levels.append(Level(number, horizon, tuple(found)))
     if at != len(data):
         raise ValueError("bytes follow the manifest")
-    return Manifest((head[0], head[1], head[2], head[3]), parents, tuple(levels))
+    return Manifest(form, tuple(head), parents, marks, tuple(levels))
 
 
 def _array_of(data: bytes, at: int) -> Tuple[Array, int]:
@@ -231,8 +237,9 @@ def manifest_bytes(manifest: Manifest) -> bytes:
 
 def _pieces(manifest: Manifest) -> Iterator[bytes]:
     count = len(manifest.parents)
-    yield MANIFEST_HEAD.pack(*manifest.head, count + 1)
+    yield MANIFEST_HEADS[manifest.form].pack(*manifest.head, count + 1)
     yield struct.pack(f">{count}I", *manifest.parents)
+    yield manifest.marks
     yield bytes([len(manifest.levels)])
     for level in manifest.levels:
         yield LEVEL_HEAD.pack(level.number, level.horizon, len(level.arrays))
@@ -259,7 +266,7 @@ def write_reduced(source: int, target: int, head: Head, manifest: Manifest, tell
         link = start + number + 1 if number + 1 < count else 0
         piece = NUMBER.pack(link) + data[number * CHAINED:(number + 1) * CHAINED]
         _write(target, piece.ljust(BLOCK, b"\0"), (start + number) * BLOCK)
-    slot = SLOT.pack(OPEN, 1, head.generation, start, len(data), head.region, head.mem, head.changes_max, head.versions_max)
+    slot = SLOT.pack(OPEN, head.form, head.generation, start, len(data), head.region, head.mem, head.changes_max, head.versions_max)
     _write(target, slot, head.slot * BLOCK)
 
 

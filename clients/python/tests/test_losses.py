@@ -179,13 +179,13 @@ class FormTest(unittest.TestCase):
                 file.flush()
                 head = fileform.read_head(file.fileno())
                 manifest = fileform.read_manifest(file.fileno(), head)
-            self.assertEqual(head[1:], tuple(contents.head)[3:])
+            self.assertEqual(head[1:], tuple(contents.head)[2:])
             self.assertEqual(manifest.parents, contents.manifest.parents)
             self.assertEqual([tuple(level) for level in manifest.levels], [tuple(level) for level in contents.manifest.levels])
-            self.assertEqual(fileform.manifest_bytes(manifest), formats.spelled(contents.manifest))
+            self.assertEqual(fileform.manifest_bytes(manifest), formats.spelled(contents.manifest, contents.head.form))
 
     def test_another_format_is_told(self) -> None:
-        for data, what in ((formats.head_bytes(formats.new_head(4, 10, 10)._replace(form=2)), "it has format 2"), (bytes(8192), "no superblock")):
+        for data, what in ((formats.head_bytes(formats.new_head(4, 10, 10)._replace(form=3)), "it has format 3"), (bytes(8192), "no superblock")):
             with tempfile.TemporaryFile() as file:
                 file.write(data)
                 file.flush()

@@ -32,18 +32,18 @@ use Rattle.castle.specs.Working.{CarriesOutWorkload, EndsWorkload, EndsOnExposed
 use Rattle.castle.proofs.HeadlineLemmas.{damaged_by, end_of, ended_by, other_by}
 
 -- a store or none shows its table
-pub none_or_shown : (mem changes versions : ℕ) (c : Image) → IsNoneOrNew mem changes versions c → (newest_in c ≡ Ok None) ⊎ ShowsTable c (fresh changes versions)
+pub none_or_shown : (mem changes versions : ℕ) (c : Image) → IsNoneOrNew 2 mem changes versions c → (newest_in c ≡ Ok None) ⊎ ShowsTable c (fresh changes versions)
 none_or_shown mem changes versions c (inl none) = inl none
 none_or_shown mem changes versions c (inr new) = inr new.shows
 
 -- a new store is thrifty
-new_thrifty : (c : Image) → IsNewStore 64 16777216 16384 c → IsNoneOrThrifty c
+new_thrifty : (c : Image) → IsNewStore 2 64 16777216 16384 c → IsNoneOrThrifty c
 new_thrifty c new =
     let same : Some new.shows.state ≡ Some (fresh_state 64 16777216 16384) = sym new.shows.reads ∙ new.reads in
     let is : new.shows.state ≡ fresh_state 64 16777216 16384 = cc in
     inr (thrifty_of c (fresh 16777216 16384) new.shows (subst (λ (s : State). stored s ≤ 2 * updates_of s) (sym is) (omega arith)), new.paid)
 
-pub none_or_thrifty : (c : Image) → IsNoneOrNew 64 16777216 16384 c → IsNoneOrThrifty c
+pub none_or_thrifty : (c : Image) → IsNoneOrNew 2 64 16777216 16384 c → IsNoneOrThrifty c
 none_or_thrifty c (inl none) = inl none
 none_or_thrifty c (inr new) = new_thrifty c new
 

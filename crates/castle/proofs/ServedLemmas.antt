@@ -144,15 +144,15 @@ last_at xs x i P le at =
 
 -- a new store on a disk that a format left, and what came then
 module _ (d0 d1 d2 : DiskView) (later : Passes d0 d1) (passes : Passes d1 d2)
-    (moments : IsBlank d0 → (c : Image) → Since d1 d0.moment c → IsNoneOrNew 64 16777216 16384 c) (disk : IsNewDisk 64 16777216 16384 d1) where
+    (moments : IsBlank d0 → (c : Image) → Since d1 d0.moment c → IsNoneOrNew 2 64 16777216 16384 c) (disk : IsNewDisk 2 64 16777216 16384 d1) where
   abbrev pub content : Image
   content = disk.rest.content
 
   -- what was possible when it was made is the new store
-  is_new : (c : Image) → Images d1 c → IsNewStore 64 16777216 16384 c
-  is_new c image = subst (λ (x : Image). IsNewStore 64 16777216 16384 x) (sym (disk.rest.alone c image)) disk.new
+  is_new : (c : Image) → Images d1 c → IsNewStore 2 64 16777216 16384 c
+  is_new c image = subst (λ (x : Image). IsNewStore 2 64 16777216 16384 x) (sym (disk.rest.alone c image)) disk.new
 
-  blank_until : IsBlank d0 → (m : ℕ) (c : Image) → d0.moment ≤ m → m ≤ d1.moment → d2.images_at m c → IsNoneOrNew 64 16777216 16384 c
+  blank_until : IsBlank d0 → (m : ℕ) (c : Image) → d0.moment ≤ m → m ≤ d1.moment → d2.images_at m c → IsNoneOrNew 2 64 16777216 16384 c
   blank_until blank m c low high image = moments blank c (record { at = m; from = low; till = high; left = passes.past m c high image })
 
   from_follows : (tables : List Table) (n : ℕ) → FollowsFrom d1 d2 content tables n → FollowsNew d0 d2 tables n
@@ -172,7 +172,7 @@ module _ (d0 d1 d2 : DiskView) (later : Passes d0 d1) (passes : Passes d1 d2)
 
   from_still : KeepsImages d1 d2 → FollowsNew d0 d2 (fresh 16777216 16384 ∷ []) 0
   from_still kept =
-      let each : (c : Image) → Since d2 d1.moment c → IsNewStore 64 16777216 16384 c = λ c since. is_new c (kept.each c since) in
+      let each : (c : Image) → Since d2 d1.moment c → IsNewStore 2 64 16777216 16384 c = λ c since. is_new c (kept.each c since) in
       let trail : Trail ShowsTable d2 d2.moment (fresh 16777216 16384 ∷ []) 0 =
       trail_of_one ShowsTable d2 d2.moment (fresh 16777216 16384) [] (omega arith)
       (λ c since. (each c (now_since_start d1 d2 c passes (since_now d2 c since))).shows) in
@@ -226,9 +226,9 @@ module _ (d0 d1 d2 : DiskView) (later : Passes d0 d1) (passes : Passes d1 d2)
     gave_up_leaves ended.Device gave refuses =
         record { ends = tt; made = inr (none_carried seed count ended.Device (λ is. is) (follows_opening (gave.failed refl content disk.rest.exposed))) }
     gave_up_leaves ended.NotAStore gave refuses =
-        let e : ◌≡◌ {A = Read (Option Head)} (Ok (Some (head_for 64 16777216 16384))) (Ok None) = sym disk.new.found ∙ finds_none content (refuses.none refl content disk.rest.exposed) in absurd cc
+        let e : ◌≡◌ {A = Read (Option Head)} (Ok (Some (head_for 2 64 16777216 16384))) (Ok None) = sym disk.new.found ∙ finds_none content (refuses.none refl content disk.rest.exposed) in absurd cc
     gave_up_leaves (ended.Damaged block) gave refuses =
-        let e : ◌≡◌ {A = Read (Option Head)} (Ok (Some (head_for 64 16777216 16384))) (Err block) = sym disk.new.found ∙ gave.damaged block refl content disk.rest.exposed in absurd cc
+        let e : ◌≡◌ {A = Read (Option Head)} (Ok (Some (head_for 2 64 16777216 16384))) (Err block) = sym disk.new.found ∙ gave.damaged block refl content disk.rest.exposed in absurd cc
     gave_up_leaves ended.Done gave refuses = absurd gave.ends
     gave_up_leaves ended.Usage gave refuses = absurd gave.ends
     gave_up_leaves ended.FrameTooLong gave refuses = absurd gave.ends

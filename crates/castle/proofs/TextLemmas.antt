@@ -9,6 +9,6 @@ joined : (a b c d e f g : List ℕ) → (a ++ (b ++ (c ++ (d ++ (e ++ (f ++ []))
 joined a b c d e f g = simp (append_assoc, append-nil)
 
 -- the line piece by piece
-pub format_pieces : (mem changes_max versions_max : ℕ) → codes "format 1 mem " ++ (decimal mem ++ (codes " changes " ++ (decimal changes_max ++ (codes " versions " ++ (decimal versions_max ++ 10 ∷ []))))) ≡ format_text mem changes_max versions_max
+pub format_pieces : (mem changes_max versions_max : ℕ) → codes "format 2 mem " ++ (decimal mem ++ (codes " changes " ++ (decimal changes_max ++ (codes " versions " ++ (decimal versions_max ++ 10 ∷ []))))) ≡ format_text mem changes_max versions_max
 format_pieces mem changes_max versions_max =
-    sym (joined (codes "format 1 mem ") (decimal mem) (codes " changes ") (decimal changes_max) (codes " versions ") (decimal versions_max) (10 ∷ []))
+    sym (joined (codes "format 2 mem ") (decimal mem) (codes " changes ") (decimal changes_max) (codes " versions ") (decimal versions_max) (10 ∷ []))

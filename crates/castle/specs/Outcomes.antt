@@ -100,11 +100,11 @@ pub record FormatsDisk (mem changes_max versions_max : ℕ) (how : Ended) (befor
     : Type 0 where
   pub sends : SendsLine how before.held now.held (format_text mem changes_max versions_max)
   pub left : Formats how → (f : Image) → Exposes before.disk f
-      → IsNewDisk mem changes_max versions_max now.disk
+      → IsNewDisk 2 mem changes_max versions_max now.disk
   -- on the way a disk whose slots were shut is no store, or the whole new one
   pub moments : (f : Image) → Exposes before.disk f → IsBlank before.disk
       → (c : Image) → Since now.disk before.disk.moment c
-      → IsNoneOrNew mem changes_max versions_max c
+      → IsNoneOrNew 2 mem changes_max versions_max c
   -- and it writes the slots, the first gates of the regions and the manifest's block alone
   pub kept : KeepsOthers mem before.disk now.disk
   pub cause : EndHasCause how before now

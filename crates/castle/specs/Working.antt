@@ -60,10 +60,10 @@ pub record FollowsNew (before now : DiskView) (tables : List Table) (n : ℕ) : 
   pub till : synced ≤ now.moment
   -- until it was made, a disk whose slots were shut is no store, or the whole new one
   pub until : IsBlank before → (m : ℕ) (c : Image) → before.moment ≤ m → m ≤ made
-      → now.images_at m c → IsNoneOrNew 64 16777216 16384 c
+      → now.images_at m c → IsNoneOrNew 2 64 16777216 16384 c
   -- up to the sync a crash leaves the new store
   pub new : (m : ℕ) (c : Image) → made ≤ m → m ≤ synced → now.images_at m c
-      → IsNewStore 64 16777216 16384 c
+      → IsNewStore 2 64 16777216 16384 c
   -- from then on there is a trail of the tables, and each image now shows one at place n or behind it
   pub trail : Trail ShowsTable now synced tables n
   pub left : (c : Image) → Images now c → (i : ℕ) × (n ≤ i) × At tables i (ShowsTable c)
@@ -98,7 +98,7 @@ pub record CarriesOutWorkload (seed count : ℕ) (how : Ended) (before now : Dis
 pub record MakesNoStore (how : Ended) (before now : DiskView) : Type 0 where
   pub ends : (how ≡ ended.NoMemory) ⊎ (how ≡ ended.Device)
   pub moments : IsBlank before → (c : Image) → Since now before.moment c
-      → IsNoneOrNew 64 16777216 16384 c
+      → IsNoneOrNew 2 64 16777216 16384 c
   -- whatever the disk was, only what formatting writes may differ, and nothing for want of memory
   pub kept : KeepsOthers 64 before now
   pub same : how ≡ ended.NoMemory → IsUnchanged before now

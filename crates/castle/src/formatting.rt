@@ -25,10 +25,10 @@ fn line_for(
 ) -> Result<String, AllocError>
     ensures { IfOk result (λ s. string_bytes s ≡ format_text mem changes_max versions_max) }
 {
-    format!(in alloc; "format 1 mem {mem} changes {changes_max} versions {versions_max}\n")
+    format!(in alloc; "format 2 mem {mem} changes {changes_max} versions {versions_max}\n")
 }
 
-/// Makes a new store and says so. The memory for the line is taken before the disk is touched.
+/// Makes a new store in format 2 and says so. The memory for the line is taken before the disk is touched.
 pub fn make_store<K: Sink, D: Disk>(
     alloc: Global,
     sink: &mut K,
@@ -41,10 +41,10 @@ pub fn make_store<K: Sink, D: Disk>(
     ensures ok { SendsLine result (K.held sink.old) (K.held sink.new)
         (format_text mem changes_max versions_max) }
     ensures found { Formats result → (f : Image) → Exposes (D.view disk.old) f
-        → IsNewDisk mem changes_max versions_max (D.view disk.new) }
+        → IsNewDisk 2 mem changes_max versions_max (D.view disk.new) }
     ensures images { (f : Image) → Exposes (D.view disk.old) f → IsBlank (D.view disk.old)
         → (c : Image) → Since (D.view disk.new) (D.view disk.old).moment c
-        → IsNoneOrNew mem changes_max versions_max c }
+        → IsNoneOrNew 2 mem changes_max versions_max c }
     ensures kept { KeepsOthers mem (D.view disk.old) (D.view disk.new) }
     ensures time { Passes (D.view disk.old) (D.view disk.new) }
     ensures cause { (left : Option (List ℕ)) (source_faults : ℕ) → EndHasCause result
@@ -59,7 +59,7 @@ pub fn make_store<K: Sink, D: Disk>(
     let Ok(line) = line_for(alloc, mem, changes_max, versions_max) else {
         return Ended::NoMemory;
     };
-    match format(alloc, disk, mem, changes_max, versions_max) {
+    match format(alloc, disk, 2, mem, changes_max, versions_max) {
         Ok(()) => {}
         Err(FormatFault::NoMemory) => return Ended::NoMemory,
         Err(FormatFault::Device) => return Ended::Device,

@@ -33,7 +33,7 @@ fn arguments(alloc: Global, texts: &[&str]) -> Option<Vec<String>> {
 /// The arguments of making a small store, and the line that says that it was made.
 const FORMAT: [&str; 5] = ["format", "f", "4", "100", "10"];
 
-const LINE: &[u8] = b"format 1 mem 4 changes 100 versions 10\n";
+const LINE: &[u8] = b"format 2 mem 4 changes 100 versions 10\n";
 
 /// The status that these arguments end with.
 fn status_of<D: Disk>(

@@ -32,7 +32,7 @@ fn serve_workload<D: Disk>(alloc: Global, disk: &mut D, seed: u64, count: u32) -
     ensures cause { result ≡ Ended.Device → Rose (D.faults disk.old) (D.faults disk.new) }
     ensures faults { result ≢ Ended.Device → D.faults disk.new ≡ D.faults disk.old }
 {
-    match format(alloc, disk, MEM, CHANGES_MAX, VERSIONS_MAX) {
+    match format(alloc, disk, 2, MEM, CHANGES_MAX, VERSIONS_MAX) {
         Ok(()) => {}
         Err(FormatFault::NoMemory) => return Ended::NoMemory,
         Err(FormatFault::Device) => return Ended::Device,

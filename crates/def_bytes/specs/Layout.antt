@@ -13,9 +13,9 @@ is_open gate = gate == open_flag
 abbrev pub record_max : ℕ
 record_max = 1288
 
--- the newest format that this build reads and writes, of 1 and 2, which are defined
+-- the newest format: formats 1 and 2 are read, and what is published is written in this one
 abbrev pub newest_format : ℕ
-newest_format = 1
+newest_format = 2
 
 -- bytes of the shortest manifest in a format, that of a store without levels and with one version
 abbrev pub shortest_manifest : ℕ → ℕ

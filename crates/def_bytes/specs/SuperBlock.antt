@@ -29,7 +29,7 @@ pub record AreLimits (mem changes_max versions_max : ℕ) : Type 0 where
   pub versions_least : 1 ≤ versions_max
   pub versions_most : versions_max ≤ 16384
 
--- the fields are in their ranges: of the formats 1 and 2, this build takes those up to the newest
+-- the fields are in their ranges: the formats are 1 and 2
 pub record IsLawful (sb : Super) : Type 0 where
   pub format_least : 1 ≤ sb.format
   pub format_most : sb.format ≤ newest_format

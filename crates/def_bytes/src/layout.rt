@@ -9,8 +9,8 @@ use strat_base::limits::BLOCK;
 /// What an open gate reads as; any other byte is a closed one.
 pub const OPEN: u8 = 0xa7;
 
-/// The newest format that this build reads and writes.
-pub const NEWEST_FORMAT: u16 = 1;
+/// The newest format: formats 1 and 2 are read, and what is published is written in this one.
+pub const NEWEST_FORMAT: u16 = 2;
 
 /// Bytes of the shortest manifest in format 1: that of a store without levels and with one version.
 pub const MANIFEST_MIN: u32 = 29;
@@ -64,7 +64,7 @@ pub fn first_free(mem: u32) -> u32
 /// The numbers of the format, on which other programs rely.
 pub fn the_layout_in_numbers()
     ensures ok { (places.open_flag ≡ 167) × (places.record_max ≡ 1288)
-        × (places.newest_format ≡ 1) }
+        × (places.newest_format ≡ 2) }
     ensures short { (places.shortest_manifest 1 ≡ 29) × (places.shortest_manifest 2 ≡ 38) }
     ensures first { (places.region_blocks 4 ≡ 2) × (places.region_blocks 4096 ≡ 1289) }
     ensures same { (places.region_at 4 0 ≡ 8192) × (places.region_at 4 1 ≡ 16384)

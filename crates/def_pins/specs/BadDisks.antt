@@ -62,7 +62,7 @@ split_manifest = record chain_manifest {
 
 -- its superblock: the manifest is longer by an extent
 abbrev pub split_super : Super
-split_super = record chain_super { length = 106 }
+split_super = record chain_super { length = 118 }
 
 -- what recovery finds then
 abbrev pub split_head : Head

@@ -58,16 +58,20 @@ with_second_slot generation =
 abbrev pub in_two_blocks : ArrayDesc
 in_two_blocks = record (array_at 1 0 7) { extents = from_block 7 2 ∷ [] }
 
--- a superblock of format 2, with the manifest of a store without levels in block 8 and this region active
-abbrev pub second_format : ℕ → Super
-second_format region = record new_super {
-  format = 2;
+-- a superblock of a format, with a manifest of 38 bytes in block 8 and this region active
+abbrev pub of_format : ℕ → ℕ → Super
+of_format format region = record new_super {
+  format = format;
   generation = 2;
   manifest = 8;
   length = 38;
   region = region;
 }
 
--- the manifest of a store after one change, with 258 entries compacted
-abbrev pub compacted_manifest : Manifest
-compacted_manifest = record new_manifest { changes = 1; compacted = 258 }
+-- the same of format 1, with a manifest of 29 bytes
+abbrev pub of_first_format : Super
+of_first_format = record (of_format 1 1) { length = 29 }
+
+-- the manifest of a store after one change, with so many entries compacted
+abbrev pub after_a_change : ℕ → Manifest
+after_a_change compacted = record new_manifest { changes = 1; compacted = compacted }

@@ -156,7 +156,7 @@ least_super = record {
 -- the superblock with all fields that have a greatest value at that
 abbrev pub greatest_super : Super
 greatest_super = record {
-  format = 1;
+  format = 2;
   generation = 18446744073709551615;
   manifest = 4294967294;
   length = 4294967295;

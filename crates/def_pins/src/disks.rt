@@ -9,10 +9,10 @@ ghost use Rattle.strat_base.specs.Samples.{says};
 ghost use Rattle.def_crash.specs.Image.{patch};
 ghost use Rattle.def_bytes.specs.SuperBlock.{spelled, fields, newest_in};
 ghost use Rattle.def_recovery.specs.Bad.{fits_behind};
-ghost use Rattle.def_recovery.specs.Disks.{formatted, new_super, chain_super, chain_manifest, published_by};
+ghost use Rattle.def_recovery.specs.Disks.{formatted, old_formatted, new_super, chain_super, chain_manifest, published_by};
 ghost use Rattle.def_recovery.specs.Opening.{belongs, accepted_in, recover_manifest, recover_journal, recover};
 ghost use Rattle.def_pins.specs.Formats.{put_of, with_puts, with_parents, after_a_drop};
-ghost use Rattle.def_pins.specs.Disks.{array_at, having, in_block_eight, led_by, after_two_changes, with_second_slot, in_two_blocks, second_format, compacted_manifest};
+ghost use Rattle.def_pins.specs.Disks.{array_at, having, in_block_eight, led_by, after_two_changes, with_second_slot, in_two_blocks, of_format, of_first_format, after_a_change};
 
 /// Two arrays may be the same in all but their numbers, blocks and versions, and share none of these.
 pub fn arrays_share_no_number_block_or_version()
@@ -80,13 +80,18 @@ pub fn manifests_with_drops_belong_to_none()
         (record chain_manifest { marks = false ∷ true ∷ true ∷ true ∷ [] })) ≡ false }
 {}
 
-/// A superblock of format 2 is refused, in either slot, and its block is named.
-pub fn the_second_format_is_refused()
-    ensures first { newest_in (patch formatted 0 (0xa7 ∷ spelled (fields (second_format 0))))
-        ≡ Err 0 }
-    ensures second { newest_in (patch formatted 4096 (0xa7 ∷ spelled (fields (second_format 1))))
+/// A superblock of either format is taken, beside one of the other format too. Of another format it is refused, in either
+/// slot, and its block is named.
+pub fn superblocks_of_both_formats_are_taken()
+    ensures one { newest_in (patch formatted 4096 (0xa7 ∷ spelled (fields (of_format 1 1))))
+        ≡ Ok (Some (1, of_format 1 1)) }
+    ensures two { newest_in (patch old_formatted 4096 (0xa7 ∷ spelled (fields (of_format 2 1))))
+        ≡ Ok (Some (1, of_format 2 1)) }
+    ensures none { newest_in (patch formatted 4096 (0xa7 ∷ spelled (fields (of_format 0 1))))
         ≡ Err 1 }
-    ensures recovery { recover (patch formatted 4096 (0xa7 ∷ spelled (fields (second_format 1))))
+    ensures other { newest_in (patch formatted 0 (0xa7 ∷ spelled (fields (of_format 3 0))))
+        ≡ Err 0 }
+    ensures recovery { recover (patch formatted 4096 (0xa7 ∷ spelled (fields (of_format 3 1))))
         ≡ Err 1 }
 {}
 
@@ -152,12 +157,20 @@ pub fn manifests_are_tested_before_journals()
         16385 (0 ∷ [])) ≡ Err 8 }
 {}
 
-/// The manifest of a superblock is read in its format.
+/// The manifest of a superblock is read in its format. One of the other format is damage, of whatever length.
 pub fn manifests_are_read_in_the_format_of_their_superblock()
-    ensures ok { recover_manifest (published_by (second_format 1) compacted_manifest)
-        (second_format 1) ≡ Ok compacted_manifest }
-    ensures other { recover_manifest (published_by (second_format 1) compacted_manifest)
-        (record (second_format 1) { format = 1 }) ≡ Err 8 }
+    ensures one { recover_manifest (published_by of_first_format (after_a_change 0))
+        of_first_format ≡ Ok (after_a_change 0) }
+    ensures two { recover_manifest (published_by (of_format 2 1) (after_a_change 258))
+        (of_format 2 1) ≡ Ok (after_a_change 258) }
+    ensures newer { (recover_manifest (published_by (of_format 2 1) (after_a_change 0))
+        (of_format 1 1) ≡ Err 8)
+        × (recover_manifest (published_by (of_format 2 1) (after_a_change 0)) of_first_format
+        ≡ Err 8) }
+    ensures older { (recover_manifest (published_by of_first_format (after_a_change 0))
+        (record of_first_format { format = 2 }) ≡ Err 8)
+        × (recover_manifest (published_by of_first_format (after_a_change 0)) (of_format 2 1)
+        ≡ Err 8) }
 {}
 
 /// The records of a journal find the versions as the manifest has them: a version is frozen by a child there, and not by one

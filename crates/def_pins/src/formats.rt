@@ -159,11 +159,13 @@ pub fn superblocks_are_good_up_to_their_bounds()
     ensures least { in_range least_super ≡ true }
     ensures most { in_range greatest_super ≡ true }
     ensures format { (in_range (record greatest_super { format = 0 }) ≡ false)
-        × (in_range (record greatest_super { format = 2 }) ≡ false) }
+        × (in_range (record greatest_super { format = 3 }) ≡ false) }
     ensures generation { in_range (record least_super { generation = 0 }) ≡ false }
     ensures manifest { (in_range (record least_super { manifest = 5 }) ≡ false)
         × (in_range (record greatest_super { manifest = 4294967295 }) ≡ false) }
-    ensures length { in_range (record least_super { length = 28 }) ≡ false }
+    ensures length { (in_range (record least_super { length = 28 }) ≡ false)
+        × (in_range (record least_super { format = 2; length = 38 }) ≡ true)
+        × (in_range (record least_super { format = 2; length = 37 }) ≡ false) }
     ensures region { in_range (record greatest_super { region = 2 }) ≡ false }
     ensures mem { (in_range (record least_super { mem = 3 }) ≡ false)
         × (in_range (record greatest_super { mem = 4097 }) ≡ false) }

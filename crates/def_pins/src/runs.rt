@@ -5,7 +5,7 @@ ghost use Rattle.std.specs.Prelude.{◌≡◌, ◌≤◌, ℕ, List, [], ◌∷�
 ghost use Rattle.strat_model.specs.Answer.{accepts, refusal};
 ghost use Rattle.strat_model.specs.Batch.{Continuation, IsChangeMade, tables_continued};
 ghost use Rattle.strat_model.specs.Request.{Request, Put, Delete, Get, Clone, Scan, Info, OpenCursor, NextPairs, CloseCursor, Stat, DropVersion};
-ghost use Rattle.strat_model.specs.Run.{is_change, takes_memory, reaches_disk, MayFill, fill_after, is_carried_out, IsAfter, EmptiesAtOnce, Position, Response, AnswersNoCommand, AnswersNoMemory, AnswersFault, Exchange, Interruption, IsTranscript, bodies_of, responses_of, tables_of, positions_of, UsesOneRegion, AnswersByTable, IsFault, IsRun, Transcript};
+ghost use Rattle.strat_model.specs.Run.{is_change, takes_memory, reaches_disk, MayFill, fill_after, is_carried_out, IsAfter, EmptiesAtOnce, Position, Response, AnswersNoCommand, AnswersNoMemory, AnswersFault, Exchange, Interruption, IsTranscript, bodies_of, responses_of, tables_of, positions_of, AnswersByTable, IsFault, IsRun, Transcript};
 ghost use Rattle.strat_model.specs.Step.{step};
 ghost use Rattle.strat_model.specs.Table.{fresh, bare};
 ghost use Rattle.strat_model.specs.Spelling.{Spells};
@@ -118,15 +118,14 @@ pub fn accepted_changes_are_journalled()
         → IsAfter mem at request after → after.table ≡ (step at.table request).table }
 {}
 
-/// A run of one body uses one region where neither its position nor the one after it, nor that of an interruption, has more
-/// changes than four.
-pub fn runs_that_use_one_region_stay_below_it()
-    ensures few { (x : Exchange) (after : Position) (h : Interruption)
-        → UsesOneRegion 4 (record { exchanges = x ∷ []; after = after; interruption = Some h })
-        → (x.at.fill ≤ 4) × (after.fill ≤ 4) × (h.done.fill ≤ 4) }
-    ensures positions { (x : Exchange) (after : Position) (h : Interruption)
+/// The positions of a run are those before its bodies, the one after them, and that of an interruption.
+pub fn positions_of_a_run()
+    ensures some { (x : Exchange) (after : Position) (h : Interruption)
         → positions_of (record { exchanges = x ∷ []; after = after; interruption = Some h })
         ≡ x.at ∷ after ∷ h.done ∷ [] }
+    ensures none { (x : Exchange) (after : Position)
+        → positions_of (record { exchanges = x ∷ []; after = after; interruption = None })
+        ≡ x.at ∷ after ∷ [] }
 {}
 
 /// A batch of changes that fails leaves the table before it or the one after all of it, and none between. The second body is one

@@ -184,10 +184,13 @@ module _ (f g : Image) (old new : Contents) (made : Option LevelDesc) (taken kep
       let short = next.extents_few a.extents (pass_at (array_tests now.next_array a) 7 array) in
       record { some = leb-true 1 a.entries (pass_at (array_tests now.next_array a) 2 array); few = omega (arith, short, x.few) }
 
-  marks_few : length now.marks ≤ 16384
-  marks_few =
+  marks_count : length now.marks ≡ suc (length now.parents)
+  marks_count =
       let pruned = pruned_from_test (parents_in now) now.marks m.follows.is_sound.formed.pruned in
-      omega (arith, pruned.len, length-map now.parents (λ p. Some p), next.versions_bound f g old new made taken kept m.follows)
+      omega (arith, pruned.len, length-map now.parents (λ p. Some p))
+
+  marks_few : length now.marks ≤ 16384
+  marks_few = omega (arith, marks_count, next.versions_bound f g old new made taken kept m.follows)
 
   pub bytes_few : length (manifest_bytes new.sb.format now) < 2 ^ 31
   bytes_few =
@@ -206,11 +209,24 @@ module _ (f g : Image) (old new : Contents) (made : Option LevelDesc) (taken kep
       )
 
   -- each publication writes the newest format
-  shortest : shortest_manifest new.sb.format ≡ 29
+  shortest : shortest_manifest new.sb.format ≡ 38
   shortest = ap shortest_manifest m.follows.next.promoted.format
 
+  only_there : (bytes : List ℕ) → length (only new.sb.format bytes) ≡ length bytes
+  only_there bytes = ap (λ (format : ℕ). length (only format bytes)) m.follows.next.promoted.format
+
   pub bytes_some : shortest_manifest new.sb.format ≤ length (manifest_bytes new.sb.format now)
-  bytes_some = omega (arith, manifest_long new.sb.format now, shortest)
+  bytes_some =
+      omega (
+        arith,
+        manifest_long new.sb.format now,
+        shortest,
+        only_there (be 8 now.compacted),
+        length-be 8 now.compacted,
+        only_there (flat_map mark_bytes now.marks),
+        marks_long now.marks,
+        marks_count,
+      )
 
   module _ (length_is : new.sb.length ≡ length (manifest_bytes new.sb.format now)) (blocks : List ℕ) (blocks_are : new.chained.blocks ≡ new.sb.manifest ∷ blocks)
       (own : has_own_blocks new.sb new.chained.blocks now ≡ true) (below : new.sb.manifest < 4294967295) where

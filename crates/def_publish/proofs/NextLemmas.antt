@@ -407,20 +407,16 @@ module _ (f g : Image) (old new : Contents) (made : Option LevelDesc) (taken kep
       (omega (arith, m.next.written, entries_made, passed.written_most, grown))
       (omega (arith, m.next.promoted.compacted, passed.compacted_most, grown))
 
-  -- no version was dropped, and nothing compacted, by a build that writes format 1
+  -- no version was dropped, by a build that takes no drops
   sealed_formed : IsWellFormed (sealed_state old)
   sealed_formed = (sealed_ordered old (in_order (contents_state old) m.was_sound)).formed
 
   pub undropped : none_dropped now.marks ≡ true
   undropped = ap none_dropped m.next.promoted.marks ∙ none_now (sealed_state old) sealed_formed passed.undropped
 
+  -- the newest format has all fields
   in_format : has_fields new.sb.format now ≡ true
-  in_format =
-      let was_format : old.sb.format ≡ 1 = (newest_fits f old.slot old.sb m.reads.newest).format in
-      let was_fields : (eqb was.compacted 0 && none_dropped was.marks) ≡ true = ap (λ (format : ℕ). has_fields format was) (sym was_format) ∙ pass_at (manifest_tests old.sb.format was) 10 was_lawful in
-      let none = eqb-true was.compacted 0 (and_parts (eqb was.compacted 0) (none_dropped was.marks) was_fields).0 in
-      ap (λ (format : ℕ). has_fields format now) m.next.promoted.format
-      ∙ and_from (eqb now.compacted 0) (none_dropped now.marks) (eq-eqb now.compacted 0 (m.next.promoted.compacted ∙ none)) undropped
+  in_format = ap (λ (format : ℕ). has_fields format now) m.next.promoted.format
 
   -- there are few publications for the changes
   module _ (few : has_few_publications new.sb now ≡ true) where

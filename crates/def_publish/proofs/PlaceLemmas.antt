@@ -4,7 +4,7 @@ use Rattle.std.proofs.lemmas.Bool.{and_parts, leb-true}
 use Rattle.strat_base.proofs.ListFacts.{Among, all_at}
 use Rattle.def_crash.specs.Image.{Image, SameIn}
 use Rattle.def_bytes.specs.Damage.{Read}
-use Rattle.def_bytes.specs.Layout.{region_at, region_size, other_region, first_free, newest_format, shortest_manifest}
+use Rattle.def_bytes.specs.Layout.{region_at, region_size, other_region, first_free, shortest_manifest}
 use Rattle.def_bytes.specs.SuperBlock.{Super, in_range, newer, chosen_in, verdict, newest_in}
 use Rattle.def_bytes.proofs.ManifestLemmas.{pass_at}
 use Rattle.def_bytes.proofs.SuperBlockLemmas.{slot_same}
@@ -71,7 +71,6 @@ newest_chosen c slot sb e = by_slot (chosen_in c) refl e
 
 -- what proofs need of the fields of the newest superblock
 pub record Fits (sb : Super) : Type 0 where
-  pub format : sb.format ≡ newest_format
   pub region : sb.region ≤ 1
   pub mem_least : 4 ≤ sb.mem
   pub mem_most : sb.mem ≤ 4096
@@ -89,9 +88,7 @@ newest_fits c slot sb e =
     let p8 = and_parts _ (leb (first_free sb.mem) sb.manifest) p7.0 in
     let p9 = and_parts _ (leb sb.mem 4096) p8.0 in
     let p10 = and_parts _ (leb 4 sb.mem) p9.0 in
-    let p11 = and_parts _ (leb 1 sb.generation) p10.0 in
-    let p12 = and_parts (leb 1 sb.format) (leb sb.format newest_format) p11.0 in
-    record { format = omega (arith, leb-true 1 sb.format p12.0, leb-true sb.format 1 p12.1); region = leb-true sb.region 1 p5.1; mem_least = leb-true 4 sb.mem p10.1; mem_most = leb-true sb.mem 4096 p9.1 }
+    record { region = leb-true sb.region 1 p5.1; mem_least = leb-true 4 sb.mem p10.1; mem_most = leb-true sb.mem 4096 p9.1 }
 
 -- the newest superblock is read from blocks 0 and 1
 pub newest_local : (f c : Image) → SameIn 0 8192 f c → newest_in c ≡ newest_in f

@@ -10,7 +10,7 @@ ghost use Rattle.def_state.specs.State.{State, fresh_state, versions_of, updates
 ghost use Rattle.def_bytes.specs.SuperBlock.{body};
 ghost use Rattle.def_state.specs.Worked.{chain};
 ghost use Rattle.def_recovery.specs.Bad.{IsBad};
-ghost use Rattle.def_recovery.specs.Disks.{formatted, first_block, manifest_block, new_super, new_head, chain_super, chain_manifest, with_horizon, published_by, published, doubly_open};
+ghost use Rattle.def_recovery.specs.Disks.{formatted, old_formatted, first_block, old_first_block, manifest_block, old_manifest_block, new_super, old_super, new_head, chain_super, chain_manifest, with_horizon, published_over, published_by, published, doubly_open};
 ghost use Rattle.def_recovery.specs.Head.{Head, head_of, head_versions, head_updates, head_changes, descriptors};
 ghost use Rattle.def_recovery.specs.Opening.{recover, reads_as, state_of};
 ghost use Rattle.def_recovery.specs.Passed.{PassesOpening};
@@ -20,7 +20,15 @@ pub fn formatted_disks_open()
     ensures found { recover formatted ≡ Ok (Some new_head) }
     ensures ok { reads_as formatted ≡ Some (fresh_state 4 100 10) }
     ensures block { first_block ≡ take 40 (0xa7 ∷ body new_super) }
-    ensures manifest { manifest_block ≡ be 4 0 ++ manifest_bytes 1 new_manifest }
+    ensures manifest { manifest_block ≡ be 4 0 ++ manifest_bytes 2 new_manifest }
+{}
+
+/// So does one that was formatted in format 1, by a build before format 2.
+pub fn old_disks_open()
+    ensures found { recover old_formatted ≡ Ok (Some (record new_head { sb = old_super })) }
+    ensures ok { reads_as old_formatted ≡ Some (fresh_state 4 100 10) }
+    ensures block { old_first_block ≡ take 40 (0xa7 ∷ body old_super) }
+    ensures manifest { old_manifest_block ≡ be 4 0 ++ manifest_bytes 1 new_manifest }
 {}
 
 /// A record in the journal's active region is read: a put of `a` with the value `1` at version 0.
@@ -36,6 +44,14 @@ pub fn records_are_found()
 pub fn published_disks_open()
     ensures ok { reads_as published ≡ Some chain }
     ensures other { reads_as (patch published 8192 (0xa7 ∷ [])) ≡ Some chain }
+{}
+
+/// A store of format 1 reads as the same state after a checkpoint in either format.
+pub fn old_disks_move_on()
+    ensures one { reads_as (published_over old_formatted
+        (record chain_super { format = 1; length = 98 }) chain_manifest) ≡ Some chain }
+    ensures two { reads_as (published_over old_formatted chain_super chain_manifest)
+        ≡ Some chain }
 {}
 
 /// What recovery refuses: a superblock out of its ranges, a chain that goes on after its last

@@ -61,7 +61,7 @@ versions_text versions = with_commas (map run_text (runs_of versions))
 -- what a new store is for
 abbrev pub format_line : ℕ → ℕ → ℕ → List ℕ
 format_line mem changes_max versions_max = joined (
-    codes "format 1 mem " ∷ decimal mem ∷ codes " changes " ∷ decimal changes_max
+    codes "format 2 mem " ∷ decimal mem ∷ codes " changes " ∷ decimal changes_max
     ∷ codes " versions " ∷ decimal versions_max ∷ [])
 
 -- the store: its generation, its limits, and how far they are reached

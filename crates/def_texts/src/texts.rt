@@ -75,7 +75,7 @@ pub fn summary_of_a_fan()
 /// The line that formatting prints, with its line feed.
 pub fn text_of_a_new_store()
     ensures { text (format_line 4 100 10 ∷ [])
-        ≡ codes "format 1 mem 4 changes 100 versions 10" ++ 10 ∷ [] }
+        ≡ codes "format 2 mem 4 changes 100 versions 10" ++ 10 ∷ [] }
 {}
 
 /// The lines of checks: of a sound state, of one with a wrong descriptor, and of a damaged block.

@@ -19,7 +19,7 @@ pub fn new_store(alloc: Global, mem: u32, changes: u32, versions: u32) -> Option
     requires { AreLimits mem changes versions }
 {
     let mut disk = MemDisk::new(alloc, &[]).ok()?;
-    if format(alloc, &mut disk, mem, changes, versions).is_err() {
+    if format(alloc, &mut disk, 2, mem, changes, versions).is_err() {
         return None;
     }
     disk.crash(0).ok()

@@ -25,7 +25,7 @@ const BUDGET: u64 = 100_000;
 /// A disk with a new store whose journal regions take four changes, which has counted no call.
 pub fn small_store(alloc: Global) -> Option<MemDisk> {
     let mut disk = MemDisk::new(alloc, &[]).ok()?;
-    if format(alloc, &mut disk, 4, 100, 10).is_err() {
+    if format(alloc, &mut disk, 2, 4, 100, 10).is_err() {
         return None;
     }
     disk.crash(0).ok()

@@ -36,7 +36,7 @@ pub fn newest<D: Disk>(disk: &mut D) -> Result<Option<(u8, SuperBlock)>, Fault>
     choose(first, second)
 }
 
-fn read_slot<D: Disk>(disk: &mut D, at: u64) -> Result<Option<(u16, SuperBlock)>, Failed>
+fn read_slot<D: Disk>(disk: &mut D, at: u64) -> Result<Option<SuperBlock>, Failed>
     requires { at ≤ 4096 }
     ensures ok { IfOk result (λ r. (f : Image) → Exposes (D.view disk.old) f
         → slot_in f at ≡ slot_seen r) }
@@ -50,8 +50,8 @@ fn read_slot<D: Disk>(disk: &mut D, at: u64) -> Result<Option<(u16, SuperBlock)>
 }
 
 fn choose(
-    first: Option<(u16, SuperBlock)>,
-    second: Option<(u16, SuperBlock)>,
+    first: Option<SuperBlock>,
+    second: Option<SuperBlock>,
 ) -> Result<Option<(u8, SuperBlock)>, Fault>
     ensures fits { IfOk result (λ r. IfSome r (λ x. (x.0 < 2) × IsLawful (super_of x.1))) }
     ensures found { IfOk result (λ r. verdict (newer (slot_seen first) (slot_seen second))
@@ -59,16 +59,14 @@ fn choose(
     ensures damaged { IfErr result (λ e. (block : ℕ) × (e ≡ Damaged block)
         × (verdict (newer (slot_seen first) (slot_seen second)) ≡ Err block)) }
 {
-    let (slot, format, sb) = match (first, second) {
+    let (slot, sb) = match (first, second) {
         (None, None) => return Ok(None),
-        (Some((format, sb)), None) => (0, format, sb),
-        (None, Some((format, sb))) => (1, format, sb),
-        (Some((_, sb)), Some((format, other))) if sb.generation < other.generation => (
-            1, format, other,
-        ),
-        (Some((format, sb)), Some(_)) => (0, format, sb),
+        (Some(sb), None) => (0, sb),
+        (None, Some(sb)) => (1, sb),
+        (Some(sb), Some(other)) if sb.generation < other.generation => (1, other),
+        (Some(sb), Some(_)) => (0, sb),
     };
-    if !is_in_range(format, &sb) {
+    if !is_in_range(&sb) {
         return Err(Fault::Damaged {
             block: u32::from(slot),
         });

@@ -3,23 +3,24 @@
 //! | Offset | Bytes | Field |
 //! |---|---|---|
 //! | 1 | 8 | the text `STRATBT1` |
-//! | 9 | 2 | format, 1 |
+//! | 9 | 2 | format, 1 or 2 |
 //! | 11 | 8 | generation, at least 1 |
 //! | 19 | 4 | first block of the manifest |
-//! | 23 | 4 | length of the manifest in bytes |
+//! | 23 | 4 | length of the manifest in bytes, at least 29 in format 1 and 38 in format 2 |
 //! | 27 | 1 | active journal region, 0 or 1 |
 //! | 28 | 4 | changes per journal region |
 //! | 32 | 4 | most changes of the store |
 //! | 36 | 4 | most versions of the store |
 //!
-//! The bytes from 40 on are written as zeros and not read. Generation 1 with the manifest of 29 bytes in block 6,
-//! and the limits 4, 100 and 10, is `a7 5354524154425431 0001 0000000000000001 00000006 0000001d 00 00000004 00000064 0000000a`.
+//! The bytes from 40 on are written as zeros and not read. Generation 1 with the manifest of 38 bytes in block 6,
+//! and the limits 4, 100 and 10, is `a7 5354524154425431 0002 0000000000000001 00000006 00000026 00 00000004 00000064 0000000a`.
+//! In format 1, where that manifest has 29 bytes, it is `a7 5354524154425431 0001 0000000000000001 00000006 0000001d 00 00000004
+//! 00000064 0000000a`.
 
 ghost use Rattle.std.specs.Prelude.{IsTrue, ◌≡◌, ◌≤◌, ◌<◌, ◌+◌, length, drop};
 ghost use Rattle.strat_base.specs.Numbers.{be, number, placed};
 ghost use Rattle.def_bytes.specs.SuperBlock.{IsLawful, zeros, body, slot_of, in_range};
-ghost use Rattle.def_bytes.specs.Layout.{newest_format};
-ghost use Rattle.strat_gate.specs.SuperView.{in_format, super_of, slot_seen};
+ghost use Rattle.strat_gate.specs.SuperView.{super_of, slot_seen};
 
 use def_bytes::{NEWEST_FORMAT, OPEN, first_free, shortest_manifest};
 use strat_base::limits::{CHANGES_MAX, MEM_MAX, MEM_MIN, VERSIONS_MAX};
@@ -28,6 +29,8 @@ use strat_base::{get_u8, get_u16, get_u32, get_u64, put_u16, put_u32, put_u64};
 /// What says where the rest of a store is.
 #[derive(Clone, Copy, Debug, PartialEq, Eq)]
 pub struct SuperBlock {
+    /// The format that the store was written in, 1 or 2: its manifest is read in this format.
+    pub format: u16,
     /// Rises by one with each superblock of a store, from 1 on.
     pub generation: u64,
     /// The manifest's first block.
@@ -56,7 +59,7 @@ pub(crate) fn spell(sb: &SuperBlock, into: &mut [u8])
     ensures { into.new ≡ body (super_of sb.now) }
 {
     put_u64(into, 0, MAGIC);
-    put_u16(into, 8, NEWEST_FORMAT);
+    put_u16(into, 8, sb.format);
     put_u64(into, 10, sb.generation);
     put_u32(into, 18, sb.manifest);
     put_u32(into, 22, sb.length);
@@ -66,43 +69,50 @@ pub(crate) fn spell(sb: &SuperBlock, into: &mut [u8])
     put_u32(into, 35, sb.versions_max);
 }
 
-/// The format and the fields in the first 40 bytes of a block, where the gate is open and the magic stands after it.
+/// The fields in the first 40 bytes of a block, where the gate is open and the magic stands after it.
 #[tactic(auto, unfolding(def_bytes::specs::SuperBlock::slot_of))]
-pub(crate) fn parse(bytes: &[u8]) -> Option<(u16, SuperBlock)>
+pub(crate) fn parse(bytes: &[u8]) -> Option<SuperBlock>
     requires { length bytes.now ≡ 40 }
     ensures { slot_seen result ≡ slot_of bytes.now }
 {
     if bytes[0] != OPEN || u64_at(bytes, 1) != MAGIC {
         return None;
     }
-    Some((
-        u16_at(bytes, 9),
-        SuperBlock {
-            generation: u64_at(bytes, 11),
-            manifest: u32_at(bytes, 19),
-            length: u32_at(bytes, 23),
-            region: u8_at(bytes, 27),
-            mem: u32_at(bytes, 28),
-            changes_max: u32_at(bytes, 32),
-            versions_max: u32_at(bytes, 36),
-        },
-    ))
+    Some(SuperBlock {
+        format: u16_at(bytes, 9),
+        generation: u64_at(bytes, 11),
+        manifest: u32_at(bytes, 19),
+        length: u32_at(bytes, 23),
+        region: u8_at(bytes, 27),
+        mem: u32_at(bytes, 28),
+        changes_max: u32_at(bytes, 32),
+        versions_max: u32_at(bytes, 36),
+    })
 }
 
 /// Whether the format is known and each field is in its range.
-pub(crate) fn is_in_range(format: u16, sb: &SuperBlock) -> bool
-    ensures ok { result ≡ in_range (in_format format sb.now) }
-    ensures fits { IsTrue result → IsLawful (in_format format sb.now) }
-    ensures found { IsTrue result → format ≡ newest_format }
+pub(crate) fn is_in_range(sb: &SuperBlock) -> bool
+    ensures ok { result ≡ in_range (super_of sb.now) }
+    ensures fits { IsTrue result → IsLawful (super_of sb.now) }
 {
-    1 <= format
-        && format <= NEWEST_FORMAT
+    // so that the proof knows how large they may be
+    let _generation = sb.generation;
+    let _length = sb.length;
+    each_is_in_range(sb)
+}
+
+/// Whether each field passes its tests.
+fn each_is_in_range(sb: &SuperBlock) -> bool
+    ensures ok { result ≡ in_range (super_of sb.now) }
+{
+    1 <= sb.format
+        && sb.format <= NEWEST_FORMAT
         && 1 <= sb.generation
         && MEM_MIN <= sb.mem
         && sb.mem <= MEM_MAX
         && first_free(sb.mem) <= sb.manifest
         && sb.manifest < BLOCKS_END
-        && shortest_manifest(format) <= sb.length
+        && shortest_manifest(sb.format) <= sb.length
         && sb.region <= 1
         && 1 <= sb.changes_max
         && sb.changes_max <= CHANGES_MAX

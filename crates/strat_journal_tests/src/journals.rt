@@ -23,9 +23,10 @@ fn block(mem: u32, region: u8) -> SuperBlock
     ensures region { result.region ≡ region }
 {
     SuperBlock {
+        format: 2,
         generation: 1,
         manifest: 5000,
-        length: 29,
+        length: 38,
         region,
         mem,
         changes_max: 100,

@@ -11,6 +11,12 @@ use strat_gate::{SuperBlock, gate_ensure_shut, gate_raise, gate_shut, gate_up, l
 
 // What formatting with 4 changes a region, 100 changes and 10 versions lays into slot 0.
 const EXAMPLE: [u8; 40] = [
+    0xa7, 0x53, 0x54, 0x52, 0x41, 0x54, 0x42, 0x54, 0x31, 0, 2, 0, 0, 0, 0, 0, 0, 0, 1, 0, 0, 0, 6,
+    0, 0, 0, 38, 0, 0, 0, 0, 4, 0, 0, 0, 100, 0, 0, 0, 10,
+];
+
+// The same in format 1.
+const OLD_EXAMPLE: [u8; 40] = [
     0xa7, 0x53, 0x54, 0x52, 0x41, 0x54, 0x42, 0x54, 0x31, 0, 1, 0, 0, 0, 0, 0, 0, 0, 1, 0, 0, 0, 6,
     0, 0, 0, 29, 0, 0, 0, 0, 4, 0, 0, 0, 100, 0, 0, 0, 10,
 ];
@@ -20,7 +26,24 @@ fn block(generation: u64) -> SuperBlock
     ensures { IsLawful (super_of result) }
 {
     SuperBlock {
+        format: 2,
         generation,
+        manifest: 6,
+        length: 38,
+        region: 0,
+        mem: 4,
+        changes_max: 100,
+        versions_max: 10,
+    }
+}
+
+/// The superblock of generation 1 in format 1.
+fn old_block() -> SuperBlock
+    ensures { IsLawful (super_of result) }
+{
+    SuperBlock {
+        format: 1,
+        generation: 1,
         manifest: 6,
         length: 29,
         region: 0,
@@ -43,12 +66,12 @@ fn finds(disk: &mut MemDisk, want: Result<Option<(u8, SuperBlock)>, Fault>) -> b
     newest(disk) == want
 }
 
-/// Whether a disk begins with the example, with a zero behind it.
-fn holds_example(disk: &mut MemDisk) -> bool {
+/// Whether a disk begins with an example, with a zero behind it.
+fn holds(disk: &mut MemDisk, example: &[u8; 40]) -> bool {
     let mut bytes = [9; 40];
     let mut behind = [9];
     let read = disk.read_at(0, &mut bytes).is_ok() && disk.read_at(40, &mut behind).is_ok();
-    read && bytes == EXAMPLE && behind == [0]
+    read && bytes == *example && behind == [0]
 }
 
 /// Whether the first slot's gate reads so.
@@ -74,7 +97,7 @@ fn the_example_is_written_and_read(rt: HostRuntime) -> Result<(), Fail> {
     let mut disk = MemDisk::new(rt.alloc(), &[])?;
     assert!(rt; lays(&mut disk, 0, 1));
     assert!(rt; disk.bytes().len() == 4096);
-    assert!(rt; holds_example(&mut disk));
+    assert!(rt; holds(&mut disk, &EXAMPLE));
     assert!(rt; finds(&mut disk, Ok(Some((0, block(1))))));
     assert!(rt; is_up(&mut disk, true));
     assert!(rt; shuts(&mut disk));
@@ -82,20 +105,36 @@ fn the_example_is_written_and_read(rt: HostRuntime) -> Result<(), Fail> {
     Ok(())
 }
 
+/// Whether the superblock of format 1 is laid, and the next one, of format 2, behind it.
+fn moves_on(disk: &mut MemDisk) -> bool {
+    lay(disk, 0, &old_block()).is_ok()
+        && holds(disk, &OLD_EXAMPLE)
+        && finds(disk, Ok(Some((0, old_block()))))
+        && lays(disk, 1, 2)
+        && finds(disk, Ok(Some((1, block(2)))))
+}
+
+#[test]
+fn a_superblock_of_format_1_is_followed_by_one_of_format_2(rt: HostRuntime) -> Result<(), Fail> {
+    let mut disk = MemDisk::new(rt.alloc(), &[])?;
+    assert!(rt; moves_on(&mut disk));
+    Ok(())
+}
+
 // Bytes at a place of the example, and whether its fields are then in their ranges.
 const FIELDS: [(u64, [u8; 4], bool); 23] = [
     (9, [0, 0, 0, 0], false),
-    (9, [0, 2, 0, 0], false),
+    (9, [0, 3, 0, 0], false),
     (15, [0, 0, 0, 0], false),
     (15, [255, 255, 255, 255], true),
     (19, [0, 0, 0, 5], false),
     (19, [0, 0, 0, 6], true),
     (19, [255, 255, 255, 254], true),
     (19, [255, 255, 255, 255], false),
-    (23, [0, 0, 0, 28], false),
+    (23, [0, 0, 0, 37], false),
     (23, [255, 255, 255, 255], true),
-    (24, [0, 0, 29, 1], true),
-    (24, [0, 0, 29, 2], false),
+    (24, [0, 0, 38, 1], true),
+    (24, [0, 0, 38, 2], false),
     (28, [0, 0, 0, 3], false),
     (28, [0, 0, 16, 0], true),
     (28, [0, 0, 16, 1], false),
@@ -145,18 +184,19 @@ fn a_field_out_of_range_is_damage(rt: HostRuntime) -> Result<(), Fail> {
     Ok(())
 }
 
-// A format, the length of a manifest, and whether this build takes the superblock. The shortest manifest of
-// format 2 has 38 bytes, so it is not the length that is refused.
-const FORMATS: [(u8, u8, bool); 5] = [
+// A format, the length of a manifest, and whether the superblock is taken.
+const FORMATS: [(u8, u8, bool); 7] = [
+    (0, 38, false),
+    (1, 28, false),
     (1, 29, true),
     (1, 38, true),
-    (2, 29, false),
-    (2, 38, false),
+    (2, 37, false),
+    (2, 38, true),
     (3, 38, false),
 ];
 
 #[test]
-fn another_format_is_damage(rt: HostRuntime) -> Result<(), Fail> {
+fn formats_1_and_2_are_taken_from_their_shortest_manifest_on(rt: HostRuntime) -> Result<(), Fail> {
     for (format, length, good) in FORMATS {
         for slot in 0..2 {
             let mut disk = MemDisk::new(rt.alloc(), &[])?;

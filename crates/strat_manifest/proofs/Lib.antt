@@ -1,4 +1,5 @@
 pub mod ItemLemmas
+pub mod MarkLemmas
 pub mod LawfulLemmas
 pub mod SpelledLemmas
 pub mod ParseLemmas

@@ -1,5 +1,5 @@
 -- Lists that are spelled item by item, and lengths of spellings.
-use Rattle.std.proofs.Common.{true, ◌≡◌, ◌+◌, ◌*◌, ◌<◌, ◌≤◌, ℕ, zero, suc, List, [], ◌∷◌, ◌++◌, length, take, get_or, refl, sym, ap, ◌∙◌, arith, add-one, append_assoc, append-nil, length-append}
+use Rattle.std.proofs.Common.{Bool, true, false, cond, eqb, ◌≡◌, ◌+◌, ◌*◌, ◌<◌, ◌≤◌, ℕ, zero, suc, List, [], ◌∷◌, ◌++◌, length, take, get_or, refl, sym, ap, ◌∙◌, arith, add-one, append_assoc, append-nil, length-append}
 use Rattle.std.specs.List.{flat_map}
 use Rattle.std.proofs.lemmas.List.{take_all, get_or_default}
 use Rattle.std.proofs.lemmas.List.Folds.{length-flat_map-take}
@@ -10,8 +10,10 @@ use Rattle.strat_base.specs.declared.descriptors.LevelDesc.{LevelDesc}
 use Rattle.strat_base.proofs.NumberLemmas.{length-be}
 use Rattle.def_bytes.proofs.ManifestLemmas.{pass_at}
 use Rattle.std.proofs.lemmas.Bool.{leb-true}
-use Rattle.def_bytes.specs.Layout.{newest_format}
-use Rattle.def_bytes.specs.Manifest.{Manifest, versions_in, extent_bytes, array_bytes, level_bytes, manifest_bytes, list_bytes, is_lawful_manifest}
+use Rattle.def_bytes.specs.Manifest.{Manifest, versions_in, extent_bytes, array_bytes, level_bytes, mark_bytes, only, manifest_bytes, list_bytes, is_lawful_manifest}
+use Rattle.strat_manifest.specs.ManifestView.{only_size, manifest_of}
+use Rattle.strat_manifest.specs.declared.manifest.Manifest.{Manifest as Declared}
+use Rattle.strat_manifest.proofs.MarkLemmas.{length-marks, marks_size}
 
 module _ {X : Type 0} (f : X → List ℕ) where
   -- the spelling of one more item
@@ -66,25 +68,57 @@ array_size a =
 pub level_size : (l : LevelDesc) → length (level_bytes l) ≡ 9 + length (flat_map array_bytes l.arrays)
 level_size l = omega (arith, length-append {A = ℕ}, length-be 1 l.number, length-be 4 l.horizon, length-be 4 (length l.arrays))
 
--- the bytes of a manifest, with nothing that the newest format does not have
-manifest_text : (m : Manifest) → manifest_bytes newest_format m
-    ≡ be 4 m.changes ++ (be 4 m.updates ++ (be 8 m.written ++ (be 8 m.next_array ++ (be 4 (versions_in m) ++ (flat_map (be 4) m.parents ++ (be 1 (length m.levels) ++ flat_map level_bytes m.levels))))))
-unfolding manifest_bytes
-manifest_text m = refl
+-- how long are bytes that stand in format 2 alone
+pub only_long : (format : ℕ) (bytes : List ℕ) (n : ℕ) → length bytes ≡ n → length (only format bytes) ≡ only_size format n
+only_long format bytes n is = by_format (eqb format 2)
+  where
+    by_format : (two : Bool) → length (cond two bytes []) ≡ cond two n 0
+    by_format true = is
+    by_format false = refl
 
-pub manifest_size : (m : Manifest) → length (manifest_bytes newest_format m) ≡ 29 + (4 * length m.parents + length (flat_map level_bytes m.levels))
-manifest_size m =
-    ap length (manifest_text m) ∙ omega (
-      arith,
-      length-append {A = ℕ},
-      length-be 4 m.changes,
-      length-be 4 m.updates,
-      length-be 8 m.written,
-      length-be 8 m.next_array,
-      length-be 4 (suc (length m.parents)),
-      numbers_size m.parents,
-      length-be 1 (length m.levels),
-    )
+-- the bytes of a manifest, what is known of the length of each part
+module _ (format : ℕ) (m : Manifest) where
+  compacted_part : List ℕ
+  compacted_part = only format (be 8 m.compacted)
+
+  marks_part : List ℕ
+  marks_part = only format (flat_map mark_bytes m.marks)
+
+  manifest_text : manifest_bytes format m
+      ≡ be 4 m.changes ++ (be 4 m.updates ++ (be 8 m.written ++ (compacted_part ++ (be 8 m.next_array ++ (be 4 (versions_in m) ++ (flat_map (be 4) m.parents ++ (marks_part ++ (be 1 (length m.levels) ++ flat_map level_bytes m.levels))))))))
+  unfolding manifest_bytes compacted_part marks_part
+  manifest_text = refl
+
+  compacted_long : length compacted_part ≡ only_size format 8
+  unfolding compacted_part
+  compacted_long = only_long format (be 8 m.compacted) 8 (length-be 8 m.compacted)
+
+  marks_long : length marks_part ≡ only_size format (length m.marks)
+  unfolding marks_part
+  marks_long = only_long format (flat_map mark_bytes m.marks) (length m.marks) (marks_size m.marks)
+
+  pub manifest_size : length (manifest_bytes format m) ≡ 29 + (only_size format 8 + (only_size format (length m.marks) + (4 * length m.parents + length (flat_map level_bytes m.levels))))
+  manifest_size =
+      ap length manifest_text ∙ omega (
+        arith,
+        length-append {A = ℕ},
+        length-be 4 m.changes,
+        length-be 4 m.updates,
+        length-be 8 m.written,
+        compacted_long,
+        length-be 8 m.next_array,
+        length-be 4 (suc (length m.parents)),
+        numbers_size m.parents,
+        marks_long,
+        length-be 1 (length m.levels),
+      )
+
+-- the same of a manifest in memory
+pub size_in_memory : (format : ℕ) (m : Declared)
+    → length (manifest_bytes format (manifest_of m)) ≡ 29 + (only_size format 8 + (only_size format (length m.marks) + (4 * length m.parents + length (flat_map level_bytes m.levels))))
+size_in_memory format m =
+    manifest_size format (manifest_of m)
+    ∙ ap (λ (n : ℕ). 29 + (only_size format 8 + (only_size format n + (4 * length m.parents + length (flat_map level_bytes m.levels))))) (length-marks m.marks)
 
 -- an array was added in three parts
 pub array_added : (a : ArrayDesc) (before one two now : List ℕ)
@@ -115,15 +149,26 @@ pub level_added : (l : LevelDesc) (before one two three now : List ℕ)
     → one ≡ before ++ be 1 l.number → two ≡ one ++ be 4 l.horizon → three ≡ two ++ be 4 (length l.arrays) → now ≡ three ++ flat_map array_bytes l.arrays → now ≡ before ++ level_bytes l
 level_added l before one two three now first second third fourth = rw (fourth, third, second, first) (simp append_assoc)
 
--- a manifest was added in five parts
-pub manifest_added : (m : Manifest) (before one two three four now : List ℕ)
-    → one ≡ before ++ (be 4 m.changes ++ (be 4 m.updates ++ (be 8 m.written ++ be 8 m.next_array)))
-    → two ≡ one ++ be 4 (length m.parents + 1) → three ≡ two ++ flat_map (be 4) m.parents → four ≡ three ++ be 1 (length m.levels) → now ≡ four ++ flat_map level_bytes m.levels
-    → now ≡ before ++ manifest_bytes newest_format m
+-- parts that were added one behind the other
+ten_parts : (before a b c d e f g h i j : List ℕ) → (((((before ++ (a ++ (b ++ (c ++ (d ++ e))))) ++ f) ++ g) ++ h) ++ i) ++ j ≡ before ++ (a ++ (b ++ (c ++ (d ++ (e ++ (f ++ (g ++ (h ++ (i ++ j)))))))))
+ten_parts before a b c d e f g h i j = simp append_assoc
+
+-- a manifest was added in six parts
+pub manifest_added : (format : ℕ) (m : Manifest) (before one two three four five now : List ℕ)
+    → one ≡ before ++ (be 4 m.changes ++ (be 4 m.updates ++ (be 8 m.written ++ (only format (be 8 m.compacted) ++ be 8 m.next_array))))
+    → two ≡ one ++ be 4 (length m.parents + 1) → three ≡ two ++ flat_map (be 4) m.parents → four ≡ three ++ only format (flat_map mark_bytes m.marks)
+    → five ≡ four ++ be 1 (length m.levels) → now ≡ five ++ flat_map level_bytes m.levels → now ≡ before ++ manifest_bytes format m
 unfolding manifest_bytes
-manifest_added m before one two three four now first second third fourth fifth =
-    rw (fifth, fourth, third, second, first, add-one (length m.parents)) (simp append_assoc)
+manifest_added format m before one two three four five now first second third fourth fifth sixth =
+    sixth
+    ∙ ap (λ (x : List ℕ). x ++ flat_map level_bytes m.levels) (fifth
+    ∙ ap (λ (x : List ℕ). x ++ be 1 (length m.levels)) (fourth
+    ∙ ap (λ (x : List ℕ). x ++ only format (flat_map mark_bytes m.marks)) (third
+    ∙ ap (λ (x : List ℕ). x ++ flat_map (be 4) m.parents) (second
+    ∙ (λ i. first i ++ be 4 (add-one (length m.parents) i))))))
+    ∙ ten_parts before (be 4 m.changes) (be 4 m.updates) (be 8 m.written) (only format (be 8 m.compacted)) (be 8 m.next_array) (be 4 (suc (length m.parents))) (flat_map (be 4) m.parents)
+    (only format (flat_map mark_bytes m.marks)) (be 1 (length m.levels)) (flat_map level_bytes m.levels)
 
 -- a lawful manifest has at most 22 levels
-pub few_levels : (m : Manifest) → is_lawful_manifest newest_format m ≡ true → length m.levels ≤ 22
-few_levels m lawful = leb-true (length m.levels) 22 (pass_at _ 7 lawful)
+pub few_levels : (format : ℕ) (m : Manifest) → is_lawful_manifest format m ≡ true → length m.levels ≤ 22
+few_levels format m lawful = leb-true (length m.levels) 22 (pass_at _ 7 lawful)

@@ -1,16 +1,18 @@
 -- What is read from bytes is spelled by them.
-use Rattle.std.proofs.Common.{◌≡◌, ◌≤◌, inl, inr, ℕ, zero, suc, List, [], ◌∷◌, ◌++◌, length, drop, Some, None, refl, sym, ap, ◌∙◌, subst, append_assoc, take-append-drop, take, leb, true, false}
-use Rattle.std.specs.List.{flat_map}
-use Rattle.std.proofs.lemmas.Bool.{cases_lt, lt-leb, le-leb}
+use Rattle.std.proofs.Common.{◌≡◌, ◌≤◌, ◌<◌, ◌^◌, inl, inr, ℕ, zero, suc, Bool, cond, eqb, ltb, replicate, List, [], ◌∷◌, ◌++◌, length, drop, Some, None, refl, sym, ap, ◌∙◌, subst, append_assoc, take-append-drop, take, leb, true, false}
+use Rattle.std.specs.List.{flat_map, list_all}
+use Rattle.std.proofs.lemmas.Bool.{cases_lt, lt-leb, le-leb, lt-ltb, and_from}
 use Rattle.std.proofs.lemmas.List.{drop_at}
 use Rattle.strat_base.specs.Numbers.{be, number, AreBytes}
 use Rattle.strat_base.specs.declared.descriptors.Extent.{Extent}
 use Rattle.strat_base.specs.declared.descriptors.ArrayDesc.{ArrayDesc}
 use Rattle.strat_base.specs.declared.descriptors.LevelDesc.{LevelDesc}
-use Rattle.strat_base.proofs.NumberLemmas.{AreBytes-drop, be-number_1, be-number_4, be-number_8}
-use Rattle.def_bytes.specs.Manifest.{Parsed, next, read_number, read_items, read_list, read_extent, read_array, read_level, list_bytes, extent_bytes, array_bytes, level_bytes}
-use Rattle.strat_manifest.specs.Reading.{read_head, read_levels}
+use Rattle.strat_base.proofs.NumberLemmas.{AreBytes-drop, number-lt, be-number_1, be-number_4, be-number_8}
+use Rattle.def_bytes.specs.Manifest.{Parsed, next, read_number, read_items, read_list, read_only, read_extent, read_array, read_level, only, list_bytes, extent_bytes, array_bytes, level_bytes}
+use Rattle.strat_manifest.specs.ManifestView.{are_marks}
+use Rattle.strat_manifest.specs.Reading.{read_head, read_marks, read_levels}
 use Rattle.strat_manifest.specs.declared.parser.Head.{Head}
+use Rattle.strat_manifest.proofs.MarkLemmas.{zeros_are_marks}
 
 -- what is read stands in front of what is left
 abbrev pub IsSpelled : {A : Type 0} → (List ℕ → Parsed A) → (A → List ℕ) → Type 0
@@ -152,28 +154,95 @@ level_spelled bytes l rest fits is =
     ∙ sym (append_assoc (be 1 number.value) (be 4 horizon.value ++ list_bytes array_bytes arrays.value) arrays.rest)
     )
 
-pub head_spelled : (bytes : List ℕ) (h : Head) (rest : List ℕ) → AreBytes bytes → read_head bytes ≡ Some (h, rest)
-    → (bytes ≡ be 4 h.changes ++ (be 4 h.updates ++ (be 8 h.written ++ (be 8 h.next_array ++ (be 4 h.versions ++ rest))))) × AreBytes rest
+-- what format 2 has alone
+only_spelled : {A : Type 0} (format : ℕ) (read : List ℕ → Parsed A) (item_bytes : A → List ℕ) (none : A) → IsSpelled read item_bytes → IsSpelled (read_only format read none) (λ x. only format (item_bytes x))
+unfolding read_only
+only_spelled {A = A} format read item_bytes none spelled bytes x rest fits is = by_format (eqb format 2) is
+  where
+    by_format : (two : Bool) → cond two (read bytes) (Some (none, bytes)) ≡ Some (x, rest) → bytes ≡ cond two (item_bytes x) [] ++ rest
+    by_format true read_is = spelled bytes x rest fits read_is
+    by_format false read_is = let P : (A × List ℕ) → Type 0 = λ p. bytes ≡ p.1 in subst P (some_same (none, bytes) (x, rest) read_is) refl
+
+pub head_spelled : (format : ℕ) (bytes : List ℕ) (h : Head) (rest : List ℕ) → AreBytes bytes → read_head format bytes ≡ Some (h, rest)
+    → (bytes ≡ be 4 h.changes ++ (be 4 h.updates ++ (be 8 h.written ++ (only format (be 8 h.compacted) ++ (be 8 h.next_array ++ (be 4 h.versions ++ rest)))))) × AreBytes rest
 unfolding read_head
-head_spelled bytes h rest fits is =
-    let changes = step {B = Head} (read_number 4) (be 4) number_spelled_4 (λ changes b. next (read_number 4 b) (λ updates c. next (read_number 8 c) (λ written d. next (read_number 8 d) (λ next_array e. next (read_number 4 e) (λ versions f.
-    Some (record { changes = changes; updates = updates; written = written; next_array = next_array; versions = versions }, f)))))) (h, rest) bytes fits is in
-    let updates = step {B = Head} (read_number 4) (be 4) number_spelled_4 (λ updates c. next (read_number 8 c) (λ written d. next (read_number 8 d) (λ next_array e. next (read_number 4 e) (λ versions f.
-    Some (record { changes = changes.value; updates = updates; written = written; next_array = next_array; versions = versions }, f))))) (h, rest) changes.rest changes.fits changes.more in
-    let written = step {B = Head} (read_number 8) (be 8) number_spelled_8 (λ written d. next (read_number 8 d) (λ next_array e. next (read_number 4 e) (λ versions f.
-    Some (record { changes = changes.value; updates = updates.value; written = written; next_array = next_array; versions = versions }, f)))) (h, rest) updates.rest updates.fits updates.more in
+head_spelled format bytes h rest fits is =
+    let changes = step {B = Head} (read_number 4) (be 4) number_spelled_4 (λ changes b. next (read_number 4 b) (λ updates c. next (read_number 8 c) (λ written k. next (read_only format (read_number 8) 0 k) (λ compacted d.
+    next (read_number 8 d) (λ next_array e. next (read_number 4 e) (λ versions f.
+    Some (record { changes = changes; updates = updates; written = written; compacted = compacted; next_array = next_array; versions = versions }, f))))))) (h, rest) bytes fits is in
+    let updates = step {B = Head} (read_number 4) (be 4) number_spelled_4 (λ updates c. next (read_number 8 c) (λ written k. next (read_only format (read_number 8) 0 k) (λ compacted d.
+    next (read_number 8 d) (λ next_array e. next (read_number 4 e) (λ versions f.
+    Some (record { changes = changes.value; updates = updates; written = written; compacted = compacted; next_array = next_array; versions = versions }, f)))))) (h, rest) changes.rest changes.fits changes.more in
+    let written = step {B = Head} (read_number 8) (be 8) number_spelled_8 (λ written k. next (read_only format (read_number 8) 0 k) (λ compacted d.
+    next (read_number 8 d) (λ next_array e. next (read_number 4 e) (λ versions f.
+    Some (record { changes = changes.value; updates = updates.value; written = written; compacted = compacted; next_array = next_array; versions = versions }, f))))) (h, rest) updates.rest updates.fits updates.more in
+    let compacted = step {B = Head} (read_only format (read_number 8) 0) (λ x. only format (be 8 x)) (only_spelled format (read_number 8) (be 8) 0 number_spelled_8) (λ compacted d.
+    next (read_number 8 d) (λ next_array e. next (read_number 4 e) (λ versions f.
+    Some (record { changes = changes.value; updates = updates.value; written = written.value; compacted = compacted; next_array = next_array; versions = versions }, f)))) (h, rest) written.rest written.fits written.more in
     let next_array = step {B = Head} (read_number 8) (be 8) number_spelled_8 (λ next_array e. next (read_number 4 e) (λ versions f.
-    Some (record { changes = changes.value; updates = updates.value; written = written.value; next_array = next_array; versions = versions }, f))) (h, rest) written.rest written.fits written.more in
+    Some (record { changes = changes.value; updates = updates.value; written = written.value; compacted = compacted.value; next_array = next_array; versions = versions }, f))) (h, rest) compacted.rest compacted.fits compacted.more in
     let versions = step {B = Head} (read_number 4) (be 4) number_spelled_4 (λ versions f.
-    Some (record { changes = changes.value; updates = updates.value; written = written.value; next_array = next_array.value; versions = versions }, f)) (h, rest) next_array.rest next_array.fits next_array.more in
+    Some (record { changes = changes.value; updates = updates.value; written = written.value; compacted = compacted.value; next_array = next_array.value; versions = versions }, f)) (h, rest) next_array.rest next_array.fits next_array.more in
     let P : (Head × List ℕ) → Type 0 = λ p.
-    (bytes ≡ be 4 p.0.changes ++ (be 4 p.0.updates ++ (be 8 p.0.written ++ (be 8 p.0.next_array ++ (be 4 p.0.versions ++ p.1))))) × AreBytes p.1
+    (bytes ≡ be 4 p.0.changes ++ (be 4 p.0.updates ++ (be 8 p.0.written ++ (only format (be 8 p.0.compacted) ++ (be 8 p.0.next_array ++ (be 4 p.0.versions ++ p.1)))))) × AreBytes p.1
     in
     subst P (some_same _ _ versions.more) (
-      changes.text ∙ ap (λ (x : List ℕ). be 4 changes.value ++ x) (updates.text ∙ ap (λ (x : List ℕ). be 4 updates.value ++ x) (written.text ∙ ap (λ (x : List ℕ). be 8 written.value ++ x) (next_array.text
-          ∙ ap (λ (x : List ℕ). be 8 next_array.value ++ x) versions.text))),
+      changes.text ∙ ap (λ (x : List ℕ). be 4 changes.value ++ x) (updates.text ∙ ap (λ (x : List ℕ). be 4 updates.value ++ x) (written.text ∙ ap (λ (x : List ℕ). be 8 written.value ++ x) (compacted.text
+          ∙ ap (λ (x : List ℕ). only format (be 8 compacted.value) ++ x) (next_array.text ∙ ap (λ (x : List ℕ). be 8 next_array.value ++ x) versions.text)))),
       versions.fits,
     )
+
+-- a number of one byte
+number_low : (bytes : List ℕ) (x : ℕ) (rest : List ℕ) → AreBytes bytes → read_number 1 bytes ≡ Some (x, rest) → (x < 256) × AreBytes rest
+unfolding read_number
+number_low bytes x rest fits is = by_length (leb 1 (length bytes)) is
+  where
+    by_length : (some : Bool) → cond {A = Parsed ℕ} some (Some (number 1 bytes, drop 1 bytes)) None ≡ Some (x, rest) → (x < 256) × AreBytes rest
+    by_length true read_is =
+        let P : (ℕ × List ℕ) → Type 0 = λ p. (p.0 < 256) × AreBytes p.1 in
+        subst P (some_same _ _ read_is) (number-lt 1 bytes fits, AreBytes-drop 1 bytes fits)
+    by_length false read_is = absurd (cc)
+
+numbers_low : (n : ℕ) (bytes : List ℕ) (xs : List ℕ) (rest : List ℕ) → AreBytes bytes → read_items (read_number 1) n bytes ≡ Some (xs, rest) → list_all (λ x. ltb x 256) xs ≡ true
+unfolding read_items
+numbers_low zero bytes xs rest fits is =
+    let P : (List ℕ × List ℕ) → Type 0 = λ p. list_all (λ x. ltb x 256) p.0 ≡ true in
+    subst P (some_same ([], bytes) (xs, rest) is) refl
+numbers_low (suc n) bytes xs rest fits is =
+    let one = next_some {B = List ℕ} (read_number 1 bytes) (λ x b. next (read_items (read_number 1) n b) (λ ys end. Some (x ∷ ys, end))) (xs, rest) is in
+    let others = next_some {B = List ℕ} (read_items (read_number 1) n one.0.1) (λ ys end. Some (one.0.0 ∷ ys, end)) (xs, rest) one.2 in
+    let low = number_low bytes one.0.0 one.0.1 fits one.1 in
+    let P : (List ℕ × List ℕ) → Type 0 = λ p. list_all (λ x. ltb x 256) p.0 ≡ true in
+    subst P (some_same _ _ others.2)
+    (and_from (ltb one.0.0 256) (list_all (λ x. ltb x 256) others.0.0) (lt-ltb one.0.0 256 low.0) (numbers_low n one.0.1 others.0.0 others.0.1 low.1 others.1))
+
+-- what was read as the numbers of marks
+module _ (format n : ℕ) (bytes xs rest : List ℕ) (is : read_marks format n bytes ≡ Some (xs, rest)) where
+  pub marks_front : AreBytes bytes → bytes ≡ only format (flat_map (be 1) xs) ++ rest
+  unfolding read_marks
+  marks_front fits =
+      only_spelled format (read_items (read_number 1) n) (flat_map (be 1)) (replicate n 0) (λ front ys end low read_is. (items_spelled (read_number 1) (be 1) number_spelled_1 n front ys end low read_is).0)
+      bytes xs rest fits is
+
+  pub marks_low : AreBytes bytes → list_all (λ x. ltb x 256) xs ≡ true
+  unfolding read_marks read_only
+  marks_low fits = by_format (eqb format 2) is
+    where
+      by_format : (two : Bool) → cond two (read_items (read_number 1) n bytes) (Some (replicate n 0, bytes)) ≡ Some (xs, rest) → list_all (λ x. ltb x 256) xs ≡ true
+      by_format true read_is = numbers_low n bytes xs rest fits read_is
+      by_format false read_is =
+          let P : (List ℕ × List ℕ) → Type 0 = λ p. list_all (λ x. ltb x 256) p.0 ≡ true in subst P (some_same _ _ read_is) (zeros_low n)
+        where
+          zeros_low : (k : ℕ) → list_all (λ x. ltb x 256) (replicate k 0) ≡ true
+          zeros_low zero = refl
+          zeros_low (suc k) = zeros_low k
+
+  -- in format 1 they are those of marks
+  pub marks_bare : eqb format 2 ≡ false → are_marks xs ≡ true
+  unfolding read_marks read_only
+  marks_bare one =
+      let read_is : Some (replicate n 0, bytes) ≡ Some (xs, rest) = (λ i. cond (sym one i) (read_items (read_number 1) n bytes) (Some (replicate n 0, bytes))) ∙ is in
+      let P : (List ℕ × List ℕ) → Type 0 = λ p. are_marks p.0 ≡ true in subst P (some_same _ _ read_is) (zeros_are_marks n)
 
 pub levels_spelled : (bytes : List ℕ) (levels : List LevelDesc) (rest : List ℕ) → AreBytes bytes → read_levels bytes ≡ Some (levels, rest)
     → bytes ≡ be 1 (length levels) ++ (flat_map level_bytes levels ++ rest)

@@ -1,3 +1,4 @@
 pub mod ManifestView
+pub mod Pruned
 pub mod Reading
 pub mod Chains

@@ -1,10 +1,12 @@
 //! Tests of what a manifest with a spelling keeps: each is one pass over what it tests, and takes no memory.
 
-ghost use Rattle.std.specs.Prelude.{◌≡◌, ◌&&◌, ◌+◌, ◌^◌, ◌==◌, nat_le, nat_lt, map, [], ◌∷◌};
+ghost use Rattle.std.specs.Prelude.{◌≡◌, ◌&&◌, ◌||◌, ◌+◌, ◌^◌, ◌==◌, not, nat_le, nat_lt, map, [], ◌∷◌, None, Some};
 ghost use Rattle.std.specs.List.{list_all};
-ghost use Rattle.def_bytes.specs.Layout.{newest_format};
+ghost use Rattle.strat_base.specs.Marks as drops;
 ghost use Rattle.def_bytes.specs.Manifest as rules;
-ghost use Rattle.strat_manifest.specs.ManifestView.{manifest_of};
+ghost use Rattle.strat_manifest.specs.ManifestView as views;
+ghost use Rattle.strat_manifest.specs.ManifestView.{manifest_of, marks_of};
+ghost use Rattle.strat_manifest.specs.Pruned as pruning;
 
 use crate::manifest::Manifest;
 use strat_base::limits::{LEVELS, VERSIONS_MAX};
@@ -200,12 +202,83 @@ fn are_lawful_counts(changes: u32, updates: u32, written: u64, next_array: u64) 
     updates <= changes && next_array >= 1
 }
 
-/// Whether a manifest has a spelling. One pass over it, O(size), with no memory taken.
-#[tactic(auto, unfolding(def_bytes::specs::Manifest::all_pass), using(def_bytes::proofs::MarkLemmas::none_marked, def_bytes::proofs::MarkLemmas::unmarked_pruned))]
-pub(crate) fn is_lawful(m: &Manifest) -> bool
-    ensures ok { result ≡ rules.is_lawful_manifest newest_format (manifest_of m.now) }
+/// Whether each number is that of a mark, 0 or 1.
+pub(crate) fn are_marks(marks: &[u32]) -> bool
+    ensures ok { result ≡ views.are_marks marks.now }
+{
+    marks.iter().all(|mark| *mark <= 1)
+}
+
+/// Whether no number is that of a mark which is set.
+fn each_is_unset(marks: &[u32]) -> bool
+    ensures ok { result ≡ list_all (λ n. not (n == 1)) marks.now }
+{
+    marks.iter().all(|mark| *mark != 1)
+}
+
+/// Whether no mark says that a version was dropped.
+pub fn none_is_dropped(marks: &[u32]) -> bool
+    ensures ok { result ≡ list_all not (marks_of marks.now) }
+{
+    each_is_unset(marks)
+}
+
+/// Whether a format has these fields: format 1 has no entries compacted and no version dropped.
+fn has_fields(format: u16, compacted: u64, marks: &[u32]) -> bool
+    ensures ok { result ≡ ((format == 2)
+        || ((format == 1) && (compacted == 0) && list_all not (marks_of marks.now))) }
+{
+    let is_bare = compacted == 0 && none_is_dropped(marks);
+    format == 2 || format == 1 && is_bare
+}
+
+/// Whether a version is marked as dropped.
+#[tactic(auto, using(crate::proofs::MarkLemmas::mark_at, crate::proofs::MarkLemmas::mark_past))]
+fn is_dropped(marks: &[u32], v: usize) -> bool
+    ensures ok { result ≡ drops.is_dropped (marks_of marks.now) v }
+{
+    if v < marks.len() { marks[v] == 1 } else { false }
+}
+
+/// Whether a version was dropped if its parent was.
+fn goes_with(marks: &[u32], parent: usize, v: usize) -> bool
+    ensures ok { result ≡ (not (drops.is_dropped (marks_of marks.now) parent)
+        || drops.is_dropped (marks_of marks.now) v) }
+{
+    !is_dropped(marks, parent) || is_dropped(marks, v)
+}
+
+/// Whether below a dropped version all were dropped, where the first parent is that of version 1.
+#[tactic(auto, using(crate::proofs::MarkLemmas::below_on, crate::proofs::MarkLemmas::below_broken, crate::proofs::MarkLemmas::below_over))]
+fn are_below(marks: &[u32], parents: &[u32]) -> bool
+    ensures ok { result ≡ pruning.are_below (marks_of marks.now) 1 parents.now }
+{
+    for (i, parent) in parents.iter().enumerate() {
+        if !goes_with(marks, *parent as usize, i + 1) {
+            return false;
+        }
+    }
+    true
+}
+
+/// Whether each version has a mark, version 0 is living, and below a dropped version all were dropped.
+#[tactic(auto, using(crate::proofs::MarkLemmas::pruned_is))]
+fn are_pruned(parents: &[u32], marks: &[u32]) -> bool
+    ensures ok { result ≡ drops.are_pruned (None ∷ map (λ p. Some p) parents.now)
+        (marks_of marks.now) }
+{
+    let has_marks = marks.len() == parents.len() + 1;
+    let has_root = !is_dropped(marks, 0);
+    has_marks && has_root && are_below(marks, parents)
+}
+
+/// Whether a manifest has a spelling in a format. One pass over it, O(size), with no memory taken.
+#[tactic(auto, unfolding(def_bytes::specs::Manifest::all_pass))]
+pub(crate) fn is_lawful(m: &Manifest, format: u16) -> bool
+    ensures ok { result ≡ rules.is_lawful_manifest format (manifest_of m.now) }
 {
     let parents = m.parents.as_slice();
+    let marks = m.marks.as_slice();
     let levels = m.levels.as_slice();
     if parents.len() >= VERSIONS_MAX as usize || levels.len() > LEVELS {
         return false;
@@ -214,5 +287,7 @@ pub(crate) fn is_lawful(m: &Manifest) -> bool
     let has_numbers = are_lawful_counts(m.changes, m.updates, m.written, m.next_array);
     let is_older = are_older(parents);
     let is_lawful = each_level_is_lawful(versions, m.next_array, levels);
-    has_numbers && is_older && is_lawful && numbers_rise(levels)
+    let has_fields = has_fields(format, m.compacted, marks);
+    let is_pruned = are_pruned(parents, marks);
+    has_numbers && is_older && is_lawful && numbers_rise(levels) && has_fields && is_pruned
 }

@@ -1,11 +1,10 @@
-//! The spelling of a manifest, in memory of just its length.
+//! The spelling of a manifest in either format, in memory of just its length.
 
 ghost use Rattle.std.specs.Prelude.{◌≡◌, ◌+◌, ◌*◌, ◌^◌, ◌≤◌, ◌<◌, ◌++◌, length, vec_len, vec_capacity, IfOk, IsTrue};
 ghost use Rattle.std.specs.List.{flat_map};
 ghost use Rattle.strat_base.specs.Numbers.{be};
-ghost use Rattle.def_bytes.specs.Layout.{newest_format};
-ghost use Rattle.def_bytes.specs.Manifest.{is_lawful_manifest, list_bytes, extent_bytes, array_bytes, level_bytes, manifest_bytes, SpellsManifest};
-ghost use Rattle.strat_manifest.specs.ManifestView.{manifest_of};
+ghost use Rattle.def_bytes.specs.Manifest.{is_lawful_manifest, list_bytes, extent_bytes, array_bytes, level_bytes, mark_bytes, only, manifest_bytes, SpellsManifest};
+ghost use Rattle.strat_manifest.specs.ManifestView.{is_set, marks_of, only_size, manifest_of};
 
 use crate::manifest::Manifest;
 use crate::size::manifest_size;
@@ -194,50 +193,103 @@ fn add_levels(out: &mut Vec<u8>, levels: &[LevelDesc])
     }
 }
 
-/// Adds the four numbers in front of a manifest.
-fn add_counts(out: &mut Vec<u8>, m: &Manifest)
-    requires room { vec_len out.old + 24 ≤ vec_capacity out.old }
+/// Adds the entries compacted, which format 2 alone has.
+fn add_compacted(out: &mut Vec<u8>, format: u16, compacted: u64)
+    requires room { vec_len out.old + only_size format 8 ≤ vec_capacity out.old }
+    ensures ok { out.new.items ≡ out.old.items ++ only format (be 8 compacted) }
+    ensures len { vec_len out.new ≡ vec_len out.old + only_size format 8 }
+    ensures room { vec_capacity out.old ≤ vec_capacity out.new }
+{
+    if format == 2 {
+        add_u64(out, compacted);
+    }
+}
+
+/// Adds the numbers in front of a manifest, up to the next array's.
+fn add_counts(out: &mut Vec<u8>, format: u16, m: &Manifest)
+    requires room { vec_len out.old + (24 + only_size format 8) ≤ vec_capacity out.old }
     ensures ok { out.new.items ≡ out.old.items ++ (be 4 m.now.changes ++ (be 4 m.now.updates
-        ++ (be 8 m.now.written ++ be 8 m.now.next_array))) }
-    ensures len { vec_len out.new ≡ vec_len out.old + 24 }
+        ++ (be 8 m.now.written ++ (only format (be 8 m.now.compacted) ++ be 8 m.now.next_array)))) }
+    ensures len { vec_len out.new ≡ vec_len out.old + (24 + only_size format 8) }
     ensures room { vec_capacity out.old ≤ vec_capacity out.new }
 {
     add_u32(out, m.changes);
     add_u32(out, m.updates);
     add_u64(out, m.written);
+    add_compacted(out, format, m.compacted);
     add_u64(out, m.next_array);
 }
 
-/// Adds a manifest.
-#[tactic(auto, using(crate::proofs::PrintLemmas::manifest_size))]
-fn add_manifest(out: &mut Vec<u8>, m: &Manifest)
-    requires room { vec_len out.old + length (manifest_bytes newest_format (manifest_of m.now))
+/// Adds the byte of a mark.
+fn add_mark(out: &mut Vec<u8>, mark: u32)
+    requires room { vec_len out.old + 1 ≤ vec_capacity out.old }
+    ensures ok { out.new.items ≡ out.old.items ++ mark_bytes (is_set mark) }
+    ensures len { vec_len out.new ≡ vec_len out.old + 1 }
+    ensures room { vec_capacity out.old ≤ vec_capacity out.new }
+{
+    if mark == 1 {
+        add_u8(out, 1);
+    } else {
+        add_u8(out, 0);
+    }
+}
+
+/// Adds the bytes of marks.
+#[tactic(auto, using(crate::proofs::PrintLemmas::joined_at, crate::proofs::MarkLemmas::marks_joined))]
+fn add_marks(out: &mut Vec<u8>, marks: &[u32])
+    requires room { vec_len out.old + length marks.now ≤ vec_capacity out.old }
+    ensures ok { out.new.items ≡ out.old.items ++ flat_map mark_bytes (marks_of marks.now) }
+    ensures len { vec_len out.new ≡ vec_len out.old + length marks.now }
+    ensures room { vec_capacity out.old ≤ vec_capacity out.new }
+{
+    for mark in marks {
+        add_mark(out, *mark);
+    }
+}
+
+/// Adds the bytes of marks, which format 2 alone has.
+fn add_format_marks(out: &mut Vec<u8>, format: u16, marks: &[u32])
+    requires room { vec_len out.old + only_size format (length marks.now)
         ≤ vec_capacity out.old }
-    requires fits { (length (manifest_bytes newest_format (manifest_of m.now)) < 2 ^ 32)
-        × (length m.now.levels ≤ 255) }
     ensures ok { out.new.items
-        ≡ out.old.items ++ manifest_bytes newest_format (manifest_of m.now) }
+        ≡ out.old.items ++ only format (flat_map mark_bytes (marks_of marks.now)) }
+    ensures len { vec_len out.new ≡ vec_len out.old + only_size format (length marks.now) }
+    ensures room { vec_capacity out.old ≤ vec_capacity out.new }
+{
+    if format == 2 {
+        add_marks(out, marks);
+    }
+}
+
+/// Adds a manifest.
+#[tactic(auto, using(crate::proofs::PrintLemmas::size_in_memory))]
+fn add_manifest(out: &mut Vec<u8>, format: u16, m: &Manifest)
+    requires room { vec_len out.old + length (manifest_bytes format (manifest_of m.now))
+        ≤ vec_capacity out.old }
+    requires fits { (length (manifest_bytes format (manifest_of m.now)) < 2 ^ 32)
+        × (length m.now.levels ≤ 255) }
+    ensures ok { out.new.items ≡ out.old.items ++ manifest_bytes format (manifest_of m.now) }
 {
     let parents = m.parents.as_slice();
     let levels = m.levels.as_slice();
-    add_counts(out, m);
+    add_counts(out, format, m);
     add_u32(out, parents.len() as u32 + 1);
     add_numbers(out, parents);
+    add_format_marks(out, format, m.marks.as_slice());
     add_u8(out, levels.len() as u8);
     add_levels(out, levels);
 }
 
-/// The spelling of a manifest, in a vector with room for just so many bytes. O(size); `NoMemory` where
-/// there is no memory for it.
-pub fn print(alloc: Global, m: &Manifest) -> Result<Vec<u8>, NoMemory>
-    requires kept { IsTrue (is_lawful_manifest newest_format (manifest_of m.now)) }
-    requires fits { length (manifest_bytes newest_format (manifest_of m.now)) ≤ 4290772992 }
-    ensures ok { IfOk result (λ bytes.
-        SpellsManifest newest_format bytes.items (manifest_of m.now)) }
+/// The spelling of a manifest in a format, 1 or 2, in a vector with room for just so many bytes. Format 1 has those with
+/// no entry compacted and no version dropped. O(size); `NoMemory` where there is no memory for it.
+pub fn print(alloc: Global, m: &Manifest, format: u16) -> Result<Vec<u8>, NoMemory>
+    requires kept { IsTrue (is_lawful_manifest format (manifest_of m.now)) }
+    requires fits { length (manifest_bytes format (manifest_of m.now)) ≤ 4290772992 }
+    ensures ok { IfOk result (λ bytes. SpellsManifest format bytes.items (manifest_of m.now)) }
     ensures len { IfOk result (λ bytes. vec_len bytes
-        ≡ length (manifest_bytes newest_format (manifest_of m.now))) }
+        ≡ length (manifest_bytes format (manifest_of m.now))) }
 {
-    let mut out = Vec::with_capacity(alloc, manifest_size(m) as usize)?;
-    add_manifest(&mut out, m);
+    let mut out = Vec::with_capacity(alloc, manifest_size(m, format) as usize)?;
+    add_manifest(&mut out, format, m);
     Ok(out)
 }

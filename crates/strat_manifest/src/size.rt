@@ -1,11 +1,10 @@
 //! Whether a manifest may be written: it has a spelling, and that is short enough for a chain. No size overflows on the way,
 //! whatever the manifest is.
 
-ghost use Rattle.std.specs.Prelude.{◌≡◌, ◌≤◌, ◌-◌, ◌^◌, length, min, true, IsTrue};
+ghost use Rattle.std.specs.Prelude.{◌≡◌, ◌≤◌, ◌+◌, ◌-◌, ◌^◌, length, min, true, IsTrue};
 ghost use Rattle.std.specs.List.{flat_map};
-ghost use Rattle.def_bytes.specs.Layout.{newest_format};
 ghost use Rattle.def_bytes.specs.Manifest.{is_lawful_manifest, array_bytes, level_bytes, manifest_bytes};
-ghost use Rattle.strat_manifest.specs.ManifestView.{manifest_of};
+ghost use Rattle.strat_manifest.specs.ManifestView.{only_size, manifest_of};
 
 use crate::lawful::is_lawful;
 use crate::manifest::Manifest;
@@ -56,25 +55,33 @@ fn levels_size(levels: &[LevelDesc]) -> u64
     size
 }
 
-/// How many bytes the spelling of a manifest has.
-#[tactic(auto, using(crate::proofs::PrintLemmas::manifest_size))]
-pub(crate) fn manifest_size(m: &Manifest) -> u64
+/// How many bytes of a manifest stand in format 2 alone.
+fn marks_size(marks: usize, format: u16) -> u64
+    ensures ok { result ≡ min (only_size format 8 + only_size format marks) (2 ^ 64 - 1) }
+{
+    if format == 2 { (marks as u64).saturating_add(8) } else { 0 }
+}
+
+/// How many bytes the spelling of a manifest in a format has.
+#[tactic(auto, using(crate::proofs::PrintLemmas::size_in_memory))]
+pub(crate) fn manifest_size(m: &Manifest, format: u16) -> u64
     ensures ok { result
-        ≡ min (length (manifest_bytes newest_format (manifest_of m.now))) (2 ^ 64 - 1) }
+        ≡ min (length (manifest_bytes format (manifest_of m.now))) (2 ^ 64 - 1) }
 {
     let parents = (m.parents.len() as u64).saturating_mul(4);
     levels_size(m.levels.as_slice())
         .saturating_add(parents)
+        .saturating_add(marks_size(m.marks.len(), format))
         .saturating_add(29)
 }
 
-/// Whether a manifest may be written. One pass over it, O(size), with no memory taken.
-pub fn is_writable(m: &Manifest) -> bool
-    ensures ok { result ≡ true → IsTrue (is_lawful_manifest newest_format (manifest_of m.now))
-        × (length (manifest_bytes newest_format (manifest_of m.now)) ≤ 4290772992) }
-    ensures none { IsTrue (is_lawful_manifest newest_format (manifest_of m.now))
-        → length (manifest_bytes newest_format (manifest_of m.now)) ≤ 4290772992
+/// Whether a manifest may be written in a format. One pass over it, O(size), with no memory taken.
+pub fn is_writable(m: &Manifest, format: u16) -> bool
+    ensures ok { result ≡ true → IsTrue (is_lawful_manifest format (manifest_of m.now))
+        × (length (manifest_bytes format (manifest_of m.now)) ≤ 4290772992) }
+    ensures none { IsTrue (is_lawful_manifest format (manifest_of m.now))
+        → length (manifest_bytes format (manifest_of m.now)) ≤ 4290772992
         → result ≡ true }
 {
-    is_lawful(m) && manifest_size(m) <= MOST
+    is_lawful(m, format) && manifest_size(m, format) <= MOST
 }

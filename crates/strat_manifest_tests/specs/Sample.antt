@@ -1,5 +1,5 @@
 -- A manifest for tests.
-use Rattle.std.specs.Prelude.{false, [], ◌∷◌}
+use Rattle.std.specs.Prelude.{true, false, [], ◌∷◌}
 use Rattle.strat_base.specs.declared.descriptors.ArrayDesc.{ArrayDesc}
 use Rattle.def_bytes.specs.Manifest.{Manifest}
 
@@ -37,3 +37,7 @@ sample_manifest = record {
   marks = false ∷ false ∷ false ∷ [];
   levels = record { number = 2; horizon = 3; arrays = first_array ∷ second_array ∷ [] } ∷ [];
 }
+
+-- the same with five entries compacted, and with versions 1 and 2 dropped
+abbrev pub dropped_manifest : Manifest
+dropped_manifest = record sample_manifest { compacted = 5; marks = false ∷ true ∷ true ∷ [] }

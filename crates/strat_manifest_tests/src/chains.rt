@@ -1,7 +1,6 @@
 //! Manifests in chains of blocks: written and read back, with wrong links, and with writes that fail.
 
 ghost use Rattle.std.specs.Prelude.{◌≡◌, ◌≤◌, ◌<◌, ◌+◌, ◌-◌, ◌*◌, length, IfOk, IsTrue};
-ghost use Rattle.def_bytes.specs.Layout.{newest_format};
 ghost use Rattle.def_bytes.specs.Manifest.{is_lawful_manifest, manifest_bytes};
 ghost use Rattle.strat_manifest.specs.ManifestView.{manifest_of};
 
@@ -13,22 +12,40 @@ use strat_disk::{Disk, FuseDisk, MemDisk};
 use strat_extent::Space;
 use strat_manifest::{Manifest, parse, read, write};
 
-/// The bytes of a manifest before the number of its versions: no change, and 9 the next array.
-const FRONT: &[u8; 24] = b"\0\0\0\0\0\0\0\0\0\0\0\0\0\0\0\0\0\0\0\0\0\0\0\x09";
+/// Zeros for the numbers in front of a manifest, and for what was compacted.
+const ZEROS: &[u8; 16] = b"\0\0\0\0\0\0\0\0\0\0\0\0\0\0\0\0";
+
+/// 9 as the number of the next array.
+const NEXT: &[u8; 8] = b"\0\0\0\0\0\0\0\x09";
 
 /// The bytes of a level behind its number: horizon 1, and one array of one entry in block 5, for version 0.
 const LEVEL: &[u8; 48] =
     b"\0\0\0\x01\0\0\0\x01\0\0\0\0\0\0\0\x01\0\0\0\x01\0\0\0\x01\0\0\0\x01\0\0\0\x01\0\0\0\x05\0\0\0\x01\0\0\0\x01\0\0\0\0";
 
-/// The spelling of a manifest with so many versions beside the first, each made of it, and so many levels:
-/// 29 bytes, four for each of these versions and 49 for each level.
-fn spelled(alloc: Global, versions: u16, levels: u8) -> Result<Vec<u8>, Trouble> {
+/// Adds what format 2 has alone: so many zeros.
+fn add_only(bytes: &mut Vec<u8>, format: u16, zeros: u16) -> Result<(), Trouble> {
+    if format != 2 {
+        return Ok(());
+    }
+    for _ in 0..zeros {
+        bytes.push(0)?;
+    }
+    Ok(())
+}
+
+/// The spelling of a manifest with so many versions beside the first, each made of it, and so many levels. In format 2 it
+/// has 38 bytes, five for each of these versions and 49 for each level; in format 1 nine fewer, and one fewer for each
+/// version.
+fn spelled(alloc: Global, format: u16, versions: u16, levels: u8) -> Result<Vec<u8>, Trouble> {
     let mut bytes = Vec::new(alloc);
-    bytes.extend_from_slice(FRONT)?;
+    bytes.extend_from_slice(ZEROS)?;
+    add_only(&mut bytes, format, 8)?;
+    bytes.extend_from_slice(NEXT)?;
     bytes.extend_from_slice(&(u32::from(versions) + 1).to_be_bytes())?;
     for _ in 0..versions {
         bytes.extend_from_slice(&[0; 4])?;
     }
+    add_only(&mut bytes, format, versions.saturating_add(1))?;
     bytes.push(levels)?;
     for i in 0..levels {
         bytes.push(i.saturating_add(1))?;
@@ -38,13 +55,12 @@ fn spelled(alloc: Global, versions: u16, levels: u8) -> Result<Vec<u8>, Trouble>
 }
 
 /// The manifest of a spelling.
-fn parsed(alloc: Global, bytes: &[u8]) -> Result<Manifest, Trouble>
+fn parsed(alloc: Global, format: u16, bytes: &[u8]) -> Result<Manifest, Trouble>
     requires { length bytes.now ≤ 100000 }
-    ensures kept { IfOk result (λ m. IsTrue (is_lawful_manifest newest_format (manifest_of m))) }
-    ensures fits { IfOk result (λ m.
-        length (manifest_bytes newest_format (manifest_of m)) ≤ 100000) }
+    ensures kept { IfOk result (λ m. IsTrue (is_lawful_manifest format (manifest_of m))) }
+    ensures fits { IfOk result (λ m. length (manifest_bytes format (manifest_of m)) ≤ 100000) }
 {
-    match parse(alloc, bytes) {
+    match parse(alloc, bytes, format) {
         Ok(manifest) => Ok(manifest),
         Err(_) => Err(Trouble::NoMemory),
     }
@@ -72,17 +88,18 @@ fn stored<D: Disk>(
     alloc: Global,
     disk: &mut D,
     space: &mut Space,
+    format: u16,
     manifest: &Manifest,
 ) -> Result<(u32, u32, Extents), Trouble>
-    requires kept { IsTrue (is_lawful_manifest newest_format (manifest_of manifest.now)) }
-    requires fits { (length (manifest_bytes newest_format (manifest_of manifest.now)) ≤ 100000)
+    requires kept { IsTrue (is_lawful_manifest format (manifest_of manifest.now)) }
+    requires fits { (length (manifest_bytes format (manifest_of manifest.now)) ≤ 100000)
         × (1 ≤ space.old.first) }
     ensures same { space.new.first ≡ space.old.first }
 {
     if space.free() < 1048576 {
         return Err(Trouble::NoMemory);
     }
-    write(alloc, disk, space, manifest)
+    write(alloc, disk, space, manifest, format)
 }
 
 /// Whether these are the first blocks that such a space has free, each an extent.
@@ -105,12 +122,13 @@ fn are_first(blocks: &Extents, count: usize) -> bool {
 fn is_there<D: Disk>(
     alloc: Global,
     disk: &mut D,
+    format: u16,
     size: u32,
     versions: u16,
     levels: u8,
     count: usize,
 ) -> Result<bool, Trouble> {
-    let (manifest, blocks) = read(alloc, disk, 7, size)?;
+    let (manifest, blocks) = read(alloc, disk, 7, size, format)?;
     let right = manifest.next_array == 9
         && manifest.parents.len() == usize::from(versions)
         && manifest.levels.len() == usize::from(levels);
@@ -118,14 +136,19 @@ fn is_there<D: Disk>(
 }
 
 /// A disk and a space with the manifest of such a spelling in so many blocks.
-fn with_manifest(alloc: Global, bytes: &[u8], count: usize) -> Result<(MemDisk, Space), Trouble>
+fn with_manifest(
+    alloc: Global,
+    format: u16,
+    bytes: &[u8],
+    count: usize,
+) -> Result<(MemDisk, Space), Trouble>
     requires { length bytes.now ≤ 100000 }
     ensures fits { IfOk result (λ r. r.1.first ≡ 7) }
 {
     let mut disk = MemDisk::new(alloc, &[])?;
     let mut space = space_with_holes(alloc)?;
-    let manifest = parsed(alloc, bytes)?;
-    let (first, size, blocks) = stored(alloc, &mut disk, &mut space, &manifest)?;
+    let manifest = parsed(alloc, format, bytes)?;
+    let (first, size, blocks) = stored(alloc, &mut disk, &mut space, format, &manifest)?;
     if first != 7 || size as usize != bytes.len() || !are_first(&blocks, count) {
         return Err(Trouble::Damaged { block: first });
     }
@@ -133,10 +156,15 @@ fn with_manifest(alloc: Global, bytes: &[u8], count: usize) -> Result<(MemDisk, 
 }
 
 /// The spelling of a manifest, where it isn't too long.
-fn short_spelling(alloc: Global, versions: u16, levels: u8) -> Result<Vec<u8>, Trouble>
+fn short_spelling(
+    alloc: Global,
+    format: u16,
+    versions: u16,
+    levels: u8,
+) -> Result<Vec<u8>, Trouble>
     ensures fits { IfOk result (λ b. length b.items ≤ 100000) }
 {
-    let bytes = spelled(alloc, versions, levels)?;
+    let bytes = spelled(alloc, format, versions, levels)?;
     if bytes.len() > 100000 {
         return Err(Trouble::NoMemory);
     }
@@ -146,16 +174,18 @@ fn short_spelling(alloc: Global, versions: u16, levels: u8) -> Result<Vec<u8>, T
 /// Whether a manifest of so many bytes is written into so many blocks and read back.
 fn comes_back(
     alloc: Global,
+    format: u16,
     versions: u16,
     levels: u8,
     size: usize,
     count: usize,
 ) -> Result<bool, Trouble> {
-    let bytes = short_spelling(alloc, versions, levels)?;
-    let (mut disk, _) = with_manifest(alloc, &bytes, count)?;
+    let bytes = short_spelling(alloc, format, versions, levels)?;
+    let (mut disk, _) = with_manifest(alloc, format, &bytes, count)?;
     let there = is_there(
         alloc,
         &mut disk,
+        format,
         bytes.len() as u32,
         versions,
         levels,
@@ -167,13 +197,43 @@ fn comes_back(
 #[test]
 fn manifests_come_back_from_their_blocks(rt: HostRuntime) -> Result<(), Fail> {
     let rows = [
-        (0, 0, 29, 1),
-        (979, 3, 4092, 1),
-        (1016, 0, 4093, 2),
-        (2100, 0, 8429, 3),
+        (1, 0, 0, 29, 1),
+        (1, 979, 3, 4092, 1),
+        (1, 1016, 0, 4093, 2),
+        (2, 0, 0, 38, 1),
+        (2, 801, 1, 4092, 1),
+        (2, 811, 0, 4093, 2),
+        (2, 2100, 0, 10538, 3),
     ];
-    for (versions, levels, length, count) in rows {
-        assert!(rt; comes_back(rt.alloc(), versions, levels, length, count) == Ok(true));
+    for (format, versions, levels, length, count) in rows {
+        assert!(rt; comes_back(rt.alloc(), format, versions, levels, length, count) == Ok(true));
+    }
+    Ok(())
+}
+
+/// The block that is damaged where a manifest of a format is read in another.
+fn other_blames(alloc: Global, written: u16, read_in: u16, size: u32) -> Result<u32, Trouble> {
+    let bytes = short_spelling(alloc, written, 2100, 0)?;
+    let (mut disk, _) = with_manifest(alloc, written, &bytes, 3)?;
+    match read(alloc, &mut disk, 7, size, read_in) {
+        Ok(_) => Ok(0),
+        Err(Trouble::Damaged { block }) => Ok(block),
+        Err(failed) => Err(failed),
+    }
+}
+
+#[test]
+fn a_manifest_of_another_format_is_damage(rt: HostRuntime) -> Result<(), Fail> {
+    let rows = [
+        (1, 2, 8429),
+        (1, 2, 10538),
+        (2, 1, 10538),
+        (2, 1, 8429),
+        (2, 0, 10538),
+        (2, 3, 10538),
+    ];
+    for (written, read_in, size) in rows {
+        assert!(rt; other_blames(rt.alloc(), written, read_in, size) == Ok(7));
     }
     Ok(())
 }
@@ -182,13 +242,13 @@ fn manifests_come_back_from_their_blocks(rt: HostRuntime) -> Result<(), Fail> {
 fn blamed(alloc: Global, at: u64, bytes: &[u8], claimed: u32) -> Result<(u32, u64), Trouble>
     requires { at + length bytes.now ≤ 100000 }
 {
-    let spelling = short_spelling(alloc, 2100, 0)?;
-    let (mut disk, _) = with_manifest(alloc, &spelling, 3)?;
+    let spelling = short_spelling(alloc, 2, 2100, 0)?;
+    let (mut disk, _) = with_manifest(alloc, 2, &spelling, 3)?;
     if disk.write_at(at, bytes).is_err() {
         return Err(Trouble::Device);
     }
     let before = disk.reads();
-    match read(alloc, &mut disk, 7, claimed) {
+    match read(alloc, &mut disk, 7, claimed, 2) {
         Ok(_) => Ok((0, 0)),
         Err(Trouble::Damaged { block }) => Ok((block, disk.reads().saturating_sub(before))),
         Err(failed) => Err(failed),
@@ -208,7 +268,7 @@ fn wrong_links_are_blamed(rt: HostRuntime) -> Result<(), Fail> {
         (11, 7, 11, 3),
     ];
     for (block, link, wanted, reads) in rows {
-        let told = blamed(rt.alloc(), 4096 * block, &u32::to_be_bytes(link), 8429);
+        let told = blamed(rt.alloc(), 4096 * block, &u32::to_be_bytes(link), 10538);
         assert!(rt; told == Ok((wanted, reads)));
     }
     Ok(())
@@ -219,7 +279,7 @@ fn refused_bytes_are_blamed_on_the_first_block(rt: HostRuntime) -> Result<(), Fa
     let fill = 4096 * 12 - 1;
     let updates = 4096 * 7 + 4 + 7;
     for at in [fill, updates] {
-        assert!(rt; blamed(rt.alloc(), at, &[1], 8429) == Ok((7, 3)));
+        assert!(rt; blamed(rt.alloc(), at, &[1], 10538) == Ok((7, 3)));
     }
     Ok(())
 }
@@ -233,18 +293,18 @@ fn a_length_beyond_the_chain_ends_with_it(rt: HostRuntime) -> Result<(), Fail> {
 /// Whether a second manifest of three blocks, of whose writes so many reach the disk, is written where three do, and else
 /// leaves the space as it was; and whether the first is there afterwards.
 fn stops(alloc: Global, calls: u64) -> Result<bool, Trouble> {
-    let bytes = short_spelling(alloc, 2100, 0)?;
-    let (disk, mut space) = with_manifest(alloc, &bytes, 3)?;
-    let manifest = parsed(alloc, &bytes)?;
+    let bytes = short_spelling(alloc, 2, 2100, 0)?;
+    let (disk, mut space) = with_manifest(alloc, 2, &bytes, 3)?;
+    let manifest = parsed(alloc, 2, &bytes)?;
     let before = space.free();
     let mut fuse = FuseDisk::new(disk, calls);
-    let taken = match stored(alloc, &mut fuse, &mut space, &manifest) {
+    let taken = match stored(alloc, &mut fuse, &mut space, 2, &manifest) {
         Ok(_) => 3,
         Err(Trouble::Device) => 0,
         Err(failed) => return Err(failed),
     };
     let mut disk = fuse.into_inner();
-    let there = is_there(alloc, &mut disk, 8429, 2100, 0, 3)?;
+    let there = is_there(alloc, &mut disk, 2, 10538, 2100, 0, 3)?;
     Ok(there && (taken == 3) == (calls >= 3) && before.saturating_sub(space.free()) == taken)
 }
 

@@ -107,14 +107,17 @@ pub(crate) fn has_few_publications(
     changes: u32,
     next_array: u64,
     written: u64,
+    compacted: u64,
 ) -> bool
     ensures ok { result ≡ (nat_le generation (changes + 1)
-        && nat_le next_array (16384 * changes + 1) && nat_le written (33554432 * changes)) }
+        && nat_le next_array (16384 * changes + 1) && nat_le written (33554432 * changes)
+        && nat_le compacted (33554432 * changes)) }
 {
     let changes = changes as u64;
     generation <= changes + 1
         && next_array <= VERSIONS_MAX as u64 * changes + 1
         && written <= ENTRIES_MAX as u64 * changes
+        && compacted <= ENTRIES_MAX as u64 * changes
 }
 
 /// Whether each version of a tag is below a horizon.

@@ -1,6 +1,6 @@
 -- A run answers the bodies of a stream in order.
 use Rattle.std.specs.Prelude.{◌≡◌, ◌≤◌, ◌<◌, ℕ, ◌+◌, ◌-◌, ◌*◌, nat_lt, if◌then◌else◌, Bool, ◌&&◌, true, false, List, [], ◌∷◌, ◌++◌, map, Option, Some, None, IfSome, ◌⊎◌}
-use Rattle.std.specs.List.{flat_map, AllByRecursion}
+use Rattle.std.specs.List.{flat_map}
 use Rattle.strat_model.specs.declared.replies.Refusal.{Refusal}
 use Rattle.strat_model.specs.declared.replies.Refusal.TheVariants as why
 use Rattle.strat_model.specs.Request.{Request, Put, Delete, Get, Clone, Scan, OpenCursor, NextPairs, DropVersion}
@@ -179,13 +179,6 @@ abbrev pub positions_of : Transcript → List Position
 positions_of transcript =
     map (λ x. x.at) transcript.exchanges
     ++ (transcript.after ∷ of_interruption (λ h. h.done) transcript.interruption)
-
--- one region of the journal is in use at a time: where a body is answered there are never more changes than one takes, so
--- that a full one is emptied at once
-abbrev pub UsesOneRegion : ℕ → Transcript → Type 0
-UsesOneRegion mem transcript =
-    (bodies_of transcript ≡ [])
-    ⊎ AllByRecursion (λ p. p.fill ≤ mem) (positions_of transcript)
 
 -- the bytes of all responses
 abbrev pub sent_bytes : List Response → List ℕ

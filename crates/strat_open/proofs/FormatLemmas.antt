@@ -1,5 +1,5 @@
 -- What a crash leaves of a disk while a new store is made on it, phase by phase.
-use Rattle.std.proofs.Common.{◌≡◌, ◌≢◌, ◌<◌, ℕ, ◌+◌, ◌*◌, inl, inr, [], length, Some, None, Ok, Option, IfSome, refl, sym, ap, subst, ◌∙◌, arith}
+use Rattle.std.proofs.Common.{◌≡◌, ◌≢◌, ◌≤◌, ◌<◌, ℕ, ◌+◌, ◌*◌, inl, inr, List, [], length, Some, None, Ok, Option, IfSome, refl, sym, ap, subst, ◌∙◌, arith}
 use Rattle.std.proofs.lemmas.Bool.{le-leb}
 use Rattle.std.proofs.lemmas.List.{length-replicate}
 use Rattle.def_bytes.specs.Chain.{link_bytes}
@@ -18,13 +18,24 @@ use Rattle.def_bytes.specs.Records.{journal_in_two}
 use Rattle.def_state.specs.Sound.{journal_max, IsSound}
 use Rattle.def_state.specs.State.{deep, fresh_state, IsPaid}
 use Rattle.strat_open.specs.Format.{new_block, IsNewDisk, IsShut, IsNewStore, IsNoneOrNew, super_for}
+use Rattle.strat_open.proofs.NewBlockLemmas.{two_formats}
 use Rattle.strat_open.proofs.NewStoreLemmas.{head_found, state_found}
 use Rattle.strat_open.proofs.ShutLemmas.{StaysBlank}
 
 -- the manifest of a new store fills a block
-pub length-new_block : length new_block ≡ 4096
+first_full : length (new_block 1) ≡ 4096
 unfolding link_bytes manifest_bytes be
-length-new_block = ap (λ (n : ℕ). 33 + n) (length-replicate {A = ℕ} 4063 0)
+first_full = ap (λ (n : ℕ). 33 + n) (length-replicate {A = ℕ} 4063 0)
+
+second_full : length (new_block 2) ≡ 4096
+unfolding link_bytes manifest_bytes be
+second_full = ap (λ (n : ℕ). 42 + n) (length-replicate {A = ℕ} 4054 0)
+
+pub length-new_block : (format : ℕ) → (1 ≤ format) × (format ≤ 2) → length (new_block format) ≡ 4096
+length-new_block format form = elim (two_formats format form.0 form.1) [
+  | inl one ↦ ap (λ (f : ℕ). length (new_block f)) one ∙ first_full
+  | inr two ↦ ap (λ (f : ℕ). length (new_block f)) two ∙ second_full
+]
 
 -- an image with both slots shut is no store
 pub none_newest : (c : Image) → c 0 ≢ 0xa7 → c 4096 ≢ 0xa7 → newest_in c ≡ Ok None
@@ -34,11 +45,11 @@ none_newest c first second =
     λ j. verdict (newer (one j) (two j))
 
 -- where both slots stay shut, no image is a store
-pub none_yet : (mem changes_max versions_max : ℕ) (old new : DiskView) → StaysBlank old new → (c : Image) → Since new old.moment c → IsNoneOrNew mem changes_max versions_max c
-none_yet mem changes_max versions_max old new stays c since = let shut = stays.each c since in inl (none_newest c shut.0 shut.1)
+pub none_yet : (format mem changes_max versions_max : ℕ) (old new : DiskView) → StaysBlank old new → (c : Image) → Since new old.moment c → IsNoneOrNew format mem changes_max versions_max c
+none_yet format mem changes_max versions_max old new stays c since = let shut = stays.each c since in inl (none_newest c shut.0 shut.1)
 
 -- once the manifest is there: each image is the content, in which both slots and both regions are shut, and the manifest has its block
-pub record Prepared (mem : ℕ) (v : DiskView) : Type 0 where
+pub record Prepared (format mem : ℕ) (v : DiskView) : Type 0 where
   pub content : Image
   pub exposed : v.content ≡ Some content
   pub only : (c : Image) → Images v c → c ≡ content
@@ -46,29 +57,31 @@ pub record Prepared (mem : ℕ) (v : DiskView) : Type 0 where
   pub second : content 4096 ≢ 0xa7
   pub active : content (region_at mem 0) ≢ 0xa7
   pub other : content (region_at mem 1) ≢ 0xa7
-  pub block : window content (4096 * first_free mem) 4096 ≡ new_block
+  pub block : window content (4096 * first_free mem) 4096 ≡ new_block format
 
 -- after the gates were shut and the manifest was written
-pub prepared : (mem : ℕ) (v1 v2 : DiskView) → IsShut mem v1 → IfSome v1.content (λ f. v2.content ≡ Some (patch f (4096 * first_free mem) new_block)) → IsDurable v2 → Prepared mem v2
-prepared mem v1 v2 shut writes settled =
+pub prepared : (format mem : ℕ) → (1 ≤ format) × (format ≤ 2) → (v1 v2 : DiskView) → IsShut mem v1 → IfSome v1.content (λ f. v2.content ≡ Some (patch f (4096 * first_free mem) (new_block format))) → IsDurable v2
+    → Prepared format mem v2
+prepared format mem form v1 v2 shut writes settled =
     let at : ℕ = 4096 * first_free mem in
     let f : Image = shut.content in
-    let exposed : v2.content ≡ Some (patch f at new_block) =
-    at_told v1.content (λ (g : Image). v2.content ≡ Some (patch g at new_block)) f shut.exposed writes in
+    let bytes : List ℕ = new_block format in
+    let exposed : v2.content ≡ Some (patch f at bytes) =
+    at_told v1.content (λ (g : Image). v2.content ≡ Some (patch g at bytes)) f shut.exposed writes in
     record {
-      content = patch f at new_block;
+      content = patch f at bytes;
       exposed = exposed;
-      only = settled_at v2 (patch f at new_block) exposed settled;
-      first = λ up. shut.first (sym (over_below at (length new_block) _ f 0 (omega arith)) ∙ up);
-      second = λ up. shut.second (sym (over_below at (length new_block) _ f 4096 (omega arith)) ∙ up);
-      active = λ up. shut.active (sym (over_below at (length new_block) _ f (region_at mem 0) (omega arith)) ∙ up);
-      other = λ up. shut.other (sym (over_below at (length new_block) _ f (region_at mem 1) (omega arith)) ∙ up);
-      block = ap (λ (n : ℕ). window (patch f at new_block) at n) (sym length-new_block) ∙ window_patch f at new_block;
+      only = settled_at v2 (patch f at bytes) exposed settled;
+      first = λ up. shut.first (sym (over_below at (length bytes) _ f 0 (omega arith)) ∙ up);
+      second = λ up. shut.second (sym (over_below at (length bytes) _ f 4096 (omega arith)) ∙ up);
+      active = λ up. shut.active (sym (over_below at (length bytes) _ f (region_at mem 0) (omega arith)) ∙ up);
+      other = λ up. shut.other (sym (over_below at (length bytes) _ f (region_at mem 1) (omega arith)) ∙ up);
+      block = ap (λ (n : ℕ). window (patch f at bytes) at n) (sym (length-new_block format form)) ∙ window_patch f at bytes;
     }
 
 -- the superblock may be laid into the first slot
-pub lays_over : (mem : ℕ) (v : DiskView) (p : Prepared mem v) (sb : Super) → LaysOver v p.content 0 sb
-lays_over mem v p sb =
+pub lays_over : (format mem : ℕ) (v : DiskView) (p : Prepared format mem v) (sb : Super) → LaysOver v p.content 0 sb
+lays_over format mem v p sb =
     let one : slot_in p.content 0 ≡ None = slot_closed p.content 0 p.first in
     let two : slot_in p.content 4096 ≡ None = slot_closed p.content 4096 p.second in
     let none : chosen_in p.content ≡ None = λ j. newer (one j) (two j) in
@@ -95,13 +108,13 @@ fresh_sound mem changes_max versions_max = record {
 fresh_paid : (mem changes_max versions_max : ℕ) → IsPaid (fresh_state mem changes_max versions_max)
 fresh_paid mem changes_max versions_max = record { shallow = refl; bounded = le-leb (0 + 4 * 0) (4 * deep mem 0 * 0) (omega arith) }
 
-module _ (mem changes_max versions_max : ℕ) (some : 0 < mem) (v : DiskView) (p : Prepared mem v) where
+module _ (format mem changes_max versions_max : ℕ) (some : 0 < mem) (v : DiskView) (p : Prepared format mem v) where
   -- the content with the new superblock in the first block is a new store
-  new_store : (c : Image) → Outside 0 4096 p.content c → newest_in c ≡ Ok (Some (0, super_for mem changes_max versions_max)) → IsNewStore mem changes_max versions_max c
+  new_store : (c : Image) → Outside 0 4096 p.content c → newest_in c ≡ Ok (Some (0, super_for format mem changes_max versions_max)) → IsNewStore format mem changes_max versions_max c
   new_store c out newest =
-      let sb : Super = super_for mem changes_max versions_max in
+      let sb : Super = super_for format mem changes_max versions_max in
       let same : SameIn (4096 * first_free mem) 4096 p.content c = outside_same_above 0 4096 (4096 * first_free mem) 4096 (omega arith) out in
-      let block : window c (4096 * first_free mem) 4096 ≡ new_block = window_same p.content c (4096 * first_free mem) 4096 same ∙ p.block in
+      let block : window c (4096 * first_free mem) 4096 ≡ new_block format = window_same p.content c (4096 * first_free mem) 4096 same ∙ p.block in
       let none : journal_in_two c mem 0 ≡ Ok [] = journal_none c mem 0 some (λ up. p.active (sym (out.above (region_at mem 0) (omega arith)) ∙ up)) in
       record {
         found = head_found c sb refl refl block 0 newest none;
@@ -122,7 +135,7 @@ module _ (mem changes_max versions_max : ℕ) (some : 0 < mem) (v : DiskView) (p
 
   -- the superblock of a new store, with the number of its manifest's block as it was reckoned
   abbrev super_at : ℕ → Super
-  super_at first = record (super_for mem changes_max versions_max) { manifest = first }
+  super_at first = record (super_for format mem changes_max versions_max) { manifest = first }
 
   -- an image of the content, but for the first block
   torn_front : (new : DiskView) → TearsOnly v new 0 4096 → (c : Image) → Since new v.moment c → Outside 0 4096 p.content c
@@ -130,7 +143,7 @@ module _ (mem changes_max versions_max : ℕ) (some : 0 < mem) (v : DiskView) (p
 
   -- while the superblock is laid, an image is no store or the new one
   pub laying : (new : DiskView) (first : ℕ) → first ≡ first_free mem → TearsOnly v new 0 4096
-      → ((c : Image) → Since new v.moment c → OldOrNew p.content 0 (super_at first) c) → (c : Image) → Since new v.moment c → IsNoneOrNew mem changes_max versions_max c
+      → ((c : Image) → Since new v.moment c → OldOrNew p.content 0 (super_at first) c) → (c : Image) → Since new v.moment c → IsNoneOrNew format mem changes_max versions_max c
   laying new first is tears either c since = elim (either c since) [
     | inl old ↦ inl (old ∙ none_newest p.content p.first p.second)
     | inr here ↦ inr (new_store c (torn_front new tears c since) (here ∙ (λ j. Ok (Some (0, super_at (is j))))))
@@ -138,14 +151,14 @@ module _ (mem changes_max versions_max : ℕ) (some : 0 < mem) (v : DiskView) (p
 
   -- once it is laid, an image is the new store
   pub laid : (new : DiskView) (first : ℕ) → first ≡ first_free mem → Passes v new → TearsOnly v new 0 4096
-      → ((c : Image) → Images new c → newest_in c ≡ Ok (Some (0, super_at first))) → (c : Image) → Images new c → IsNewStore mem changes_max versions_max c
+      → ((c : Image) → Images new c → newest_in c ≡ Ok (Some (0, super_at first))) → (c : Image) → Images new c → IsNewStore format mem changes_max versions_max c
   laid new first is passes tears newest c left =
       new_store c (torn_front new tears c (now_since_start v new c passes left)) (newest c left ∙ (λ j. Ok (Some (0, super_at (is j)))))
 
 -- a settled disk each of whose images is a new store is a new disk
-pub new_disk : (mem changes_max versions_max : ℕ) (v : DiskView) (f : Image) → v.content ≡ Some f → ((c : Image) → Images v c → c ≡ f) → IfSome v.content (Images v)
-    → ((c : Image) → Images v c → IsNewStore mem changes_max versions_max c) → IsNewDisk mem changes_max versions_max v
-new_disk mem changes_max versions_max v f exposed alone law each = record {
+pub new_disk : (format mem changes_max versions_max : ℕ) (v : DiskView) (f : Image) → v.content ≡ Some f → ((c : Image) → Images v c → c ≡ f) → IfSome v.content (Images v)
+    → ((c : Image) → Images v c → IsNewStore format mem changes_max versions_max c) → IsNewDisk format mem changes_max versions_max v
+new_disk format mem changes_max versions_max v f exposed alone law each = record {
   rest = record { content = f; exposed = exposed; alone = alone };
   new = each f (at_told v.content (Images v) f exposed law);
 }

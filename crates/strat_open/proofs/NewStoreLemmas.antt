@@ -1,5 +1,5 @@
 -- What an image shows that has the manifest of a new store.
-use Rattle.std.proofs.Common.{◌≡◌, ◌≤◌, ◌<◌, ◌-◌, ◌*◌, ℕ, Bool, true, false, cond, leb, ltb, List, [], ◌∷◌, length, Option, Some, None, Ok, Err, refl, sym, ap, ◌∙◌, arith}
+use Rattle.std.proofs.Common.{◌≡◌, ◌≤◌, ◌<◌, ◌-◌, ◌*◌, ◌⊎◌, inl, inr, ℕ, Bool, true, false, cond, leb, ltb, List, [], ◌∷◌, length, Option, Some, None, Ok, Err, refl, sym, ap, ◌∙◌, arith}
 use Rattle.std.specs.Prelude.{option_and_then}
 use Rattle.std.proofs.lemmas.Bool.{and_parts, leb-true, le-leb, ltb-true}
 use Rattle.std.proofs.lemmas.List.{take_all, drop_all}
@@ -11,7 +11,7 @@ use Rattle.def_bytes.specs.Chain.{link_bytes, chain_length, HoldsChain, IsChain}
 use Rattle.def_bytes.specs.Chained.{Chained, manifest_at}
 use Rattle.def_bytes.specs.Damage.{Read, and_then, passed_or}
 use Rattle.def_bytes.specs.Layout.{first_free, newest_format, shortest_manifest}
-use Rattle.def_bytes.specs.Manifest.{Manifest, manifest_bytes, all_pass, SpellsManifest, new_manifest}
+use Rattle.def_bytes.specs.Manifest.{Manifest, manifest_bytes, all_pass, is_lawful_manifest, SpellsManifest, new_manifest}
 use Rattle.def_bytes.specs.Records.{Logged, journal_in_two}
 use Rattle.def_bytes.specs.SuperBlock.{Super, in_range, chosen_in, verdict, newest_in}
 use Rattle.def_bytes.proofs.ChainLemmas.{chain_read}
@@ -20,6 +20,7 @@ use Rattle.def_recovery.specs.Opened.{parents_in}
 use Rattle.def_recovery.specs.Opening.{belongs, recover_manifest, accepted_in, recover_journal, recover_slot, recover, opened, state_of, reads_as}
 use Rattle.def_state.specs.State.{fresh_state}
 use Rattle.strat_open.specs.Format.{new_block}
+use Rattle.strat_open.proofs.NewBlockLemmas.{two_formats}
 
 -- a superblock that is read in a slot
 abbrev slot_read : ℕ → Super → Read (Option (ℕ × Super))
@@ -47,7 +48,7 @@ newest_fits c slot sb e = by_slot (chosen_in c) e
 
 -- what an opening needs of the fields of the newest superblock
 pub record Fits (sb : Super) : Type 0 where
-  pub format : sb.format ≡ newest_format
+  pub format : (sb.format ≡ 1) ⊎ (sb.format ≡ 2)
   pub manifest_least : first_free sb.mem ≤ sb.manifest
   pub manifest_most : sb.manifest < 4294967295
   pub region : sb.region ≤ 1
@@ -71,7 +72,7 @@ fits_of c slot sb e =
     let p11 = and_parts _ (leb 1 sb.generation) p10.0 in
     let p12 = and_parts (leb 1 sb.format) (leb sb.format newest_format) p11.0 in
     record {
-      format = omega (arith, leb-true 1 sb.format p12.0, leb-true sb.format 1 p12.1);
+      format = two_formats sb.format (leb-true 1 sb.format p12.0) (leb-true sb.format newest_format p12.1);
       manifest_least = leb-true (first_free sb.mem) sb.manifest p8.1;
       manifest_most = ltb-true sb.manifest 4294967295 p7.1;
       region = leb-true sb.region 1 p5.1;
@@ -80,35 +81,78 @@ fits_of c slot sb e =
       versions = leb-true 1 sb.versions_max p2.1;
     }
 
--- a new store's manifest is spelled in 29 bytes
-new_spelled : SpellsManifest newest_format (manifest_bytes newest_format new_manifest) new_manifest
+-- a new store's manifest is spelled in either format, in as few bytes as one may have
+first_lawful : is_lawful_manifest 1 new_manifest ≡ true
 unfolding all_pass
-new_spelled = record { lawful = refl; text = refl }
+first_lawful = refl
 
-length-new : length (manifest_bytes newest_format new_manifest) ≡ 29
+second_lawful : is_lawful_manifest 2 new_manifest ≡ true
+unfolding all_pass
+second_lawful = refl
+
+new_spelled : (format : ℕ) → (format ≡ 1) ⊎ (format ≡ 2) → SpellsManifest format (manifest_bytes format new_manifest) new_manifest
+new_spelled format is = record {
+  lawful = elim is [
+    | inl one ↦ ap (λ (f : ℕ). is_lawful_manifest f new_manifest) one ∙ first_lawful
+    | inr two ↦ ap (λ (f : ℕ). is_lawful_manifest f new_manifest) two ∙ second_lawful
+  ];
+  text = refl;
+}
+
+first_long : length (manifest_bytes 1 new_manifest) ≡ 29
 unfolding manifest_bytes be
-length-new = refl
+first_long = refl
+
+second_long : length (manifest_bytes 2 new_manifest) ≡ 38
+unfolding manifest_bytes be
+second_long = refl
+
+length-new : (format : ℕ) → (format ≡ 1) ⊎ (format ≡ 2) → length (manifest_bytes format new_manifest) ≡ shortest_manifest format
+length-new format is = elim is [
+  | inl one ↦ ap (λ (f : ℕ). length (manifest_bytes f new_manifest)) one ∙ first_long ∙ sym (ap shortest_manifest one)
+  | inr two ↦ ap (λ (f : ℕ). length (manifest_bytes f new_manifest)) two ∙ second_long ∙ sym (ap shortest_manifest two)
+]
+
+few_bytes : (format : ℕ) → (format ≡ 1) ⊎ (format ≡ 2) → (1 ≤ shortest_manifest format) × (shortest_manifest format ≤ 38)
+few_bytes format is = elim is [
+  | inl one ↦ let e = ap shortest_manifest one in (omega (arith, e), omega (arith, e))
+  | inr two ↦ let e = ap shortest_manifest two in (omega (arith, e), omega (arith, e))
+]
 
 -- a superblock of the first generation leads to the manifest of a new store, and to a journal without changes
-module _ (c : Image) (sb : Super) (once : sb.generation ≡ 1) (size : sb.length ≡ 29) (block : window c (BLOCK * sb.manifest) BLOCK ≡ new_block) where
+module _ (c : Image) (sb : Super) (once : sb.generation ≡ 1) (size : sb.length ≡ shortest_manifest sb.format) (block : window c (BLOCK * sb.manifest) BLOCK ≡ new_block sb.format) where
   module _ (fits : Fits sb) where
-    few : length (manifest_bytes newest_format new_manifest) ≤ BLOCK - 4
-    few = omega (arith, length-new)
+    bytes : List ℕ
+    bytes = manifest_bytes sb.format new_manifest
 
-    the_chain : IsChain c (sb.manifest ∷ []) (manifest_bytes newest_format new_manifest)
-    unfolding HoldsChain
+    long : length bytes ≡ shortest_manifest sb.format
+    unfolding bytes
+    long = length-new sb.format fits.format
+
+    few : length bytes ≤ BLOCK - 4
+    few = let most = few_bytes sb.format fits.format in omega (arith, long, most.1)
+
+    one_block : 1 ≡ chain_length (length bytes)
+    one_block = elim fits.format [
+      | inl one ↦ sym (ap chain_length (long ∙ ap shortest_manifest one))
+      | inr two ↦ sym (ap chain_length (long ∙ ap shortest_manifest two))
+    ]
+
+    the_chain : IsChain c (sb.manifest ∷ []) bytes
+    unfolding HoldsChain bytes
     the_chain = record {
       holds = (
-        block ∙ ap (link_bytes 0) (sym (take_all (BLOCK - 4) (manifest_bytes newest_format new_manifest) few)),
-        drop_all (BLOCK - 4) (manifest_bytes newest_format new_manifest) few,
+        block ∙ ap (link_bytes 0) (sym (take_all (BLOCK - 4) bytes few)),
+        drop_all (BLOCK - 4) bytes few,
       );
-      count = ap chain_length (sym length-new);
+      count = one_block;
       named = ((omega (arith, fits.manifest_least), omega (arith, fits.manifest_most)), tt);
       distinct = λ i j d lt within. absurd (omega arith);
     }
 
     found_chain : manifest_at sb.format c sb.manifest sb.length ≡ Ok (record { manifest = new_manifest; blocks = sb.manifest ∷ [] })
-    found_chain = (λ i. manifest_at (fits.format i) c sb.manifest ((size ∙ sym length-new) i)) ∙ chain_read newest_format c sb.manifest [] (manifest_bytes newest_format new_manifest) new_manifest new_spelled the_chain
+    unfolding bytes
+    found_chain = ap (manifest_at sb.format c sb.manifest) (size ∙ sym long) ∙ chain_read sb.format c sb.manifest [] bytes new_manifest (new_spelled sb.format fits.format) the_chain
 
     it_belongs : belongs sb (record { manifest = new_manifest; blocks = sb.manifest ∷ [] }) ≡ true
     unfolding all_pass

@@ -1,7 +1,7 @@
 -- A disk that was just formatted.
 use Rattle.std.specs.Prelude.{◌≡◌, ◌≢◌, ◌⊎◌, ℕ, List, [], Some, None, Ok, ◌≤◌, ◌<◌, ◌+◌, ◌*◌}
 use Rattle.def_crash.specs.Image.{Image}
-use Rattle.def_bytes.specs.Layout.{region_at, first_free, open_flag, shortest_manifest, newest_format}
+use Rattle.def_bytes.specs.Layout.{region_at, first_free, open_flag, shortest_manifest}
 use Rattle.def_crash.specs.Moments.{DiskView, Exposes, Images, Since}
 use Rattle.def_state.specs.State.{fresh_state}
 use Rattle.def_bytes.specs.SuperBlock.{Super, newest_in}
@@ -13,13 +13,13 @@ use Rattle.def_bytes.specs.Manifest.{manifest_bytes, new_manifest}
 use Rattle.def_publish.specs.Standing.{ShowsTable}
 use Rattle.strat_memory.specs.Paying.{IsPaidIn}
 
--- the superblock of a new store: the first generation, with the manifest in the first free block
-abbrev pub super_for : ℕ → ℕ → ℕ → Super
-super_for mem changes_max versions_max = record {
-  format = newest_format;
+-- the superblock of a new store in a format: the first generation, with the manifest in the first free block
+abbrev pub super_for : ℕ → ℕ → ℕ → ℕ → Super
+super_for format mem changes_max versions_max = record {
+  format = format;
   generation = 1;
   manifest = first_free mem;
-  length = shortest_manifest newest_format;
+  length = shortest_manifest format;
   region = 0;
   mem = mem;
   changes_max = changes_max;
@@ -27,14 +27,17 @@ super_for mem changes_max versions_max = record {
 }
 
 -- the head of a new store
-abbrev pub head_for : ℕ → ℕ → ℕ → Head
-head_for mem changes_max versions_max =
-    record { sb = super_for mem changes_max versions_max; manifest = new_manifest; journal = [] }
+abbrev pub head_for : ℕ → ℕ → ℕ → ℕ → Head
+head_for format mem changes_max versions_max = record {
+  sb = super_for format mem changes_max versions_max;
+  manifest = new_manifest;
+  journal = [];
+}
 
--- the block of a new store's manifest: it is the last of its chain, and behind the manifest there
--- are zeros
-abbrev pub new_block : List ℕ
-new_block = link_bytes 0 (manifest_bytes newest_format new_manifest)
+-- the block of a new store's manifest in a format: it is the last of its chain, and behind the manifest
+-- there are zeros
+abbrev pub new_block : ℕ → List ℕ
+new_block format = link_bytes 0 (manifest_bytes format new_manifest)
 
 -- a crash leaves one image, the content
 pub record IsAtRest (v : DiskView) : Type 0 where
@@ -42,21 +45,21 @@ pub record IsAtRest (v : DiskView) : Type 0 where
   pub exposed : Exposes v content
   pub alone : (c : Image) → Images v c → c ≡ content
 
--- an image is a new store with these limits: recovery finds its head, it reads as the state of a
+-- an image is a new store in a format, with these limits: recovery finds its head, it reads as the state of a
 -- new store and shows the table of one, the second superblock slot and the second journal region
 -- are shut, and it has paid for what it has written, which is nothing
-pub record IsNewStore (mem changes_max versions_max : ℕ) (c : Image) : Type 0 where
-  pub found : recover c ≡ Ok (Some (head_for mem changes_max versions_max))
+pub record IsNewStore (format mem changes_max versions_max : ℕ) (c : Image) : Type 0 where
+  pub found : recover c ≡ Ok (Some (head_for format mem changes_max versions_max))
   pub reads : reads_as c ≡ Some (fresh_state mem changes_max versions_max)
   pub shows : ShowsTable c (fresh changes_max versions_max)
   pub slot : c 4096 ≢ open_flag
   pub region : c (region_at mem 1) ≢ open_flag
   pub paid : IsPaidIn c
 
--- a crash leaves one image of the disk, a new store with these limits
-pub record IsNewDisk (mem changes_max versions_max : ℕ) (v : DiskView) : Type 0 where
+-- a crash leaves one image of the disk, a new store in a format with these limits
+pub record IsNewDisk (format mem changes_max versions_max : ℕ) (v : DiskView) : Type 0 where
   pub rest : IsAtRest v
-  pub new : IsNewStore mem changes_max versions_max rest.content
+  pub new : IsNewStore format mem changes_max versions_max rest.content
 
 -- both superblock slots are shut, whatever a crash leaves
 pub record IsBlank (v : DiskView) : Type 0 where
@@ -74,9 +77,9 @@ pub record IsShut (mem : ℕ) (v : DiskView) : Type 0 where
   pub other : content (region_at mem 1) ≢ open_flag
 
 -- an image is no store, or the whole of a new one
-abbrev pub IsNoneOrNew : ℕ → ℕ → ℕ → Image → Type 0
-IsNoneOrNew mem changes_max versions_max c =
-    (newest_in c ≡ Ok None) ⊎ IsNewStore mem changes_max versions_max c
+abbrev pub IsNoneOrNew : ℕ → ℕ → ℕ → ℕ → Image → Type 0
+IsNoneOrNew format mem changes_max versions_max c =
+    (newest_in c ≡ Ok None) ⊎ IsNewStore format mem changes_max versions_max c
 
 -- an offset that formatting may write: in the superblock slots, the first gate of a journal region, or
 -- in the manifest's block

@@ -10,14 +10,13 @@ use Rattle.def_publish.specs.Contents.{Contents, contents_state}
 use Rattle.def_publish.specs.Standing.{ReadsAs}
 use Rattle.def_state.specs.Sound.{IsSound}
 use Rattle.strat_memory.specs.declared.open_store.OpenStore.{OpenStore}
-use Rattle.def_bytes.specs.Layout.{newest_format}
 use Rattle.strat_memory.specs.Admitting.{chained_of}
 use Rattle.strat_memory.specs.RecoveredFields.{head_recovered}
 
 -- this store is what recovery finds in an image, and its journal knows whether the other region is to be shut
 pub record IsRecoveredFrom (f : Image) (r : OpenStore) : Type 0 where
   pub newest : newest_in f ≡ Ok (Some (r.slot, super_of r.sb))
-  pub chain : manifest_at newest_format f r.sb.manifest r.sb.length ≡ Ok (chained_of r.published)
+  pub chain : manifest_at r.sb.format f r.sb.manifest r.sb.length ≡ Ok (chained_of r.published)
   pub head : recover f ≡ Ok (Some (head_recovered r))
   pub stale : IsTrue r.journal.stale ↔ IsStale f r.sb.mem r.sb.region (length r.journal.list)
 

@@ -10,7 +10,7 @@ ghost use Rattle.strat_open.specs.Format.{IsNewDisk, IsBlank, IsShut, IsNoneOrNe
 ghost use Rattle.def_bytes.specs.Layout.{open_flag};
 
 use crate::new_manifest::write_manifest;
-use def_bytes::{MANIFEST_MIN, first_free, region_at};
+use def_bytes::{first_free, region_at, shortest_manifest};
 use std::alloc::Global;
 use strat_base::Failed;
 use strat_base::limits::BLOCK;
@@ -58,7 +58,7 @@ impl From<Failed> for FormatFault {
     }
 }
 
-/// Makes a new store with so many changes per journal region, and so many changes and versions at
+/// Makes a new store in a format, with so many changes per journal region, and so many changes and versions at
 /// most, whatever the disk had: five reads at most, and eight writes at most, each with a sync. The
 /// manifest of a new store fits a buffer on the stack, so no memory is taken. After an error
 /// nothing is said of the disk until it is formatted again; but one whose two slots were shut is
@@ -66,27 +66,30 @@ impl From<Failed> for FormatFault {
 pub fn format<D: Disk>(
     _alloc: Global,
     disk: &mut D,
+    format: u16,
     mem: u32,
     changes_max: u32,
     versions_max: u32,
 ) -> Result<(), FormatFault>
+    requires form { (1 ≤ format) × (format ≤ 2) }
     requires fits { AreLimits mem changes_max versions_max }
     ensures ok { OnOk result ((f : Image) → Exposes (D.view disk.old) f
-        → IsNewDisk mem changes_max versions_max (D.view disk.new)) }
+        → IsNewDisk format mem changes_max versions_max (D.view disk.new)) }
     ensures images { (f : Image) → Exposes (D.view disk.old) f → IsBlank (D.view disk.old)
         → (c : Image) → Since (D.view disk.new) (D.view disk.old).moment c
-        → IsNoneOrNew mem changes_max versions_max c }
+        → IsNoneOrNew format mem changes_max versions_max c }
     ensures kept { KeepsOthers mem (D.view disk.old) (D.view disk.new) }
     ensures same { IsErrOf result fault.NoMemory → disk.new ≡ disk.old }
     ensures time { Passes (D.view disk.old) (D.view disk.new) }
     ensures cause { HasCause fault.Device (D.faults disk.old) (D.faults disk.new) result }
 {
     shut_all(disk, mem)?;
-    write_manifest(disk, mem)?;
+    write_manifest(disk, format, mem)?;
     let sb = SuperBlock {
+        format,
         generation: 1,
         manifest: first_free(mem),
-        length: MANIFEST_MIN,
+        length: shortest_manifest(format),
         region: 0,
         mem,
         changes_max,

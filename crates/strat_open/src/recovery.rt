@@ -11,7 +11,7 @@ ghost use Rattle.def_crash.specs.Moments.{Exposes, Images, Since, Passes, TearsO
 ghost use Rattle.strat_cursor.specs.Held.{no_cursors};
 ghost use Rattle.def_bytes.specs.Chain.{chain_length};
 ghost use Rattle.def_bytes.specs.Chained.{manifest_at};
-ghost use Rattle.def_bytes.specs.Layout.{region_blocks, region_at, other_region, newest_format, open_flag};
+ghost use Rattle.def_bytes.specs.Layout.{region_blocks, region_at, other_region, open_flag};
 ghost use Rattle.def_bytes.specs.Manifest.{Manifest};
 ghost use Rattle.def_bytes.specs.SuperBlock.{IsLawful, Super, newest_in};
 ghost use Rattle.strat_model.specs.Table.{Table};
@@ -66,7 +66,7 @@ fn read_published<D: Disk>(
 ) -> Result<Published, Trouble>
     requires fits { IsLawful (super_of sb.now) }
     ensures found { IfOk result (λ p. (f : Image) → Exposes (D.view disk.old) f
-        → manifest_at newest_format f sb.now.manifest sb.now.length ≡ Ok (chained_of p)) }
+        → manifest_at sb.now.format f sb.now.manifest sb.now.length ≡ Ok (chained_of p)) }
     ensures kept { IfOk result (λ p. IsAdmitted (super_of sb.now) p) }
     ensures damaged { (block : ℕ) → IsErrOf result (Damaged block) → (f : Image)
         → Exposes (D.view disk.old) f → recover_manifest f (super_of sb.now) ≡ Err block }
@@ -75,7 +75,9 @@ fn read_published<D: Disk>(
     ensures reads { ReadsAtMost (chain_length sb.now.length - 1 + 1)
         (D.reads disk.old) (D.reads disk.new) }
 {
-    let (manifest, chain) = strat_manifest::read(alloc, disk, sb.manifest, sb.length)?;
+    let (manifest, chain) = strat_manifest::read(
+        alloc, disk, sb.manifest, sb.length, sb.format,
+    )?;
     match admit(alloc, sb, manifest, chain)? {
         Some(published) => Ok(published),
         None => Err(Trouble::Damaged { block: sb.manifest }),

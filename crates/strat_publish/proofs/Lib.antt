@@ -21,3 +21,4 @@ pub mod SettledLemmas
 pub mod CountingLemmas
 pub mod LaidLemmas
 pub mod PartsLemmas
+pub mod MarkedLemmas

@@ -41,6 +41,7 @@ ghost use Rattle.def_bytes.specs.Layout.{newest_format};
 use crate::lay::lay_next;
 use crate::made::{Made, take_made};
 use crate::next_manifest::{Computed, compute_next};
+use def_bytes::NEWEST_FORMAT;
 use std::alloc::Global;
 use std::mem;
 use strat_base::{ArrayDesc, Arrays, Failed, LevelDesc, NoMemory};
@@ -57,7 +58,7 @@ use strat_promote::obstacle::{Obstacle, Unfit};
 /// The superblock after one, with this manifest, unless no number is left for its generation: no store comes so far.
 fn next_super(old: &SuperBlock, first: u32, length: u32) -> Result<SuperBlock, Unfit>
     requires kept { IsLawful (super_of old.now) }
-    requires fits { (places.first_free old.now.mem ≤ first) × (first < 4294967295) × (29 ≤ length) }
+    requires fits { (places.first_free old.now.mem ≤ first) × (first < 4294967295) × (38 ≤ length) }
     ensures ok { IfOk result (λ sb. super_of sb ≡ super_after (super_of old.now) first length) }
     ensures kept { IfOk result (λ sb. IsLawful (super_of sb)) }
     ensures cause { OnErr result (2 ^ 64 ≤ (super_of old.now).generation + 1) }
@@ -66,6 +67,7 @@ fn next_super(old: &SuperBlock, first: u32, length: u32) -> Result<SuperBlock, U
         return Err(Unfit);
     };
     Ok(SuperBlock {
+        format: NEWEST_FORMAT,
         generation,
         manifest: first,
         length,
@@ -106,7 +108,7 @@ fn compute_beside<D: Disk>(
         r.first r.length
         (record { manifest = manifest_of r.manifest; blocks = blocks_of r.chain })) }
     ensures fits { IfOk result (λ r. (places.first_free held.now.sb.mem ≤ r.first)
-        × (r.first < 4294967295) × (29 ≤ r.length)
+        × (r.first < 4294967295) × (38 ≤ r.length)
         × IsTrue (is_lawful_manifest newest_format (manifest_of r.manifest))
         × (r.made ≡ made)) }
     ensures err { IsErrOf result obstacle.Unfit → (x : Contents) (cached : Blocks)
@@ -166,7 +168,7 @@ fn admit_next(alloc: Global, held: &OpenStore, computed: Computed) -> Result<Nex
     requires kept { IsLawful (super_of held.now.sb)
         × IsTrue (is_lawful_manifest newest_format (manifest_of computed.manifest)) }
     requires fits { (places.first_free held.now.sb.mem ≤ computed.first)
-        × (computed.first < 4294967295) × (29 ≤ computed.length) }
+        × (computed.first < 4294967295) × (38 ≤ computed.length) }
     ensures ok { IfOk result (λ next.
         (super_of next.sb ≡ super_after (super_of held.now.sb) computed.first computed.length)
         × IsLawful (super_of next.sb) × (next.target ≡ computed.made.target)) }
@@ -201,7 +203,7 @@ fn admit_next(alloc: Global, held: &OpenStore, computed: Computed) -> Result<Nex
 
 /// Writes the next contents of a store but for their superblock beside what it holds, and tests what their manifest
 /// says. Errors are those of `compute_beside`, and want of memory; `Unfit` never comes where the store stands.
-#[tactic(auto, using(def_bytes::proofs::MarkLemmas::none_marked))]
+#[tactic(auto, using(strat_memory::proofs::AdmitLemmas::admitted_undropped))]
 fn prepare_next<D: Disk>(
     alloc: Global,
     held: &OpenStore,

@@ -30,6 +30,7 @@ ghost use Rattle.strat_memory.specs.Paying.{ArePaidSince};
 ghost use Rattle.strat_publish.specs.Publishing.{IsComputed, IsWrittenTo, LaysSuperblock, is_in_front};
 ghost use Rattle.def_bytes.specs.Layout.{newest_format};
 
+use def_bytes::NEWEST_FORMAT;
 use std::alloc::Global;
 use strat_base::{Extents, Failed};
 use strat_disk::Disk;
@@ -77,7 +78,7 @@ pub(crate) fn write_next<D: Disk>(
         → IsSpaceOf space.old old (extents_of (arrays_made made) ++ others)
         → IsSpaceOf space.new new (gone ++ (extents_of (arrays_in taken) ++ others))) }
     ensures fits { IfOk result (λ r. (space.old.first ≤ r.0) × (r.0 < 4294967295)
-        × (29 ≤ r.1)) }
+        × (38 ≤ r.1)) }
     ensures images { TearsBlocks (is_free space.old) (D.view disk.old) (D.view disk.new) }
     ensures err { OnErr result (SameBlocks space.old space.new) }
     ensures none { IsErrOf result obstacle.Unfit → HasFewFree space.old (2 ^ 20) }
@@ -87,7 +88,7 @@ pub(crate) fn write_next<D: Disk>(
     ensures reads { D.reads disk.new ≡ D.reads disk.old }
 {
     check_chain_room(space)?;
-    let written = write(alloc, disk, space, m)?;
+    let written = write(alloc, disk, space, m, NEWEST_FORMAT)?;
     Ok(written)
 }
 

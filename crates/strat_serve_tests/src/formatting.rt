@@ -21,7 +21,7 @@ fn leaves_none_or_new(alloc: Global, disk: &MemDisk, choice: u8, is_done: bool) 
 /// a new one.
 fn format_behind_fuse(alloc: Global, calls: u64) -> Option<bool> {
     let mut disk = FuseDisk::new(MemDisk::new(alloc, &[]).ok()?, calls);
-    let is_done = match format(alloc, &mut disk, 4, 100, 10) {
+    let is_done = match format(alloc, &mut disk, 2, 4, 100, 10) {
         Ok(()) => true,
         Err(FormatFault::Device) => false,
         Err(FormatFault::NoMemory) => return None,

@@ -25,6 +25,7 @@ pub fn a_formatting_writes_slots_gates_and_a_block()
 
 /// In a new store the second slot and the second region are shut.
 pub fn a_new_store_has_one_slot_and_one_region_open()
-    ensures ok { (mem changes versions : ℕ) (c : Image) → IsNewStore mem changes versions c
+    ensures ok { (format mem changes versions : ℕ) (c : Image)
+        → IsNewStore format mem changes versions c
         → (c 4096 ≢ 167) × (c (region_at mem 1) ≢ 167) }
 {}

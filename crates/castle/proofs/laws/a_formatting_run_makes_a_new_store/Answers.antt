@@ -13,7 +13,7 @@ returns-clause-text g c = λ path mem changes versions status x y d e ran. forma
 pub returns-clause-left : goal.returns-clause-left
 returns-clause-left g c = λ path mem changes versions status x y d e f i ran ends exposed image.
     let disk = ran.2.left (format_left status ran.0 ran.1 ends) f exposed in
-    let new = subst (λ (b : Image). IsNewStore mem changes versions b) (sym (disk.rest.alone i image)) disk.new in
+    let new = subst (λ (b : Image). IsNewStore 2 mem changes versions b) (sym (disk.rest.alone i image)) disk.new in
     (new.shows, new.reads)
 
 pub returns-clause-moments : goal.returns-clause-moments

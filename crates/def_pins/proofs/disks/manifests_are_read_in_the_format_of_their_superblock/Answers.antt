@@ -14,4 +14,4 @@ use Rattle.def_pins.proofs.disks.manifests_are_read_in_the_format_of_their_super
 
 pub returns : goal.returns
 unfolding number be window over slot_of slot_in zeros change_in all_pass read_number read_items read_extent read_array read_level read_mark read_only read_manifest manifest_in manifest_bytes chain_from records block_in block_bytes entry_in entries_in link_bytes entries_on
-returns c = record { ok = refl; other = refl }
+returns c = record { one = refl; two = refl; newer = (refl, refl); older = (refl, refl) }

@@ -13,7 +13,7 @@ returns c =
     let s1 : c.put_u64.new.into ≡ spelled (take 1 fs) ++ zeros 4087 =
     c.put_u64.ensures ∙ ap (λ (l : List ℕ). placed l 0 (be 8 magic)) s0 ∙ spelled_next [] 8 magic 4087 in
     let s2 : c.put_u16.new.into ≡ spelled (take 2 fs) ++ zeros 4085 =
-    c.put_u16.ensures ∙ ap (λ (l : List ℕ). placed l 8 (be 2 1)) s1 ∙ spelled_next (take 1 fs) 2 1 4085 in
+    c.put_u16.ensures ∙ ap (λ (l : List ℕ). placed l 8 (be 2 sb.format)) s1 ∙ spelled_next (take 1 fs) 2 sb.format 4085 in
     let s3 : c.put_u64-2.new.into ≡ spelled (take 3 fs) ++ zeros 4077 =
     c.put_u64-2.ensures ∙ ap (λ (l : List ℕ). placed l 10 (be 8 sb.generation)) s2 ∙ spelled_next (take 2 fs) 8 sb.generation 4077 in
     let s4 : c.put_u32.new.into ≡ spelled (take 4 fs) ++ zeros 4073 =

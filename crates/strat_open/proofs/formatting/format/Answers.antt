@@ -14,7 +14,7 @@ use Rattle.def_bytes.specs.Layout.{first_free}
 
 pub returns-in_err-shut_all-clause-images : goal.returns-in_err-shut_all-clause-images
 returns-in_err-shut_all-clause-images g c = λ f exposed blank.
-    none_yet c.args.mem c.args.changes_max c.args.versions_max (g.D.Disk.view c.args.disk.now) (g.D.Disk.view c.shut_all.new.disk)
+    none_yet c.args.format c.args.mem c.args.changes_max c.args.versions_max (g.D.Disk.view c.args.disk.now) (g.D.Disk.view c.shut_all.new.disk)
     (record { each = c.shut_all.ensures.images f exposed blank })
 
 -- up to the manifest both slots stay shut
@@ -27,26 +27,26 @@ manifest_blank g c f exposed blank =
 
 pub returns-in_err-write_manifest-clause-images : goal.returns-in_err-write_manifest-clause-images
 returns-in_err-write_manifest-clause-images g c = λ f exposed blank.
-    none_yet c.args.mem c.args.changes_max c.args.versions_max _ (g.D.Disk.view c.write_manifest.new.disk)
+    none_yet c.args.format c.args.mem c.args.changes_max c.args.versions_max _ (g.D.Disk.view c.write_manifest.new.disk)
     (manifest_blank g (goal.at.returns-in_err-write_manifest-clause-images g c).After-write_manifest f exposed blank)
 
 -- the disk once the manifest is there
-ready : (g : Over) (c : After-lay g) (f : Image) → (g.D.Disk.view c.args.disk.now).content ≡ Some f → Prepared c.args.mem (g.D.Disk.view c.write_manifest.new.disk)
+ready : (g : Over) (c : After-lay g) (f : Image) → (g.D.Disk.view c.args.disk.now).content ≡ Some f → Prepared c.args.format c.args.mem (g.D.Disk.view c.write_manifest.new.disk)
 ready g c f exposed =
     let v1 = g.D.Disk.view c.shut_all.new.disk in
     let shut : IsShut c.args.mem v1 = c.in_ok-shut_all.ensures.ok f exposed in
-    prepared c.args.mem v1 _ shut c.in_ok-write_manifest.ensures.ok.content c.in_ok-write_manifest.ensures.ok.settled
+    prepared c.args.format c.args.mem c.requires.form v1 _ shut c.in_ok-write_manifest.ensures.ok.content c.in_ok-write_manifest.ensures.ok.settled
 
 -- until the superblock is laid, an image is no store or the new one
 until_laid : (g : Over) (c : After-lay g) (f : Image) → (g.D.Disk.view c.args.disk.now).content ≡ Some f → StaysBlank (g.D.Disk.view c.args.disk.now) (g.D.Disk.view c.write_manifest.new.disk)
-    → (d : Image) → Since (g.D.Disk.view c.lay.new.disk) (g.D.Disk.view c.args.disk.now).moment d → IsNoneOrNew c.args.mem c.args.changes_max c.args.versions_max d
+    → (d : Image) → Since (g.D.Disk.view c.lay.new.disk) (g.D.Disk.view c.args.disk.now).moment d → IsNoneOrNew c.args.format c.args.mem c.args.changes_max c.args.versions_max d
 until_laid g c f exposed stays =
     let v2 = g.D.Disk.view c.write_manifest.new.disk in
-    let p : Prepared c.args.mem v2 = ready g c f exposed in
-    each_then v2 _ _ (IsNoneOrNew c.args.mem c.args.changes_max c.args.versions_max) c.lay.ensures.time
-    (none_yet c.args.mem c.args.changes_max c.args.versions_max (g.D.Disk.view c.args.disk.now) v2 stays)
-    (laying c.args.mem c.args.changes_max c.args.versions_max (omega (arith, c.requires.fits.mem_least)) v2 p (g.D.Disk.view c.lay.new.disk) c.first_free.result
-    c.first_free.ensures.ok c.lay.ensures.images (c.lay.ensures.trail p.content (lays_over c.args.mem v2 p _)))
+    let p : Prepared c.args.format c.args.mem v2 = ready g c f exposed in
+    each_then v2 _ _ (IsNoneOrNew c.args.format c.args.mem c.args.changes_max c.args.versions_max) c.lay.ensures.time
+    (none_yet c.args.format c.args.mem c.args.changes_max c.args.versions_max (g.D.Disk.view c.args.disk.now) v2 stays)
+    (laying c.args.format c.args.mem c.args.changes_max c.args.versions_max (omega (arith, c.requires.fits.mem_least)) v2 p (g.D.Disk.view c.lay.new.disk) c.first_free.result
+    c.first_free.ensures.ok c.lay.ensures.images (c.lay.ensures.trail p.content (lays_over c.args.format c.args.mem v2 p _)))
 
 pub returns-in_err-lay-clause-images : goal.returns-in_err-lay-clause-images
 returns-in_err-lay-clause-images g c = λ f exposed blank.
@@ -62,17 +62,17 @@ pub returns-clause-ok : goal.returns-clause-ok
 returns-clause-ok g c = λ f exposed.
     let v2 = g.D.Disk.view c.write_manifest.new.disk in
     let v3 = g.D.Disk.view c.lay.new.disk in
-    let p : Prepared c.args.mem v2 = ready g (goal.at.returns-clause-ok g c).After-lay f exposed in
+    let p : Prepared c.args.format c.args.mem v2 = ready g (goal.at.returns-clause-ok g c).After-lay f exposed in
     let there = c.in_ok-lay.ensures.ok p.content p.exposed in
-    new_disk c.args.mem c.args.changes_max c.args.versions_max v3 _ there (settled_at v3 _ there c.in_ok-lay.ensures.durable) (g.met.D.Disk.leaves_content c.lay.new.disk)
-    (laid c.args.mem c.args.changes_max c.args.versions_max (omega (arith, c.requires.fits.mem_least)) v2 p v3 c.first_free.result
-    c.first_free.ensures.ok c.lay.ensures.time c.lay.ensures.images (c.in_ok-lay.ensures.found p.content (lays_over c.args.mem v2 p _)))
+    new_disk c.args.format c.args.mem c.args.changes_max c.args.versions_max v3 _ there (settled_at v3 _ there c.in_ok-lay.ensures.durable) (g.met.D.Disk.leaves_content c.lay.new.disk)
+    (laid c.args.format c.args.mem c.args.changes_max c.args.versions_max (omega (arith, c.requires.fits.mem_least)) v2 p v3 c.first_free.result
+    c.first_free.ensures.ok c.lay.ensures.time c.lay.ensures.images (c.in_ok-lay.ensures.found p.content (lays_over c.args.format c.args.mem v2 p _)))
 
 -- what the manifest and the superblock leave alone
 kept_manifest : (g : Over) (c : After-write_manifest g) → KeepsOthers c.args.mem (g.D.Disk.view c.args.disk.now) (g.D.Disk.view c.write_manifest.new.disk)
 kept_manifest g c =
     keep_trans c.args.mem _ _ _ c.shut_all.ensures.time c.write_manifest.ensures.ok.time c.shut_all.ensures.kept
-    (tears_keep c.args.mem (4096 * first_free c.args.mem) (length new_block) _ _ (λ i from to. inr (inr (inr (from, omega (arith, length-new_block))))) c.write_manifest.ensures.ok.images)
+    (tears_keep c.args.mem (4096 * first_free c.args.mem) (length (new_block c.args.format)) _ _ (λ i from to. inr (inr (inr (from, omega (arith, length-new_block c.args.format c.requires.form))))) c.write_manifest.ensures.ok.images)
 
 kept_laid : (g : Over) (c : After-lay g) → KeepsOthers c.args.mem (g.D.Disk.view c.args.disk.now) (g.D.Disk.view c.lay.new.disk)
 kept_laid g c =
