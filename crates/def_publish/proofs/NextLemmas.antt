@@ -1,8 +1,8 @@
 -- The manifest of next contents has a spelling.
-use Rattle.std.proofs.Common.{◌≡◌, ◌≤◌, ◌<◌, ◌+◌, ◌-◌, ◌*◌, ◌^◌, ℕ, suc, Bool, true, leb, ltb, get_or, ◌&&◌, inl, inr, List, [], ◌∷◌, ◌++◌, length, map, Option, Some, None, refl, sym, ap, ◌∙◌, subst, arith, eqb}
+use Rattle.std.proofs.Common.{◌≡◌, ◌≤◌, ◌<◌, ◌+◌, ◌-◌, ◌*◌, ◌^◌, ℕ, suc, Bool, true, leb, ltb, get_or, ◌&&◌, inl, inr, List, [], ◌∷◌, ◌++◌, length, map, Option, Some, None, refl, sym, ap, ◌∙◌, subst, arith}
 use Rattle.std.specs.List.{list_all, flat_map, sum_by, fold, range_with_len}
 use Rattle.std.specs.Option.{option_to_list}
-use Rattle.std.proofs.lemmas.Bool.{and_parts, and_from, leb-true, ltb-true, le-leb, lt-ltb, eqb-true, eq-eqb}
+use Rattle.std.proofs.lemmas.Bool.{and_parts, and_from, leb-true, ltb-true, le-leb, lt-ltb}
 use Rattle.std.proofs.lemmas.List.{length-append, length-map, length-drop, take-append-drop}
 use Rattle.std.proofs.lemmas.List.Sums.{fold-append, sum_by-cons, sum_by-append}
 use Rattle.strat_base.specs.declared.descriptors.ArrayDesc.{ArrayDesc}
@@ -40,7 +40,6 @@ use Rattle.def_publish.proofs.PartsLemmas.{reads_state}
 use Rattle.def_publish.proofs.PromotedLemmas.{promoted_state, sealed_ordered}
 use Rattle.strat_base.specs.Marks.{none_dropped}
 use Rattle.def_state.proofs.UndroppedLemmas.{none_now}
-use Rattle.def_publish.proofs.PlaceLemmas.{newest_fits}
 
 -- one more test that passes
 pub pass_more : (test : Bool) (tests : List Bool) → test ≡ true → all_pass tests ≡ true → all_pass (test ∷ tests) ≡ true
