@@ -1,5 +1,5 @@
 -- A manifest and the parts that are read of it.
-use Rattle.std.proofs.Common.{◌≡◌, ◌+◌, ◌-◌, ◌<◌, ◌≤◌, ◌^◌, ◌⊎◌, inl, inr, ℕ, zero, suc, Bool, true, false, true≢false, cond, eqb, ltb, ◌==◌, ◌&&◌, List, [], ◌∷◌, ◌++◌, length, take, Some, None, refl, sym, ap, ◌∙◌, subst, arith, append_assoc, append-nil, length-append, replicate}
+use Rattle.std.proofs.Common.{◌≡◌, ◌-◌, ◌<◌, ◌≤◌, ◌^◌, ◌⊎◌, inl, inr, ℕ, zero, suc, Bool, true, false, true≢false, cond, eqb, ltb, ◌==◌, ◌&&◌, List, [], ◌∷◌, ◌++◌, length, take, Some, None, refl, sym, ap, ◌∙◌, subst, arith, append_assoc, append-nil, length-append, replicate}
 use Rattle.std.specs.List.{flat_map, list_all}
 use Rattle.std.specs.Option.{option_and_then}
 use Rattle.std.specs.Str.{bytes_eq}
@@ -12,14 +12,14 @@ use Rattle.strat_base.specs.declared.descriptors.LevelDesc.{LevelDesc}
 use Rattle.strat_base.proofs.EntryLemmas.{bytes_same}
 use Rattle.strat_base.proofs.NumberLemmas.{length-be}
 use Rattle.strat_base.proofs.ResultFacts.{option_cases}
-use Rattle.def_bytes.specs.Manifest.{Manifest, versions_in, is_lawful_manifest, level_bytes, mark_bytes, only, manifest_bytes, SpellsManifest, Parsed, next, read_number, read_items, read_mark, read_only, read_level, read_manifest, manifest_in}
+use Rattle.def_bytes.specs.Manifest.{Manifest, versions_in, is_lawful_manifest, level_bytes, mark_bytes, only, manifest_bytes, SpellsManifest, Parsed, next, read_number, read_items, read_mark, read_only, read_manifest, manifest_in}
 use Rattle.def_bytes.proofs.ManifestLemmas.{read_number-be, pass_at, manifest_in-some, manifest_in-bytes}
 use Rattle.strat_manifest.specs.ManifestView.{marks_of, are_marks, only_size, manifest_of}
 use Rattle.strat_manifest.specs.Reading.{read_head, read_marks, read_levels, read_behind}
 use Rattle.strat_manifest.specs.declared.manifest.Manifest.{Manifest as Declared}
 use Rattle.strat_manifest.specs.declared.parser.Head.{Head}
 use Rattle.strat_manifest.proofs.MarkLemmas.{length-marks, marks_size, marks_zeros, marks_spelled, marks_told}
-use Rattle.strat_manifest.proofs.PrintLemmas.{only_long, numbers_size}
+use Rattle.strat_manifest.proofs.PrintLemmas.{only_long}
 use Rattle.strat_manifest.proofs.SpelledLemmas.{some_same, next_some, items_spelled, number_spelled_4, head_spelled, levels_spelled, marks_front, marks_low, marks_bare, bytes_behind}
 
 no_item : {A : Type 0} (xs : List A) → length xs ≡ 0 → xs ≡ []

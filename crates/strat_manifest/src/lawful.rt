@@ -237,7 +237,11 @@ fn has_fields(format: u16, compacted: u64, marks: &[u32]) -> bool
 fn is_dropped(marks: &[u32], v: usize) -> bool
     ensures ok { result ≡ drops.is_dropped (marks_of marks.now) v }
 {
-    if v < marks.len() { marks[v] == 1 } else { false }
+    if v < marks.len() {
+        marks[v] == 1
+    } else {
+        false
+    }
 }
 
 /// Whether a version was dropped if its parent was.

@@ -145,7 +145,11 @@ fn take_levels(alloc: Global, n: u8, reader: &mut Reader<'_>) -> Result<LevelLis
 fn take_compacted(format: u16, reader: &mut Reader<'_>) -> Result<u64, ManifestFault>
     ensures ok { Reads (read_only format (read_number 8) 0) reader.old result reader.new }
 {
-    if format == 2 { reader.take_u64() } else { Ok(0) }
+    if format == 2 {
+        reader.take_u64()
+    } else {
+        Ok(0)
+    }
 }
 
 /// The numbers in front of a manifest.
