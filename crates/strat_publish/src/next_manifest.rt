@@ -12,7 +12,7 @@ ghost use Rattle.def_bytes.specs.Arrays.{blocks_of};
 ghost use Rattle.def_bytes.specs.Manifest.{is_lawful_manifest, manifest_bytes};
 ghost use Rattle.strat_extent.specs.Change.{IsMarked, SameBlocks};
 ghost use Rattle.strat_journal.specs.Log.{Log};
-ghost use Rattle.strat_manifest.specs.ManifestView.{marks_of, manifest_of};
+ghost use Rattle.strat_manifest.specs.ManifestView.{marks_listed, manifest_of};
 ghost use Rattle.strat_promote.specs.Promotions.{entries_if_any};
 ghost use Rattle.strat_promote.specs.Spaces.{HasFewFree};
 ghost use Rattle.strat_promote.specs.declared.obstacle.Obstacle.TheVariants as obstacle;
@@ -107,7 +107,7 @@ fn add_living(marks: &mut Versions) -> Result<(), NoMemory>
 /// The marks of version 0 and of so many more, of which none was dropped: no build drops versions yet.
 #[tactic(auto, using(strat_manifest::proofs::MarkLemmas::one_more_zero, crate::proofs::MarkedLemmas::none_set))]
 fn living_marks(alloc: Global, more: usize) -> Result<Versions, NoMemory>
-    ensures ok { IfOk result (λ marks. marks_of marks ≡ replicate (suc more) false) }
+    ensures ok { IfOk result (λ marks. marks_listed marks ≡ replicate (suc more) false) }
 {
     let mut marks = Versions::new(alloc);
     add_living(&mut marks)?;
