@@ -1,8 +1,16 @@
--- The marks of the next manifest.
-use Rattle.std.proofs.Common.{◌≡◌, ◌≤◌, ◌-◌, ℕ, suc, false, List, ◌++◌, replicate, ap, ◌∙◌}
-use Rattle.strat_manifest.specs.ManifestView.{marks_listed}
-use Rattle.strat_manifest.proofs.MarkLemmas.{all_zeros, marks_zeros}
+-- The marks of a manifest that was admitted, and of the next one.
+use Rattle.std.proofs.Common.{◌≡◌, ◌+◌, ℕ, suc, Bool, true, false, replicate, ap, arith}
+use Rattle.strat_base.specs.Marks.{none_dropped}
+use Rattle.def_bytes.specs.SuperBlock.{Super}
+use Rattle.def_bytes.proofs.ManifestLemmas.{pass_at}
+use Rattle.def_recovery.proofs.PassedLemmas.{belonging_tests}
+use Rattle.strat_memory.specs.Admitting.{IsAdmitted, chained_of}
+use Rattle.strat_memory.specs.declared.admitting.Published.{Published}
 
--- so many zeros mark no version
-pub none_set : (n i : ℕ) (xs : List ℕ) → n ≤ i → xs ++ replicate (n - i) 0 ≡ replicate (suc n) 0 → marks_listed xs ≡ replicate (suc n) false
-none_set n i xs over sofar = ap marks_listed (all_zeros n i xs (replicate (suc n) 0) over sofar) ∙ marks_zeros (suc n)
+-- no version was dropped
+pub admitted_undropped : (sb : Super) (p : Published) → IsAdmitted sb p → none_dropped (chained_of p).manifest.marks ≡ true
+admitted_undropped sb p is = pass_at (belonging_tests sb (chained_of p)) 8 is.belonging
+
+-- the marks of version 0 and of so many more
+pub one_more_living : (n : ℕ) → replicate (n + 1) false ≡ replicate (suc n) false
+one_more_living n = ap (λ (k : ℕ). replicate k false) (let e : n + 1 ≡ suc n = omega arith in e)
