@@ -21,4 +21,3 @@ pub mod SettledLemmas
 pub mod CountingLemmas
 pub mod LaidLemmas
 pub mod PartsLemmas
-pub mod MarkedLemmas
