@@ -121,6 +121,10 @@ pub marks_zeros : (n : ℕ) → marks_listed (replicate n 0) ≡ replicate n fal
 marks_zeros zero = refl
 marks_zeros (suc n) = ap (λ (ms : List Bool). false ∷ ms) (marks_zeros n)
 
+-- all of these zeros mark no version
+pub all_living : (n i : ℕ) (xs : List ℕ) → n ≤ i → xs ++ replicate (n - i) 0 ≡ replicate (suc n) 0 → marks_listed xs ≡ replicate (suc n) false
+all_living n i xs over sofar = ap marks_listed (all_zeros n i xs (replicate (suc n) 0) over sofar) ∙ marks_zeros (suc n)
+
 pub zeros_are_marks : (n : ℕ) → are_marks (replicate n 0) ≡ true
 zeros_are_marks zero = refl
 zeros_are_marks (suc n) = zeros_are_marks n

@@ -1,10 +1,10 @@
-//! The marks of versions in memory: a number for each, 1 for one that was dropped.
+//! The marks of versions of which none was dropped.
 
-ghost use Rattle.std.specs.Prelude.{◌≡◌, ◌++◌, [], ◌∷◌, false, replicate, IfOk, OnOk};
+ghost use Rattle.std.specs.Prelude.{◌≡◌, suc, [], ◌∷◌, ◌++◌, replicate, false, OnOk, IfOk};
 ghost use Rattle.strat_manifest.specs.ManifestView.{marks_listed};
 
 use std::alloc::Global;
-use strat_base::{Listing, NoMemory, Versions};
+use strat_base::{NoMemory, Versions};
 
 /// Adds the mark of a version that was not dropped.
 fn add_living(marks: &mut Versions) -> Result<(), NoMemory>
@@ -16,14 +16,14 @@ fn add_living(marks: &mut Versions) -> Result<(), NoMemory>
     }
 }
 
-/// The marks of so many versions, of which none was dropped. O(versions).
-#[tactic(auto, using(crate::proofs::MarkLemmas::one_more_zero, crate::proofs::MarkLemmas::all_zeros, crate::proofs::MarkLemmas::marks_zeros))]
-pub fn living_marks(alloc: Global, versions: usize) -> Result<Versions, NoMemory>
-    ensures ok { IfOk result (λ marks. marks ≡ replicate versions 0) }
-    ensures found { IfOk result (λ marks. marks_listed marks ≡ replicate versions false) }
+/// The marks of version 0 and of so many more, of which none was dropped. O(more).
+#[tactic(auto, using(crate::proofs::MarkLemmas::one_more_zero, crate::proofs::MarkLemmas::all_living))]
+pub fn living_marks(alloc: Global, more: usize) -> Result<Versions, NoMemory>
+    ensures ok { IfOk result (λ marks. marks_listed marks ≡ replicate (suc more) false) }
 {
-    let mut marks = Listing::new(alloc);
-    for _ in 0..versions {
+    let mut marks = Versions::new(alloc);
+    add_living(&mut marks)?;
+    for _ in 0..more {
         add_living(&mut marks)?;
     }
     Ok(marks)

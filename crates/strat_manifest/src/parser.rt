@@ -1,6 +1,6 @@
 //! Reading a manifest. Memory is taken for each item as it is read, and never for a count that stands in the bytes.
 
-ghost use Rattle.std.specs.Prelude.{◌≡◌, ◌==◌, ◌&&◌, length, ◌∷◌, [], ◌++◌, Some, None, OnOk, IfOk, IfErr, IsTrue};
+ghost use Rattle.std.specs.Prelude.{◌≡◌, ◌==◌, ◌&&◌, length, ◌∷◌, [], ◌++◌, replicate, Some, None, OnOk, IfOk, IfErr, IsTrue};
 ghost use Rattle.def_bytes.specs.Manifest.{read_number, read_items, read_only, read_extent, read_array, read_level, is_lawful_manifest, manifest_in, SpellsManifest};
 ghost use Rattle.strat_manifest.specs.ManifestView.{manifest_of, are_marks};
 ghost use Rattle.strat_manifest.specs.Reading.{Reads, read_head, read_marks, read_levels, read_behind};
@@ -8,7 +8,6 @@ ghost use Rattle.strat_manifest.specs.declared.manifest.ManifestFault.TheVariant
 
 use crate::lawful::{are_marks, is_lawful};
 use crate::manifest::{LevelList, Manifest, ManifestFault};
-use crate::marks::living_marks;
 use crate::reader::Reader;
 use std::alloc::Global;
 use strat_base::limits::VERSIONS_MAX;
@@ -198,6 +197,19 @@ fn take_bytes(alloc: Global, n: u32, reader: &mut Reader<'_>) -> Result<Versions
     Ok(numbers)
 }
 
+/// So many zeros.
+#[tactic(auto, using(crate::proofs::MarkLemmas::one_more_zero, crate::proofs::MarkLemmas::all_zeros))]
+fn zeros(alloc: Global, n: u32) -> Result<Versions, ManifestFault>
+    ensures ok { IfOk result (λ numbers. numbers ≡ replicate n 0) }
+    ensures cause { IfErr result (λ e. e ≡ fault.NoMemory) }
+{
+    let mut numbers = Listing::new(alloc);
+    for _ in 0..n {
+        keep(&mut numbers, 0)?;
+    }
+    Ok(numbers)
+}
+
 /// The numbers of so many marks, which format 2 alone has. In format 1 no version was dropped.
 #[tactic(auto, unfolding(def_bytes::specs::Manifest::read_only, crate::specs::Reading::read_marks))]
 fn take_marks(
@@ -211,8 +223,7 @@ fn take_marks(
     if format == 2 {
         return take_bytes(alloc, n, reader);
     }
-    let marks = living_marks(alloc, n as usize)?;
-    Ok(marks)
+    zeros(alloc, n)
 }
 
 /// As many descriptors of levels as a byte in front of them says.

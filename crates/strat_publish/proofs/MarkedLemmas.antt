@@ -1,5 +1,5 @@
--- The marks of a manifest that was admitted, and of the next one.
-use Rattle.std.proofs.Common.{◌≡◌, ◌+◌, ℕ, suc, Bool, true, false, replicate, ap, arith}
+-- The marks of a manifest that was admitted.
+use Rattle.std.proofs.Common.{◌≡◌, true}
 use Rattle.strat_base.specs.Marks.{none_dropped}
 use Rattle.def_bytes.specs.SuperBlock.{Super}
 use Rattle.def_bytes.proofs.ManifestLemmas.{pass_at}
@@ -10,7 +10,3 @@ use Rattle.strat_memory.specs.declared.admitting.Published.{Published}
 -- no version was dropped
 pub admitted_undropped : (sb : Super) (p : Published) → IsAdmitted sb p → none_dropped (chained_of p).manifest.marks ≡ true
 admitted_undropped sb p is = pass_at (belonging_tests sb (chained_of p)) 8 is.belonging
-
--- the marks of version 0 and of so many more
-pub one_more_living : (n : ℕ) → replicate (n + 1) false ≡ replicate (suc n) false
-one_more_living n = ap (λ (k : ℕ). replicate k false) (let e : n + 1 ≡ suc n = omega arith in e)
