@@ -1,13 +1,17 @@
-"""The examples of docs/FORMATS.md, each read out of the page: bytes that the program writes, and those that builds before it wrote."""
+"""The examples of docs/FORMATS.md, each read out of the page: bytes that the program writes, and those that builds before it wrote.
+Those of the manual page are run.
+"""
 
+import os
 import re
 import struct
+import subprocess
 
 import formats
 from checks.kept import with_kept
 from formats import Head
 from model import BLOCK, put
-from program import TOP, StoreFile, bytes_of, expect, expect_told
+from program import DEADLINE, PROGRAM, TOP, StoreFile, bytes_of, expect, expect_told, in_memory
 from samples import PUBLISHED, store_after
 
 PAGE = TOP / "docs" / "FORMATS.md"
@@ -82,7 +86,22 @@ def levels_are_as_shown(folder):
     expect("levels", expect_told("levels", store.path), shown)
 
 
+@in_memory
+def the_manual_is_as_shown(folder):
+    text = (TOP / "man" / "castle.1").read_text(encoding="utf-8").replace("\\e", "\\")
+    blocks = "".join(re.findall(r"^\.Bd -literal -offset indent\n(.*?)^\.Ed$", text, re.M | re.S))
+    steps = re.findall(r"^\$ (.*\n(?:> .*\n)*)((?:(?!\$ ).*\n)*)", blocks, re.M)
+    expect("enough of them", len(steps) >= 4, True)
+    os.symlink(PROGRAM, os.path.join(folder, "castle"))
+    environment = {**os.environ, "PATH": f"{folder}:{os.environ['PATH']}"}
+    for command, shown in steps:
+        ran = subprocess.run(["/bin/sh", "-c", command.replace("\n> ", "\n")], cwd=folder, stdin=subprocess.DEVNULL, capture_output=True,
+                             timeout=DEADLINE, env=environment)
+        expect(command, (ran.stdout.decode(), ran.stderr), (shown, b""))
+
+
 CHECKS = [
+    the_manual_is_as_shown,
     superblocks_are_as_shown,
     manifests_are_as_shown,
     records_and_entries_are_as_shown,
