@@ -2,24 +2,25 @@
 next publication, at whatever moment a run ends.
 """
 
-import collections
 import copy
+import errno
 import random
 
 import formats
 import model
 import promotions
 import replicas
-from checks.calls import each_call, faults_of, status_of
+from checks.calls import each_call
 from checks.damage import expect_exported, expect_lead
 from checks.following import followed
 from checks.power import images_of, moments, served_history
 from checks.stops import stops_of
 from faulty import KILLED, Rig, Script, expect_goes_on, expect_outcome
-from keptfiles import LIMITS, MADE, data_of, model_of, puts
+from keptfiles import LIMITS, MADE, data_of, model_of
 from model import BLOCK, clone, close_cursor, delete, get, info, next_pairs, open_cursor, put, scan, stat
 from program import StoreFile, Talk, Wrong, bytes_of, expect, expect_kept, expect_said, expect_sound, expect_told, in_memory
 from samples import PUBLISHED, store_after
+from shim import FOR_EVER, Fault
 
 EARLIER = (1,)  # the formats that the build knew which left these files
 
@@ -71,7 +72,7 @@ def kept_files_are_gone_on_with(folder):
     for name, (mem, _) in MADE.items():
         store = with_kept(folder, name)
         for run in range(3):
-            store.expect_served(f"{name}, run {run}", [*puts(1000 * run, 2 * mem + 1), clone(1), put(2, b"new", b"1", 0)])
+            store.expect_served(f"{name}, run {run}", [*ahead(store.model, 2 * mem + 1), clone(1), put(2, b"new", b"1", 0)])
         expect_sound(f"{name}, gone on with", bytes_of(store.path))
         expect(f"{name}, its format", formats.form_of(bytes_of(store.path)), 2)
 
@@ -180,14 +181,14 @@ def a_stop_amid_the_first_publication_leaves_the_old_store_or_the_new_one(folder
         expect_outcome(name, script, whole, rig.bytes(), model.ENDED)
         left = {rig.bytes()}
         ends = [(stop, KILLED) for stop in stops_of(whole.calls)]
-        for kind, number in each_call(whole.calls, ("file.write", "file.fdatasync")):
-            ends += [(fault, status_of(kind)) for fault in faults_of(kind, number)]
+        ends += [(Fault(kind, number, "error", errno.EIO, FOR_EVER), model.DEVICE)
+                 for kind, number in each_call(whole.calls, ("file.read", "file.write", "file.fdatasync"))]
         for fault, status in ends:
             ran = rig.serve(fault, old, script)
             expect_outcome(f"{name}, {fault}", script, ran, rig.bytes(), status)
             left.add(rig.bytes())
-        found = collections.Counter(expect_old_or_new(f"{name}, state {number}", old, data) for number, data in enumerate(sorted(left)))
-        expect(f"{name}, states of both formats", sorted(found), [1, 2])
+        found = {expect_old_or_new(f"{name}, state {number}", old, data) for number, data in enumerate(sorted(left))}
+        expect(f"{name}, states of both formats", found, {1, 2})
         for number, data in enumerate(sorted(left)):
             expect_goes_on(f"{name}, state {number}", rig, data, script)
             expect_old_or_new(f"{name}, state {number}, gone on with", old, rig.bytes())
