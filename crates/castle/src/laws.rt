@@ -38,8 +38,8 @@ ghost use Rattle.castle.specs.Working.{summary_of, workload_start};
 
 use def_crash::laws::Viewed;
 
-/// A run that formats and has made a store says so, as far as the sink takes it: then a crash leaves a new store, with a new
-/// table. On the way it leaves that, or none, where both slots were shut. It writes nowhere else, and ends for a cause.
+/// A run that formats and has made a store says so, as far as the sink takes it: then a crash leaves a new store of format 2, with
+/// a new table. On the way it leaves that, or none, where both slots were shut. It writes nowhere else, and ends for a cause.
 pub fn a_formatting_run_makes_a_new_store<D: Viewed>()
     ensures text { (path : List ℕ) (mem changes versions status : ℕ) (x y : Streams) (d e : D)
         → Runs (Some (Format path mem changes versions)) 1099511627776 status
@@ -51,7 +51,8 @@ pub fn a_formatting_run_makes_a_new_store<D: Viewed>()
         (f c : Image) → Runs (Some (Format path mem changes versions)) 1099511627776 status
         (beside x (D.view d)) (beside y (D.view e)) → (status ≡ 0) ⊎ (status ≡ 7)
         → Exposes (D.view d) f → Images (D.view e) c → ShowsTable c (fresh changes versions)
-        × (reads_as c ≡ Some (fresh_state mem changes versions)) }
+        × (reads_as c ≡ Some (fresh_state mem changes versions))
+        × ((h : Head) × (recover c ≡ Ok (Some h)) × (h.sb.format ≡ 2)) }
     ensures moments { (path : List ℕ) (mem changes versions status : ℕ) (x y : Streams) (d e : D)
         (f c : Image) → Runs (Some (Format path mem changes versions)) 1099511627776 status
         (beside x (D.view d)) (beside y (D.view e)) → Exposes (D.view d) f → IsBlank (D.view d)

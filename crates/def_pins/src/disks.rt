@@ -80,6 +80,15 @@ pub fn manifests_with_drops_belong_to_none()
         (record chain_manifest { marks = false ∷ true ∷ true ∷ true ∷ [] })) ≡ false }
 {}
 
+/// A disk with a drop is damaged, since no build drops versions yet: in the first block of a manifest with a mark that is set,
+/// and in the block of the flag before a record of a drop, in a store of format 1 as well.
+pub fn disks_with_drops_are_damaged()
+    ensures mark { recover (published_by chain_super
+        (record chain_manifest { marks = false ∷ false ∷ false ∷ true ∷ [] })) ≡ Err 8 }
+    ensures journal { recover (patch old_formatted 8192
+        (0xa7 ∷ 3 ∷ 0 ∷ 0 ∷ 0 ∷ 0 ∷ 0xa7 ∷ 4 ∷ 0 ∷ 0 ∷ 0 ∷ 1 ∷ 0 ∷ [])) ≡ Err 2 }
+{}
+
 /// A superblock of either format is taken, beside one of the other format too. Of another format it is refused, in either
 /// slot, and its block is named.
 pub fn superblocks_of_both_formats_are_taken()

@@ -1,5 +1,5 @@
 -- How many bytes the next manifest has, and that its superblock is lawful.
-use Rattle.std.proofs.Common.{◌≡◌, ◌≤◌, ◌<◌, ◌+◌, ◌*◌, ◌^◌, ℕ, inl, inr, true, false, eqb, leb, ltb, List, [], ◌∷◌, ◌++◌, length, Option, refl, sym, subst, arith, length-append, Bool, cond, if◌then◌else◌, ap, Some}
+use Rattle.std.proofs.Common.{◌≡◌, ◌≤◌, ◌<◌, ◌+◌, ◌*◌, ◌^◌, ℕ, suc, inl, inr, true, false, eqb, leb, ltb, List, [], ◌∷◌, ◌++◌, length, Option, refl, sym, subst, arith, length-append, Bool, cond, if◌then◌else◌, ap, Some}
 use Rattle.std.specs.List.{list_all, flat_map, sum_by, IsDistinct}
 use Rattle.std.proofs.lemmas.Bool.{and_parts, eqb-true, leb-true, ltb-true, false_from_ne_true}
 use Rattle.std.proofs.lemmas.List.Sums.{sum_by-cons, sum_by-append}

@@ -1,8 +1,8 @@
 -- The manifest of next contents has a spelling.
-use Rattle.std.proofs.Common.{◌≡◌, ◌≤◌, ◌<◌, ◌+◌, ◌-◌, ◌*◌, ◌^◌, ℕ, suc, Bool, true, leb, ltb, get_or, ◌&&◌, inl, inr, List, [], ◌∷◌, ◌++◌, length, map, Option, Some, None, refl, sym, ap, ◌∙◌, subst, arith, eqb}
+use Rattle.std.proofs.Common.{◌≡◌, ◌≤◌, ◌<◌, ◌+◌, ◌-◌, ◌*◌, ◌^◌, ℕ, suc, Bool, true, leb, ltb, get_or, ◌&&◌, inl, inr, List, [], ◌∷◌, ◌++◌, length, map, Option, Some, None, refl, sym, ap, ◌∙◌, subst, arith}
 use Rattle.std.specs.List.{list_all, flat_map, sum_by, fold, range_with_len}
 use Rattle.std.specs.Option.{option_to_list}
-use Rattle.std.proofs.lemmas.Bool.{and_parts, and_from, leb-true, ltb-true, le-leb, lt-ltb, eqb-true, eq-eqb}
+use Rattle.std.proofs.lemmas.Bool.{and_parts, and_from, leb-true, ltb-true, le-leb, lt-ltb}
 use Rattle.std.proofs.lemmas.List.{length-append, length-map, length-drop, take-append-drop}
 use Rattle.std.proofs.lemmas.List.Sums.{fold-append, sum_by-cons, sum_by-append}
 use Rattle.strat_base.specs.declared.descriptors.ArrayDesc.{ArrayDesc}
@@ -15,6 +15,7 @@ use Rattle.def_crash.specs.Image.{Image}
 use Rattle.def_bytes.specs.Arrays.{all_some, blocks_of}
 use Rattle.def_bytes.specs.Chain.{chain_length}
 use Rattle.def_bytes.specs.Chained.{chain_from, manifest_in_chain}
+use Rattle.def_bytes.specs.Layout.{newest_format}
 use Rattle.def_bytes.specs.SuperBlock.{Super}
 use Rattle.def_bytes.specs.Manifest.{Manifest, versions_in, is_rising, is_lawful_extent, all_pass, is_lawful_array, first_version, is_lawful_level, is_lawful_manifest, manifest_bytes, SpellsManifest, has_fields}
 use Rattle.def_bytes.proofs.DamageLemmas.{and_then_ok}
@@ -40,7 +41,6 @@ use Rattle.def_publish.proofs.PartsLemmas.{reads_state}
 use Rattle.def_publish.proofs.PromotedLemmas.{promoted_state, sealed_ordered}
 use Rattle.strat_base.specs.Marks.{none_dropped}
 use Rattle.def_state.proofs.UndroppedLemmas.{none_now}
-use Rattle.def_publish.proofs.PlaceLemmas.{newest_fits}
 
 -- one more test that passes
 pub pass_more : (test : Bool) (tests : List Bool) → test ≡ true → all_pass tests ≡ true → all_pass (test ∷ tests) ≡ true
@@ -50,6 +50,13 @@ pass_more test tests here there = and_from test (all_pass tests) here there
 pub pass_none : all_pass [] ≡ true
 unfolding all_pass
 pass_none = refl
+
+-- a manifest that a format has is one that the newest has
+pub lawful_newest : (format : ℕ) (m : Manifest) → is_lawful_manifest format m ≡ true → is_lawful_manifest newest_format m ≡ true
+lawful_newest format m lawful =
+    let at : (k : ℕ) → get_or (manifest_tests format m) k true ≡ true = λ k. pass_at (manifest_tests format m) k lawful in
+    pass_more _ _ (at 0) (pass_more _ _ (at 1) (pass_more _ _ (at 2) (pass_more _ _ (at 3) (pass_more _ _ (at 4) (pass_more _ _ (at 5) (pass_more _ _ (at 6) (pass_more _ _ (at 7)
+    (pass_more _ _ (at 8) (pass_more _ _ (at 9) (pass_more _ _ refl (pass_more _ _ (at 11) (pass_more _ _ (at 12) pass_none))))))))))))
 
 abbrev StartsAt : ℕ → List ℕ → Type 0
 StartsAt low [] = Unit {0}

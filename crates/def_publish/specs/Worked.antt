@@ -90,7 +90,7 @@ blocks_from start len = record { start = start; len = len }
 abbrev pub prepared_disk : Image
 prepared_disk =
     patch (patch (patch formatted 8192 (records_bytes chain_logged.journal)) 28672 array_block)
-    32768 (be 4 0 ++ manifest_bytes 1 chain_manifest)
+    32768 (be 4 0 ++ manifest_bytes chain_super.format chain_manifest)
 
 -- the same once the superblock of chain_next is laid
 abbrev pub published_disk : Image

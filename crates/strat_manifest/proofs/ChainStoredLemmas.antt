@@ -1,17 +1,16 @@
 -- A manifest that was written into a chain of blocks is read from there.
-use Rattle.std.proofs.Common.{◌≡◌, ◌≤◌, ℕ, suc, Bool, true, false, cond, eqb, not, ◌&&◌, ◌||◌, ◌+◌, ◌*◌, map, List, [], ◌∷◌, length, Some, None, Ok, sym, ap, ◌∙◌, arith, inl, inr, true≢false}
+use Rattle.std.proofs.Common.{◌≡◌, ◌≤◌, ℕ, suc, Bool, true, false, cond, eqb, not, ◌&&◌, ◌||◌, ◌+◌, ◌*◌, map, List, [], ◌∷◌, length, Some, None, Ok, sym, ap, ◌∙◌, arith, true≢false}
 use Rattle.std.specs.List.{flat_map, list_all}
-use Rattle.std.proofs.lemmas.Bool.{and_parts, eqb-true, cases_Bool, or_cases}
+use Rattle.std.proofs.lemmas.Bool.{and_parts, eqb-true}
 use Rattle.std.proofs.lemmas.List.{length-map}
 use Rattle.def_crash.specs.Image.{Image}
 use Rattle.def_bytes.specs.Chain.{IsChain, next_block}
 use Rattle.def_bytes.specs.Chained.{manifest_at}
 use Rattle.def_bytes.specs.Layout.{shortest_manifest}
-use Rattle.def_bytes.specs.Manifest.{Manifest, SpellsManifest, manifest_bytes, is_lawful_manifest, has_fields, level_bytes}
+use Rattle.def_bytes.specs.Manifest.{Manifest, SpellsManifest, manifest_bytes, is_lawful_manifest, level_bytes}
 use Rattle.strat_base.specs.Marks.{is_dropped, are_pruned}
 use Rattle.def_bytes.proofs.ChainLemmas.{chain_read}
 use Rattle.def_bytes.proofs.ManifestLemmas.{pass_at}
-use Rattle.strat_manifest.specs.ManifestView.{only_size}
 use Rattle.strat_manifest.proofs.PrintLemmas.{manifest_size}
 
 -- a lawful manifest has a mark for each version

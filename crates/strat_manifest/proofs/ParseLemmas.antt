@@ -1,5 +1,5 @@
 -- A manifest and the parts that are read of it.
-use Rattle.std.proofs.Common.{◌≡◌, ◌+◌, ◌-◌, ◌<◌, ◌≤◌, ◌^◌, ◌⊎◌, inl, inr, ℕ, zero, suc, Bool, true, false, true≢false, cond, eqb, ltb, ◌==◌, ◌&&◌, List, [], ◌∷◌, ◌++◌, length, take, Some, None, refl, sym, ap, ◌∙◌, subst, arith, append_assoc, append-nil, length-append, replicate}
+use Rattle.std.proofs.Common.{◌≡◌, ◌-◌, ◌<◌, ◌≤◌, ◌^◌, ◌⊎◌, inl, inr, ℕ, zero, suc, Bool, true, false, true≢false, cond, eqb, ltb, ◌==◌, ◌&&◌, List, [], ◌∷◌, ◌++◌, length, take, Some, None, refl, sym, ap, ◌∙◌, subst, arith, append_assoc, append-nil, length-append, replicate}
 use Rattle.std.specs.List.{flat_map, list_all}
 use Rattle.std.specs.Option.{option_and_then}
 use Rattle.std.specs.Str.{bytes_eq}
@@ -12,14 +12,14 @@ use Rattle.strat_base.specs.declared.descriptors.LevelDesc.{LevelDesc}
 use Rattle.strat_base.proofs.EntryLemmas.{bytes_same}
 use Rattle.strat_base.proofs.NumberLemmas.{length-be}
 use Rattle.strat_base.proofs.ResultFacts.{option_cases}
-use Rattle.def_bytes.specs.Manifest.{Manifest, versions_in, is_lawful_manifest, level_bytes, mark_bytes, only, manifest_bytes, SpellsManifest, Parsed, next, read_number, read_items, read_mark, read_only, read_level, read_manifest, manifest_in}
+use Rattle.def_bytes.specs.Manifest.{Manifest, versions_in, is_lawful_manifest, level_bytes, mark_bytes, only, manifest_bytes, SpellsManifest, Parsed, next, read_number, read_items, read_mark, read_only, read_manifest, manifest_in}
 use Rattle.def_bytes.proofs.ManifestLemmas.{read_number-be, pass_at, manifest_in-some, manifest_in-bytes}
-use Rattle.strat_manifest.specs.ManifestView.{marks_of, are_marks, only_size, manifest_of}
+use Rattle.strat_manifest.specs.ManifestView.{marks_listed, are_marks, only_size, manifest_of}
 use Rattle.strat_manifest.specs.Reading.{read_head, read_marks, read_levels, read_behind}
 use Rattle.strat_manifest.specs.declared.manifest.Manifest.{Manifest as Declared}
 use Rattle.strat_manifest.specs.declared.parser.Head.{Head}
 use Rattle.strat_manifest.proofs.MarkLemmas.{length-marks, marks_size, marks_zeros, marks_spelled, marks_told}
-use Rattle.strat_manifest.proofs.PrintLemmas.{only_long, numbers_size}
+use Rattle.strat_manifest.proofs.PrintLemmas.{only_long}
 use Rattle.strat_manifest.proofs.SpelledLemmas.{some_same, next_some, items_spelled, number_spelled_4, head_spelled, levels_spelled, marks_front, marks_low, marks_bare, bytes_behind}
 
 no_item : {A : Type 0} (xs : List A) → length xs ≡ 0 → xs ≡ []
@@ -51,26 +51,26 @@ items_count {A = A} read (suc n) bytes xs rest is =
     subst P (some_same _ _ others.2) (ap suc (items_count read n one.0.1 others.0.0 others.0.1 others.1))
 
 -- marks are read as the numbers that stand for them
-marks_mapped : (n : ℕ) (bytes : List ℕ) → read_items read_mark n bytes ≡ next (read_items (read_number 1) n bytes) (λ xs end. Some (marks_of xs, end))
+marks_mapped : (n : ℕ) (bytes : List ℕ) → read_items read_mark n bytes ≡ next (read_items (read_number 1) n bytes) (λ xs end. Some (marks_listed xs, end))
 unfolding read_items read_mark
 marks_mapped zero bytes = refl
 marks_mapped (suc n) bytes = by_first (read_number 1 bytes) (λ b. marks_mapped n b)
   where
-    by_rest : (x : ℕ) (r : Parsed (List ℕ)) → next (next r (λ xs end. Some (marks_of xs, end))) (λ ms end. Some (eqb x 1 ∷ ms, end)) ≡ next (next r (λ xs end. Some (x ∷ xs, end))) (λ xs end. Some (marks_of xs, end))
+    by_rest : (x : ℕ) (r : Parsed (List ℕ)) → next (next r (λ xs end. Some (marks_listed xs, end))) (λ ms end. Some (eqb x 1 ∷ ms, end)) ≡ next (next r (λ xs end. Some (x ∷ xs, end))) (λ xs end. Some (marks_listed xs, end))
     by_rest x None = refl
     by_rest x (Some p) = refl
 
-    by_first : (r : Parsed ℕ) → ((b : List ℕ) → read_items read_mark n b ≡ next (read_items (read_number 1) n b) (λ xs end. Some (marks_of xs, end)))
+    by_first : (r : Parsed ℕ) → ((b : List ℕ) → read_items read_mark n b ≡ next (read_items (read_number 1) n b) (λ xs end. Some (marks_listed xs, end)))
         → next (next r (λ x b. Some (eqb x 1, b))) (λ mark b. next (read_items read_mark n b) (λ ms end. Some (mark ∷ ms, end)))
-        ≡ next (next r (λ x b. next (read_items (read_number 1) n b) (λ xs end. Some (x ∷ xs, end)))) (λ xs end. Some (marks_of xs, end))
+        ≡ next (next r (λ x b. next (read_items (read_number 1) n b) (λ xs end. Some (x ∷ xs, end)))) (λ xs end. Some (marks_listed xs, end))
     by_first None later = refl
     by_first (Some p) later = ap (λ (r : Parsed (List Bool)). next r (λ ms end. Some (eqb p.0 1 ∷ ms, end))) (later p.1) ∙ by_rest p.0 (read_items (read_number 1) n p.1)
 
-only_mapped : (format n : ℕ) (bytes : List ℕ) → read_only format (read_items read_mark n) (replicate n false) bytes ≡ next (read_marks format n bytes) (λ xs end. Some (marks_of xs, end))
+only_mapped : (format n : ℕ) (bytes : List ℕ) → read_only format (read_items read_mark n) (replicate n false) bytes ≡ next (read_marks format n bytes) (λ xs end. Some (marks_listed xs, end))
 unfolding read_only read_marks
 only_mapped format n bytes = by_format (eqb format 2)
   where
-    by_format : (two : Bool) → cond two (read_items read_mark n bytes) (Some (replicate n false, bytes)) ≡ next (cond two (read_items (read_number 1) n bytes) (Some (replicate n 0, bytes))) (λ xs end. Some (marks_of xs, end))
+    by_format : (two : Bool) → cond two (read_items read_mark n bytes) (Some (replicate n false, bytes)) ≡ next (cond two (read_items (read_number 1) n bytes) (Some (replicate n 0, bytes))) (λ xs end. Some (marks_listed xs, end))
     by_format true = marks_mapped n bytes
     by_format false = ap (λ (ms : List Bool). Some (ms, bytes)) (sym (marks_zeros n))
 
@@ -95,7 +95,7 @@ module _ (format : ℕ) (h : Head) where
   unfolding read_behind kept
   behind_is b = refl
 
-  levels_made : (parents : List ℕ) (r : Parsed (List ℕ)) → next (next r (λ xs end. Some (marks_of xs, end))) (λ marks g. next (read_levels g) (λ levels i. Some (made parents marks levels, i)))
+  levels_made : (parents : List ℕ) (r : Parsed (List ℕ)) → next (next r (λ xs end. Some (marks_listed xs, end))) (λ marks g. next (read_levels g) (λ levels i. Some (made parents marks levels, i)))
       ≡ next (next r (λ marks g. next (read_levels g) (λ levels i. Some (kept parents marks levels, i)))) (λ m i. Some (manifest_of m, i))
   unfolding made kept
   levels_made parents None = refl
@@ -127,11 +127,11 @@ front format m = be 4 m.changes ++ (be 4 m.updates ++ (be 8 m.written ++ (only f
 back : Declared → List ℕ
 back m = be 1 (length m.levels) ++ flat_map level_bytes m.levels
 
-manifest_parts : (format : ℕ) (m : Declared) → manifest_bytes format (manifest_of m) ≡ front format m ++ (only format (flat_map mark_bytes (marks_of m.marks)) ++ back m)
+manifest_parts : (format : ℕ) (m : Declared) → manifest_bytes format (manifest_of m) ≡ front format m ++ (only format (flat_map mark_bytes (marks_listed m.marks)) ++ back m)
 unfolding manifest_bytes front back
 manifest_parts format m =
     seven (be 4 m.changes) (be 4 m.updates) (be 8 m.written) (only format (be 8 m.compacted)) (be 8 m.next_array) (be 4 (suc (length m.parents))) (flat_map (be 4) m.parents)
-    (only format (flat_map mark_bytes (marks_of m.marks)) ++ (be 1 (length m.levels) ++ flat_map level_bytes m.levels))
+    (only format (flat_map mark_bytes (marks_listed m.marks)) ++ (be 1 (length m.levels) ++ flat_map level_bytes m.levels))
 
 -- what is known of a manifest that was read
 record WasRead (format : ℕ) (bytes : List ℕ) (m : Declared) (rest : List ℕ) : Type 0 where
@@ -250,7 +250,7 @@ module _ (format : ℕ) (bytes : List ℕ) where
           raw = only format (flat_map (be 1) m.marks)
 
           abbrev marked : List ℕ
-          marked = only format (flat_map mark_bytes (marks_of m.marks))
+          marked = only format (flat_map mark_bytes (marks_listed m.marks))
 
           read_as : WasRead format bytes m rest
           read_as = was_read format bytes h b m rest fits head some_version tail
@@ -267,7 +267,7 @@ module _ (format : ℕ) (bytes : List ℕ) where
               bytes_long (x ∷ xs) = omega (arith, length-append (be 1 x) (flat_map (be 1) xs), length-be 1 x, bytes_long xs)
 
           marked_long : length marked ≡ only_size format (length m.marks)
-          marked_long = only_long format (flat_map mark_bytes (marks_of m.marks)) (length m.marks) (marks_size (marks_of m.marks) ∙ length-marks m.marks)
+          marked_long = only_long format (flat_map mark_bytes (marks_listed m.marks)) (length m.marks) (marks_size (marks_listed m.marks) ∙ length-marks m.marks)
 
           -- bytes of a manifest leave nothing
           nothing_left : (x : Manifest) → manifest_in format bytes ≡ Some x → length rest ≡ 0
@@ -281,7 +281,7 @@ module _ (format : ℕ) (bytes : List ℕ) where
               elim (cases_Bool (eqb format 2)) [
                 | inl two ↦
                     let raw_is : raw ≡ flat_map (be 1) m.marks = ap (λ (t : Bool). cond t (flat_map (be 1) m.marks) []) two in
-                    let marked_is : marked ≡ flat_map mark_bytes (marks_of m.marks) = ap (λ (t : Bool). cond t (flat_map mark_bytes (marks_of m.marks)) []) two in
+                    let marked_is : marked ≡ flat_map mark_bytes (marks_listed m.marks) = ap (λ (t : Bool). cond t (flat_map mark_bytes (marks_listed m.marks)) []) two in
                     let same : raw ≡ marked =
                     sym (take_at raw (back m ++ rest) (only_size format (length m.marks)) raw_long)
                     ∙ ap (take (only_size format (length m.marks))) (seen x is)

@@ -10,8 +10,8 @@ abbrev pub is_set : ℕ → Bool
 is_set n = n == 1
 
 -- the marks that numbers stand for
-abbrev pub marks_of : List ℕ → Marks
-marks_of numbers = map is_set numbers
+abbrev pub marks_listed : List ℕ → Marks
+marks_listed numbers = map is_set numbers
 
 -- each number is that of a mark, 0 or 1
 abbrev pub are_marks : List ℕ → Bool
@@ -30,6 +30,6 @@ manifest_of m = record {
   compacted = m.compacted;
   next_array = m.next_array;
   parents = m.parents;
-  marks = marks_of m.marks;
+  marks = marks_listed m.marks;
   levels = m.levels;
 }

@@ -5,7 +5,7 @@ ghost use Rattle.std.specs.List.{list_all};
 ghost use Rattle.strat_base.specs.Marks as drops;
 ghost use Rattle.def_bytes.specs.Manifest as rules;
 ghost use Rattle.strat_manifest.specs.ManifestView as views;
-ghost use Rattle.strat_manifest.specs.ManifestView.{manifest_of, marks_of};
+ghost use Rattle.strat_manifest.specs.ManifestView.{manifest_of, marks_listed};
 ghost use Rattle.strat_manifest.specs.Pruned as pruning;
 
 use crate::manifest::Manifest;
@@ -218,7 +218,7 @@ fn each_is_unset(marks: &[u32]) -> bool
 
 /// Whether no mark says that a version was dropped.
 pub fn none_is_dropped(marks: &[u32]) -> bool
-    ensures ok { result ≡ list_all not (marks_of marks.now) }
+    ensures ok { result ≡ list_all not (marks_listed marks.now) }
 {
     each_is_unset(marks)
 }
@@ -226,7 +226,7 @@ pub fn none_is_dropped(marks: &[u32]) -> bool
 /// Whether a format has these fields: format 1 has no entries compacted and no version dropped.
 fn has_fields(format: u16, compacted: u64, marks: &[u32]) -> bool
     ensures ok { result ≡ ((format == 2)
-        || ((format == 1) && (compacted == 0) && list_all not (marks_of marks.now))) }
+        || ((format == 1) && (compacted == 0) && list_all not (marks_listed marks.now))) }
 {
     let is_bare = compacted == 0 && none_is_dropped(marks);
     format == 2 || format == 1 && is_bare
@@ -235,23 +235,27 @@ fn has_fields(format: u16, compacted: u64, marks: &[u32]) -> bool
 /// Whether a version is marked as dropped.
 #[tactic(auto, using(crate::proofs::MarkLemmas::mark_at, crate::proofs::MarkLemmas::mark_past))]
 fn is_dropped(marks: &[u32], v: usize) -> bool
-    ensures ok { result ≡ drops.is_dropped (marks_of marks.now) v }
+    ensures ok { result ≡ drops.is_dropped (marks_listed marks.now) v }
 {
-    if v < marks.len() { marks[v] == 1 } else { false }
+    if v < marks.len() {
+        marks[v] == 1
+    } else {
+        false
+    }
 }
 
 /// Whether a version was dropped if its parent was.
 fn goes_with(marks: &[u32], parent: usize, v: usize) -> bool
-    ensures ok { result ≡ (not (drops.is_dropped (marks_of marks.now) parent)
-        || drops.is_dropped (marks_of marks.now) v) }
+    ensures ok { result ≡ (not (drops.is_dropped (marks_listed marks.now) parent)
+        || drops.is_dropped (marks_listed marks.now) v) }
 {
     !is_dropped(marks, parent) || is_dropped(marks, v)
 }
 
 /// Whether below a dropped version all were dropped, where the first parent is that of version 1.
 #[tactic(auto, using(crate::proofs::MarkLemmas::below_on, crate::proofs::MarkLemmas::below_broken, crate::proofs::MarkLemmas::below_over))]
-fn are_below(marks: &[u32], parents: &[u32]) -> bool
-    ensures ok { result ≡ pruning.are_below (marks_of marks.now) 1 parents.now }
+fn are_pruned_from(marks: &[u32], parents: &[u32]) -> bool
+    ensures ok { result ≡ pruning.are_pruned_from (marks_listed marks.now) 1 parents.now }
 {
     for (i, parent) in parents.iter().enumerate() {
         if !goes_with(marks, *parent as usize, i + 1) {
@@ -265,11 +269,11 @@ fn are_below(marks: &[u32], parents: &[u32]) -> bool
 #[tactic(auto, using(crate::proofs::MarkLemmas::pruned_is))]
 fn are_pruned(parents: &[u32], marks: &[u32]) -> bool
     ensures ok { result ≡ drops.are_pruned (None ∷ map (λ p. Some p) parents.now)
-        (marks_of marks.now) }
+        (marks_listed marks.now) }
 {
     let has_marks = marks.len() == parents.len() + 1;
     let has_root = !is_dropped(marks, 0);
-    has_marks && has_root && are_below(marks, parents)
+    has_marks && has_root && are_pruned_from(marks, parents)
 }
 
 /// Whether a manifest has a spelling in a format. One pass over it, O(size), with no memory taken.

@@ -21,6 +21,7 @@ mod chain;
 mod chain_write;
 mod lawful;
 mod manifest;
+mod marks;
 mod parser;
 mod printer;
 mod reader;
@@ -29,6 +30,7 @@ mod stored;
 
 pub use lawful::none_is_dropped;
 pub use manifest::{LevelList, Manifest, ManifestFault, Parents};
+pub use marks::living_marks;
 pub use parser::parse;
 pub use printer::print;
 pub use size::is_writable;

@@ -145,7 +145,11 @@ fn take_levels(alloc: Global, n: u8, reader: &mut Reader<'_>) -> Result<LevelLis
 fn take_compacted(format: u16, reader: &mut Reader<'_>) -> Result<u64, ManifestFault>
     ensures ok { Reads (read_only format (read_number 8) 0) reader.old result reader.new }
 {
-    if format == 2 { reader.take_u64() } else { Ok(0) }
+    if format == 2 {
+        reader.take_u64()
+    } else {
+        Ok(0)
+    }
 }
 
 /// The numbers in front of a manifest.
@@ -271,7 +275,7 @@ fn is_all(reader: &Reader<'_>, format: u16, manifest: &Manifest) -> bool
 pub fn parse(alloc: Global, bytes: &[u8], format: u16) -> Result<Manifest, ManifestFault>
     ensures ok { IfOk result (λ m. manifest_in format bytes.now ≡ Some (manifest_of m)) }
     ensures found { IfOk result (λ m. SpellsManifest format bytes.now (manifest_of m)) }
-    ensures marks { IfOk result (λ m. IsTrue (are_marks m.marks)) }
+    ensures kept { IfOk result (λ m. IsTrue (are_marks m.marks)) }
     ensures cause { IfErr result (λ e. e ≡ fault.Refused
         → manifest_in format bytes.now ≡ None) }
 {

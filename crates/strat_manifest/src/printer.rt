@@ -4,7 +4,7 @@ ghost use Rattle.std.specs.Prelude.{◌≡◌, ◌+◌, ◌*◌, ◌^◌, ◌≤
 ghost use Rattle.std.specs.List.{flat_map};
 ghost use Rattle.strat_base.specs.Numbers.{be};
 ghost use Rattle.def_bytes.specs.Manifest.{is_lawful_manifest, list_bytes, extent_bytes, array_bytes, level_bytes, mark_bytes, only, manifest_bytes, SpellsManifest};
-ghost use Rattle.strat_manifest.specs.ManifestView.{is_set, marks_of, only_size, manifest_of};
+ghost use Rattle.strat_manifest.specs.ManifestView.{is_set, marks_listed, only_size, manifest_of};
 
 use crate::manifest::Manifest;
 use crate::size::manifest_size;
@@ -238,7 +238,7 @@ fn add_mark(out: &mut Vec<u8>, mark: u32)
 #[tactic(auto, using(crate::proofs::PrintLemmas::joined_at, crate::proofs::MarkLemmas::marks_joined))]
 fn add_marks(out: &mut Vec<u8>, marks: &[u32])
     requires room { vec_len out.old + length marks.now ≤ vec_capacity out.old }
-    ensures ok { out.new.items ≡ out.old.items ++ flat_map mark_bytes (marks_of marks.now) }
+    ensures ok { out.new.items ≡ out.old.items ++ flat_map mark_bytes (marks_listed marks.now) }
     ensures len { vec_len out.new ≡ vec_len out.old + length marks.now }
     ensures room { vec_capacity out.old ≤ vec_capacity out.new }
 {
@@ -252,7 +252,7 @@ fn add_format_marks(out: &mut Vec<u8>, format: u16, marks: &[u32])
     requires room { vec_len out.old + only_size format (length marks.now)
         ≤ vec_capacity out.old }
     ensures ok { out.new.items
-        ≡ out.old.items ++ only format (flat_map mark_bytes (marks_of marks.now)) }
+        ≡ out.old.items ++ only format (flat_map mark_bytes (marks_listed marks.now)) }
     ensures len { vec_len out.new ≡ vec_len out.old + only_size format (length marks.now) }
     ensures room { vec_capacity out.old ≤ vec_capacity out.new }
 {

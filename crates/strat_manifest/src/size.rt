@@ -59,7 +59,11 @@ fn levels_size(levels: &[LevelDesc]) -> u64
 fn marks_size(marks: usize, format: u16) -> u64
     ensures ok { result ≡ min (only_size format 8 + only_size format marks) (2 ^ 64 - 1) }
 {
-    if format == 2 { (marks as u64).saturating_add(8) } else { 0 }
+    if format == 2 {
+        (marks as u64).saturating_add(8)
+    } else {
+        0
+    }
 }
 
 /// How many bytes the spelling of a manifest in a format has.

@@ -47,7 +47,7 @@ fn parse_filled(
     ensures ok { IfOk result (λ m.
         manifest_filled format n bytes.now ≡ Some (manifest_of m)) }
     ensures kept { IfOk result (λ m. IsTrue (is_lawful_manifest format (manifest_of m))) }
-    ensures marks { IfOk result (λ m. IsTrue (are_marks m.marks)) }
+    ensures found { IfOk result (λ m. IsTrue (are_marks m.marks)) }
     ensures damaged { (b : ℕ) → IsErrOf result (Damaged b) → (b ≡ block)
         × (manifest_filled format n bytes.now ≡ None) }
     ensures cause { IsErrOf result Device → ⊥ }
@@ -78,7 +78,7 @@ pub fn read<D: Disk>(
         → manifest_at format f first size
         ≡ Ok (record { manifest = manifest_of r.0; blocks = blocks_of r.1 })) }
     ensures kept { IfOk result (λ r. IsTrue (is_lawful_manifest format (manifest_of r.0))) }
-    ensures marks { IfOk result (λ r. IsTrue (are_marks r.0.marks)) }
+    ensures found { IfOk result (λ r. IsTrue (are_marks r.0.marks)) }
     ensures damaged { (b : ℕ) → IsErrOf result (Damaged b) → (f : Image)
         → Exposes (D.view disk.old) f → manifest_at format f first size ≡ Err b }
     ensures same { OnlyReads (D.view disk.old) (D.view disk.new) }
@@ -111,7 +111,8 @@ pub fn write<D: Disk>(
         × AreLowest r.2 space.new × (total_len r.2 ≡ chain_length r.1)) }
     ensures len { IfOk result (λ r.
         r.1 ≡ length (manifest_bytes format (manifest_of m.now))) }
-    ensures fits { IfOk result (λ r. (space.old.first ≤ r.0) × (r.0 < 4294967295) × (shortest_manifest format ≤ r.1)) }
+    ensures fits { IfOk result (λ r. (space.old.first ≤ r.0) × (r.0 < 4294967295)
+        × (shortest_manifest format ≤ r.1)) }
     ensures images { TearsBlocks (is_free space.old) (D.view disk.old) (D.view disk.new) }
     ensures err { OnErr result (SameBlocks space.old space.new) }
     ensures same { IsErrOf result NoMemory → disk.new ≡ disk.old }

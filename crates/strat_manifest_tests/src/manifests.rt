@@ -2,7 +2,7 @@
 
 ghost use Rattle.std.specs.Prelude.{◌≡◌, ◌≤◌, ◌<◌, [], ◌∷◌, ◌++◌, length, IfOk, IsTrue};
 ghost use Rattle.def_bytes.specs.Manifest.{is_lawful_manifest, manifest_bytes, new_manifest};
-ghost use Rattle.strat_manifest.specs.ManifestView.{marks_of, manifest_of};
+ghost use Rattle.strat_manifest.specs.ManifestView.{marks_listed, manifest_of};
 ghost use Rattle.strat_manifest_tests.specs.Sample.{first_array, second_array, sample_manifest, dropped_manifest};
 
 use std::alloc::Global;
@@ -201,7 +201,7 @@ fn manifest_of_two_arrays(
     marks: &[u32],
 ) -> Result<Manifest, NoMemory>
     ensures ok { IfOk result (λ m. manifest_of m
-        ≡ record sample_manifest { compacted = compacted; marks = marks_of marks.now }) }
+        ≡ record sample_manifest { compacted = compacted; marks = marks_listed marks.now }) }
 {
     let level = LevelDesc {
         number: 2,

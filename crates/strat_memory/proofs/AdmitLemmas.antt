@@ -178,14 +178,3 @@ manifest_low format c first n y low e =
     let chain = and_then_ok (chain_from c [] first (chain_length n - 1)) (manifest_in_chain format c first n) y e in
     let made = map_some (λ m. record { manifest = m; blocks = chain.0 }) (manifest_filled format n (chained_bytes c chain.0)) y (found_ok first (option_map (λ m. record { manifest = m; blocks = chain.0 }) (manifest_filled format n (chained_bytes c chain.0))) y chain.2) in
     subst (λ (x : Chained). list_all (λ b. ltb b 4294967295) x.blocks ≡ true) made.2 (chain_low c [] first (chain_length n - 1) chain.0 low chain.1)
-
--- no version of what was admitted was dropped
-pub admitted_undropped : (sb : Super) (p : Published) → IsAdmitted sb p → none_dropped (chained_of p).manifest.marks ≡ true
-admitted_undropped sb p is = pass_at (belonging_tests sb (chained_of p)) 8 is.belonging
-
--- a manifest that a format has is one that the newest has
-pub lawful_newest : (format : ℕ) (m : Manifest) → is_lawful_manifest format m ≡ true → is_lawful_manifest newest_format m ≡ true
-lawful_newest format m lawful =
-    let at : (k : ℕ) → get_or (manifest_tests format m) k true ≡ true = λ k. pass_at (manifest_tests format m) k lawful in
-    pass_more _ _ (at 0) (pass_more _ _ (at 1) (pass_more _ _ (at 2) (pass_more _ _ (at 3) (pass_more _ _ (at 4) (pass_more _ _ (at 5) (pass_more _ _ (at 6) (pass_more _ _ (at 7)
-    (pass_more _ _ (at 8) (pass_more _ _ (at 9) (pass_more _ _ refl (pass_more _ _ (at 11) (pass_more _ _ (at 12) pass_none))))))))))))

@@ -75,9 +75,7 @@ fn read_published<D: Disk>(
     ensures reads { ReadsAtMost (chain_length sb.now.length - 1 + 1)
         (D.reads disk.old) (D.reads disk.new) }
 {
-    let (manifest, chain) = strat_manifest::read(
-        alloc, disk, sb.manifest, sb.length, sb.format,
-    )?;
+    let (manifest, chain) = strat_manifest::read(alloc, disk, sb.manifest, sb.length, sb.format)?;
     match admit(alloc, sb, manifest, chain)? {
         Some(published) => Ok(published),
         None => Err(Trouble::Damaged { block: sb.manifest }),

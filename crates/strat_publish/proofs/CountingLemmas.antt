@@ -1,5 +1,5 @@
 -- What a store pays for its arrays, while a publication writes and counts them.
-use Rattle.std.proofs.Common.{◌≡◌, ◌+◌, ℕ, Bool, true, false, leb, inl, inr, List, ◌++◌, map, filter, flat_map, Contains, sym, ap, ◌∙◌, subst, arith, length}
+use Rattle.std.proofs.Common.{◌≡◌, ◌+◌, ◌⊎◌, ℕ, Bool, true, false, leb, inl, inr, Some, Ok, List, ◌++◌, map, filter, flat_map, Contains, sym, ap, ◌∙◌, subst, arith, length}
 use Rattle.std.specs.List.{sum_by}
 use Rattle.std.specs.Option.{option_to_list}
 use Rattle.std.proofs.lemmas.Bool.{le-leb, lt-leb}
@@ -10,7 +10,8 @@ use Rattle.strat_array.proofs.OrderLemmas.{filter_each, filter_none}
 use Rattle.strat_base.proofs.ListFacts.{Among, among_right, range_among}
 use Rattle.strat_base.specs.declared.descriptors.ArrayDesc.{ArrayDesc}
 use Rattle.strat_base.specs.declared.descriptors.LevelDesc.{LevelDesc}
-use Rattle.def_crash.specs.Moments.{DiskView}
+use Rattle.def_crash.specs.Image.{Image}
+use Rattle.def_crash.specs.Moments.{DiskView, Since}
 use Rattle.def_bytes.specs.Chained.{Chained}
 use Rattle.def_bytes.specs.Manifest.{Manifest}
 use Rattle.def_bytes.specs.SuperBlock.{Super}
@@ -20,6 +21,8 @@ use Rattle.def_publish.proofs.FreeLemmas.{free_reads}
 use Rattle.def_publish.proofs.ListLemmas.{contained_among, among_contained}
 use Rattle.def_publish.specs.Contents.{Contents, contents_state}
 use Rattle.def_publish.specs.Next.{arrays_made}
+use Rattle.def_publish.specs.Standing.{ReadsAs}
+use Rattle.def_state.specs.Level.{Level}
 use Rattle.def_state.specs.State.{IsPaid}
 use Rattle.strat_publish.proofs.WholeLemmas.{whole_read}
 use Rattle.strat_publish.proofs.SettledLemmas.{free_here, next_arrays}
@@ -28,14 +31,33 @@ use Rattle.strat_memory.specs.Filters.{LevelFilters}
 use Rattle.strat_memory.specs.Held.{Held, IsConsistent, StandsWith, contents_held}
 use Rattle.strat_memory.specs.Paying.{ArePaidSince}
 use Rattle.strat_publish.specs.Counting.{CountsWritten}
-use Rattle.strat_publish.specs.Settling.{WritesBeside, IsReadied}
+use Rattle.strat_publish.specs.Settling.{HasOldOrNext, HaveOldOrNext, WritesBeside, IsReadied, contents_next, super_after}
 use Rattle.strat_publish.proofs.KeptLemmas.{arrays_of_made}
 use Rattle.strat_memory.proofs.PayingLemmas.{paid_as}
 
--- and while free blocks are written
+-- while free blocks are written, the contents are read that stand
+reads_beside : (v w : DiskView) (s : Held) (x : Contents) → StandsWith v s x → WritesBeside v w s → (c : Image) → Since w v.moment c → ReadsAs c x
+reads_beside v w s x stands beside c since = free_reads beside.free x (free_here v w s x stands beside) v w beside.tears stands.stands.reads c since
+
+-- so they are paid for
 pub paid_beside : (v w : DiskView) (s : Held) (x : Contents) → StandsWith v s x → WritesBeside v w s → IsPaid (contents_state x) → ArePaidSince w v.moment
-paid_beside v w s x stands beside paid c since =
-    paid_as c x (free_reads beside.free x (free_here v w s x stands beside) v w beside.tears stands.stands.reads c since) paid
+paid_beside v w s x stands beside paid c since = paid_as c x (reads_beside v w s x stands beside c since) paid
+
+-- and have the superblock that is held
+pub held_super : (s : Held) (x : Contents) (c : Image) → x ≡ contents_held s x.levels → ReadsAs c x → HasOldOrNext s.slot s.sb c
+held_super s x c held reads = inl (reads.newest ∙ ap (λ (y : Contents). Ok (Some (y.slot, y.sb))) held)
+
+pub super_beside : (v w : DiskView) (s : Held) (x : Contents) → StandsWith v s x → WritesBeside v w s → HaveOldOrNext w v.moment s.slot s.sb
+super_beside v w s x stands beside c since = held_super s x c stands.held (reads_beside v w s x stands beside c since)
+
+-- while the next superblock is laid, that one or the next one
+pub super_laid : (v : DiskView) (start : ℕ) (s : Held) (x : Contents) (sb : Super) (chained : Chained) (levels : List Level) (first size : ℕ) → x ≡ contents_held s x.levels → sb ≡ super_after s.sb first size
+    → ((c : Image) → Since v start c → ReadsAs c x ⊎ ReadsAs c (contents_next s sb chained levels)) → HaveOldOrNext v start s.slot s.sb
+super_laid v start s x sb chained levels first size held is either c since =
+    elim (either c since) [
+      | inl old ↦ held_super s x c held old
+      | inr new ↦ inr (sb, new.newest, ap (λ (b : Super). b.format) is, ap (λ (b : Super). b.generation) is)
+    ]
 
 -- the next manifest counts what was written
 pub counts_next : (w : DiskView) (s : Held) (x : Contents) → IsConsistent s → x ≡ contents_held s x.levels → (sb : Super) (chained : Chained) (filters : List LevelFilters) → IsReadied w s x sb chained filters → CountsWritten s.chained.manifest chained.manifest

@@ -1,3 +1,4 @@
+pub mod MarkedLemmas
 pub mod LookLawLemmas
 pub mod NeededLemmas
 pub mod PublishingLemmas
@@ -21,4 +22,3 @@ pub mod SettledLemmas
 pub mod CountingLemmas
 pub mod LaidLemmas
 pub mod PartsLemmas
-pub mod MarkedLemmas

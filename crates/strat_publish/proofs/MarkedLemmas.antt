@@ -1,8 +1,12 @@
--- The marks of the next manifest.
-use Rattle.std.proofs.Common.{◌≡◌, ◌≤◌, ◌-◌, ℕ, suc, false, List, ◌++◌, replicate, ap, ◌∙◌}
-use Rattle.strat_manifest.specs.ManifestView.{marks_of}
-use Rattle.strat_manifest.proofs.MarkLemmas.{all_zeros, marks_zeros}
+-- The marks of a manifest that was admitted.
+use Rattle.std.proofs.Common.{◌≡◌, true}
+use Rattle.strat_base.specs.Marks.{none_dropped}
+use Rattle.def_bytes.specs.SuperBlock.{Super}
+use Rattle.def_bytes.proofs.ManifestLemmas.{pass_at}
+use Rattle.def_recovery.proofs.PassedLemmas.{belonging_tests}
+use Rattle.strat_memory.specs.Admitting.{IsAdmitted, chained_of}
+use Rattle.strat_memory.specs.declared.admitting.Published.{Published}
 
--- so many zeros mark no version
-pub none_set : (n i : ℕ) (xs : List ℕ) → n ≤ i → xs ++ replicate (n - i) 0 ≡ replicate (suc n) 0 → marks_of xs ≡ replicate (suc n) false
-none_set n i xs over sofar = ap marks_of (all_zeros n i xs (replicate (suc n) 0) over sofar) ∙ marks_zeros (suc n)
+-- no version was dropped
+pub admitted_undropped : (sb : Super) (p : Published) → IsAdmitted sb p → none_dropped (chained_of p).manifest.marks ≡ true
+admitted_undropped sb p is = pass_at (belonging_tests sb (chained_of p)) 8 is.belonging

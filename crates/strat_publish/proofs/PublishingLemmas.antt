@@ -1,12 +1,12 @@
 -- A publication of a store: the sync, the laying of the next superblock, and the turn of the journal.
-use Rattle.std.proofs.Common.{◌≡◌, ◌≤◌, ◌<◌, ◌+◌, ◌*◌, ℕ, false, inl, inr, [], ◌∷◌, Some, Ok, refl, sym, subst, arith}
+use Rattle.std.proofs.Common.{◌≡◌, ◌≤◌, ◌<◌, ◌+◌, ◌*◌, ◌⊎◌, ℕ, false, inl, inr, [], ◌∷◌, Some, Ok, refl, sym, subst, arith}
 use Rattle.std.proofs.lemmas.Bool.{ltb-false}
 use Rattle.def_crash.specs.Blocks.{TearsBlocks}
 use Rattle.def_crash.specs.Image.{Image}
 use Rattle.def_crash.specs.Moments.{DiskView, Exposes, Images, Since, Passes, TearsOnly, OnlyReads, IsDurable}
 use Rattle.def_crash.specs.Trail.{Trail}
 use Rattle.def_crash.proofs.BlockLemmas.{reads_tear_none}
-use Rattle.def_crash.proofs.MomentLemmas.{now_since_start, settled_at, at_told}
+use Rattle.def_crash.proofs.MomentLemmas.{each_then, now_since_start, settled_at, at_told}
 use Rattle.def_bytes.specs.Layout.{region_at, first_free}
 use Rattle.def_bytes.specs.SuperBlock.{Super, newest_in}
 use Rattle.strat_gate.specs.Laying.{LaysOver, OldOrNew}
@@ -15,7 +15,7 @@ use Rattle.def_meaning.specs.StateTable.{table_of}
 use Rattle.def_publish.specs.Appending.{IsLogOf}
 use Rattle.def_publish.specs.Contents.{Contents, contents_state}
 use Rattle.def_publish.specs.Publication.{IsPrepared, LaysSuper, HasLaid}
-use Rattle.def_publish.specs.Standing.{ShowsTable, AreFree, LeavesContent, ContentsStand}
+use Rattle.def_publish.specs.Standing.{ReadsAs, ShowsTable, AreFree, LeavesContent, ContentsStand}
 use Rattle.def_publish.proofs.ComputedLemmas.{computed_prepared}
 use Rattle.def_publish.proofs.FreeLemmas.{read_trail, still_told}
 use Rattle.def_publish.proofs.PlaceLemmas.{places}
@@ -56,6 +56,13 @@ module _ (v0 v1 : DiskView) (slot : ℕ) (sb : Super) (log : Log) (x y : Content
   pub synced_paid : IsPaid (contents_state x) → ArePaidSince v1 v0.moment
   synced_paid paid = paid_reads v0 v1 x c.stands reads paid
 
+  -- an image of the old contents or of the new ones
+  abbrev pub IsEither : Image → Type 0
+  IsEither d = ReadsAs d x ⊎ ReadsAs d y
+
+  pub synced_either : (d : Image) → Since v1 v0.moment d → IsEither d
+  synced_either d since = inl (c.stands.reads d (reads.images.each d since))
+
   module _ (durable : IsDurable v1) (leaves1 : LeavesContent v1) where
     ready : IsPrepared v1 x y
     ready = computed_prepared v0 v1 x y c.made c.taken c.kept c.space c.others c.stands c.was c.next c.says c.used c.manifest reads durable leaves1
@@ -78,6 +85,9 @@ module _ (v0 v1 : DiskView) (slot : ℕ) (sb : Super) (log : Log) (x y : Content
       pub lay_paid : IsPaid (contents_state x) → IsPaid (contents_state y) → ArePaidSince v2 v0.moment
       lay_paid was is = paid_then v1 v2 v0.moment time (synced_paid was) (λ d since. elim (laying_reads v1 x y ready v2 lays d since) [ inl old ↦ paid_as d x old was | inr new ↦ paid_as d y new is ])
 
+      pub lay_either : (d : Image) → Since v2 v0.moment d → IsEither d
+      lay_either = each_then v1 v2 v0.moment IsEither time synced_either (laying_reads v1 x y ready v2 lays)
+
       module _ (settled : IsDurable v2) (found : (f : Image) → LaysOver v1 f slot sb → (d : Image) → Images v2 d → newest_in d ≡ Ok (Some (slot, sb)))
           (v3 : DiskView) (shut : TearsOnly v2 v3 (region_at log.mem log.active) 1) (passes : Passes v2 v3) where
         laid : HasLaid v1 v2 y.slot y.sb
@@ -94,6 +104,9 @@ module _ (v0 v1 : DiskView) (slot : ℕ) (sb : Super) (log : Log) (x y : Content
 
         pub turn_paid : IsPaid (contents_state x) → IsPaid (contents_state y) → ArePaidSince v3 v0.moment
         turn_paid was is = paid_then v2 v3 v0.moment passes (lay_paid was is) (λ d since. paid_as d y (shutting_reads v1 x y ready v2 lays laid v3 shut_there passes d since) is)
+
+        pub turn_either : (d : Image) → Since v3 v0.moment d → IsEither d
+        turn_either = each_then v2 v3 v0.moment IsEither passes lay_either (λ d since. inr (shutting_reads v1 x y ready v2 lays laid v3 shut_there passes d since))
 
         pub turn_stands : LeavesContent v2 → LeavesContent v3 → ((f : Image) → Exposes v2 f → IsDurable v2 → IsRegionShut v3 log.mem log.active) → ContentsStand v3 y
         turn_stands leaves2 leaves3 none =

@@ -1,11 +1,11 @@
 -- A publication of a store: what takes the place of what the store holds.
-use Rattle.std.specs.Prelude.{◌≡◌, ◌≢◌, ◌⊎◌, ◌≤◌, ◌<◌, ◌==◌, ℕ, ◌+◌, ◌-◌, ◌^◌, ◌&&◌, nat_le, nat_lt, Bool, true, false, List, [], drop, length, Contains, Option, None, Some, IsTrue}
+use Rattle.std.specs.Prelude.{◌≡◌, ◌≢◌, ◌⊎◌, ◌≤◌, ◌<◌, ◌==◌, ℕ, ◌+◌, ◌-◌, ◌^◌, ◌&&◌, nat_le, nat_lt, Bool, true, false, List, [], drop, length, Contains, Option, None, Some, Ok, IsTrue}
 use Rattle.std.specs.List.{count_by, list_all}
 use Rattle.strat_base.specs.declared.descriptors.ArrayDesc.{ArrayDesc}
 use Rattle.strat_base.specs.declared.descriptors.LevelDesc.{LevelDesc}
 use Rattle.def_crash.specs.Blocks.{AgreeOn, TearsBlocks}
 use Rattle.def_crash.specs.Image.{Image}
-use Rattle.def_crash.specs.Moments.{DiskView, Exposes}
+use Rattle.def_crash.specs.Moments.{DiskView, Exposes, Since}
 use Rattle.strat_cursor.specs.Cursors.{retired_all}
 use Rattle.strat_cursor.specs.Held.{HeldCursors}
 use Rattle.strat_extent.specs.Blocks.{times_in}
@@ -13,7 +13,7 @@ use Rattle.def_bytes.specs.Arrays.{blocks_of}
 use Rattle.def_bytes.specs.Chained.{Chained}
 use Rattle.def_bytes.specs.Layout.{other_region, newest_format}
 use Rattle.def_bytes.specs.Manifest.{Manifest}
-use Rattle.def_bytes.specs.SuperBlock.{Super, IsLawful}
+use Rattle.def_bytes.specs.SuperBlock.{Super, IsLawful, newest_in}
 use Rattle.strat_journal.specs.Log.{region_turned}
 use Rattle.strat_model.specs.declared.replies.Refusal.TheVariants as why
 use Rattle.strat_model.specs.declared.replies.Reply.{Reply}
@@ -49,6 +49,21 @@ super_after sb first size = record sb {
   length = size;
   region = other_region sb.region;
 }
+
+-- an image has this superblock as its newest one, or one that a publication lays after it, which is in the newest format
+abbrev pub HasOldOrNext : ℕ → Super → Image → Type 0
+HasOldOrNext slot sb c =
+    (newest_in c ≡ Ok (Some (slot, sb)))
+    ⊎ ((next : Super) × (newest_in c ≡ Ok (Some (1 - slot, next)))
+    × (next.format ≡ newest_format) × (next.generation ≡ sb.generation + 1))
+
+-- whatever a crash may leave from a moment on has this superblock as its newest one
+abbrev pub KeepSuper : DiskView → ℕ → ℕ → Super → Type 0
+KeepSuper v start slot sb = (c : Image) → Since v start c → newest_in c ≡ Ok (Some (slot, sb))
+
+-- or one that a publication lays after it
+abbrev pub HaveOldOrNext : DiskView → ℕ → ℕ → Super → Type 0
+HaveOldOrNext v start slot sb = (c : Image) → Since v start c → HasOldOrNext slot sb c
 
 -- the arrays of a manifest that a promotion down to a level took
 abbrev pub arrays_taken : ℕ → Manifest → List ArrayDesc
@@ -228,3 +243,6 @@ pub record LeavesPublished (before now : DiskView) (old : Held) (carried : Bool)
       → ArePaidSince now before.moment
   pub counted : (x : Contents) → StandsWith before old x
       → KeepsCount old.chained.manifest new.chained.manifest
+  -- and it has the superblock that the store held, or the one that a publication lays after it
+  pub superblocks : (x : Contents) → StandsWith before old x
+      → HaveOldOrNext now before.moment old.slot old.sb

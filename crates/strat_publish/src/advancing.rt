@@ -7,6 +7,7 @@ ghost use Rattle.def_crash.specs.Faults.{HasCause};
 ghost use Rattle.def_crash.specs.Image.{Image};
 ghost use Rattle.def_crash.specs.Moments.{Exposes, Passes};
 ghost use Rattle.def_crash.specs.Trail.{Trail};
+ghost use Rattle.strat_gate.specs.SuperView.{super_of};
 ghost use Rattle.strat_manifest.specs.ManifestView.{manifest_of};
 ghost use Rattle.strat_promote.specs.Job.{IsBadInput, arrays_to, blocks_listed};
 ghost use Rattle.strat_promote.specs.Promotions.{ReadsOf, target_of};
@@ -27,7 +28,7 @@ ghost use Rattle.strat_memory.specs.RecoveredFields.{held_of, open_of};
 ghost use Rattle.strat_publish.specs.Advancing.{HasAdvanced, HasEmptied, SlicesInBudget, StaysOpen};
 ghost use Rattle.strat_publish.specs.Outcomes.{IsDamagedIn, IsOkOrShort, RanShort};
 ghost use Rattle.strat_publish.specs.Promoting.{KeepsOpenToBudget, StandsOpenWith};
-ghost use Rattle.strat_publish.specs.Settling.{IsInstalled, KeepsCursors, KeepsPublished, TakesOpen};
+ghost use Rattle.strat_publish.specs.Settling.{HaveOldOrNext, IsInstalled, KeepsCursors, KeepsPublished, TakesOpen};
 
 use crate::begin::open_now;
 use crate::checkpoint::{publish_made, seal_for_next};
@@ -88,7 +89,9 @@ fn go_on<D: Disk>(
         → StandsOpenWith (D.view disk.old) (held_of held.old cached) x (open_of promoting)
         → Trail ShowsTable (D.view disk.new) (D.view disk.old).moment
         (table_of (contents_state x) ∷ []) 0
-        × (IsPaid (contents_state x) → ArePaidSince (D.view disk.new) (D.view disk.old).moment) }
+        × (IsPaid (contents_state x) → ArePaidSince (D.view disk.new) (D.view disk.old).moment)
+        × HaveOldOrNext (D.view disk.new) (D.view disk.old).moment held.old.slot
+        (super_of held.old.sb) }
     ensures kept { OnOk result ((cached : Blocks) → IsConsistent (held_of held.new cached))
         × (RanShort result → (x : Contents) (cached : Blocks)
         → StandsWith (D.view disk.old) (held_of held.old cached) x
@@ -154,7 +157,9 @@ pub fn advance<D: Disk>(alloc: Global, held: &mut OpenStore, disk: &mut D) -> Re
         → StandsWith (D.view disk.old) (held_of held.old cached) x
         → Trail ShowsTable (D.view disk.new) (D.view disk.old).moment
         (table_of (contents_state x) ∷ []) 0
-        × (IsPaid (contents_state x) → ArePaidSince (D.view disk.new) (D.view disk.old).moment) }
+        × (IsPaid (contents_state x) → ArePaidSince (D.view disk.new) (D.view disk.old).moment)
+        × HaveOldOrNext (D.view disk.new) (D.view disk.old).moment held.old.slot
+        (super_of held.old.sb) }
     ensures kept { (IsOkOrShort result → (cached : Blocks)
         → IsConsistent (held_of held.new cached))
         × (RanShort result → (x : Contents) (cached : Blocks)

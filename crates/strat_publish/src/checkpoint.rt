@@ -1,12 +1,12 @@
 //! The checkpoint at the end of a promotion: what it made is named by a new manifest, and that becomes the store's.
 
 ghost use Rattle.std.specs.List.{list_all};
-ghost use Rattle.std.specs.Prelude.{◌≡◌, ◌<◌, ◌≤◌, ℕ, ◌+◌, ◌-◌, ◌^◌, [], ◌∷◌, length, min, nat_le, is_some, true, None, IfOk, OnOk, OnErr, IsErrOf, IsTrue};
+ghost use Rattle.std.specs.Prelude.{◌≡◌, ◌<◌, ◌≤◌, ℕ, ◌+◌, ◌-◌, ◌^◌, [], ◌∷◌, length, min, nat_le, is_some, true, None, IfOk, OnOk, OnErr, IsErrOf, IsTrue, ◌⊎◌};
 ghost use Rattle.strat_array.specs.Kept.{Blocks};
 ghost use Rattle.def_crash.specs.Blocks.{TearsBlocks, AgreeOn};
 ghost use Rattle.def_crash.specs.Faults.{CountsFaults, HasCause};
 ghost use Rattle.def_crash.specs.Image.{Image};
-ghost use Rattle.def_crash.specs.Moments.{Exposes, Passes};
+ghost use Rattle.def_crash.specs.Moments.{Exposes, Since, Passes};
 ghost use Rattle.def_crash.specs.Trail.{Trail};
 ghost use Rattle.def_bytes.specs.Arrays.{blocks_of};
 ghost use Rattle.def_bytes.specs.Layout as places;
@@ -22,7 +22,7 @@ ghost use Rattle.def_meaning.specs.StateTable.{table_of};
 ghost use Rattle.def_publish.specs.Contents.{Contents, contents_state};
 ghost use Rattle.def_publish.specs.Next.{AreNewArrays, arrays_made};
 ghost use Rattle.def_publish.specs.Occupied.{arrays_in};
-ghost use Rattle.def_publish.specs.Standing.{ShowsTable, ContentsStand};
+ghost use Rattle.def_publish.specs.Standing.{ReadsAs, ShowsTable, ContentsStand};
 ghost use Rattle.def_state.specs.State.{IsPaid};
 ghost use Rattle.strat_publish.specs.Outcomes.{IsPublishedAs, IsOkOrShort, RanShort};
 ghost use Rattle.strat_memory.specs.Filters.{filters_after};
@@ -35,7 +35,7 @@ ghost use Rattle.strat_publish.specs.Publishing.{IsComputed, LaysSuperblock, Wri
 ghost use Rattle.strat_memory.specs.Admitting.{chained_of, IsAdmitted};
 ghost use Rattle.strat_memory.specs.RecoveredFields.{held_of, open_of};
 ghost use Rattle.strat_publish.specs.Promoting.{HasMade, StandsEnded, StandsMade};
-ghost use Rattle.strat_publish.specs.Settling.{super_after, held_next, ArePublishedTo, IsInstalled, KeepsPublished, MayBeAdmitted, MayFollow, StandApart, WritesBeside, IsReadied};
+ghost use Rattle.strat_publish.specs.Settling.{super_after, held_next, ArePublishedTo, HaveOldOrNext, IsInstalled, KeepsPublished, MayBeAdmitted, MayFollow, StandApart, WritesBeside, IsReadied};
 ghost use Rattle.def_bytes.specs.Layout.{newest_format};
 
 use crate::lay::lay_next;
@@ -203,7 +203,7 @@ fn admit_next(alloc: Global, held: &OpenStore, computed: Computed) -> Result<Nex
 
 /// Writes the next contents of a store but for their superblock beside what it holds, and tests what their manifest
 /// says. Errors are those of `compute_beside`, and want of memory; `Unfit` never comes where the store stands.
-#[tactic(auto, using(strat_memory::proofs::AdmitLemmas::admitted_undropped))]
+#[tactic(auto, using(crate::proofs::MarkedLemmas::admitted_undropped))]
 fn prepare_next<D: Disk>(
     alloc: Global,
     held: &OpenStore,
@@ -334,7 +334,9 @@ fn install<D: Disk>(
         (super_of next.sb) held.old.journal x y → Trail ShowsTable (D.view disk.new)
         (D.view disk.old).moment (table_of (contents_state x) ∷ []) 0
         × (IsPaid (contents_state x) → IsPaid (contents_state y)
-        → ArePaidSince (D.view disk.new) (D.view disk.old).moment) }
+        → ArePaidSince (D.view disk.new) (D.view disk.old).moment)
+        × ((c : Image) → Since (D.view disk.new) (D.view disk.old).moment c
+        → ReadsAs c x ⊎ ReadsAs c y) }
     ensures disk { OnOk result (LaysSuperblock (D.view disk.old) (D.view disk.new)
         held.old.journal.mem (1 - held.old.slot) (super_of next.sb)) }
     ensures err { OnErr result ((held.new.memory ≡ held.old.memory)
@@ -390,7 +392,9 @@ pub(crate) fn publish_made<D: Disk>(
         → StandsEnded (D.view disk.old) (held_of held.old cached) x (open_of promoting)
         → Trail ShowsTable (D.view disk.new) (D.view disk.old).moment
         (table_of (contents_state x) ∷ []) 0
-        × (IsPaid (contents_state x) → ArePaidSince (D.view disk.new) (D.view disk.old).moment) }
+        × (IsPaid (contents_state x) → ArePaidSince (D.view disk.new) (D.view disk.old).moment)
+        × HaveOldOrNext (D.view disk.new) (D.view disk.old).moment held.old.slot
+        (super_of held.old.sb) }
     ensures kept { OnOk result ((cached : Blocks) → IsConsistent (held_of held.new cached))
         × (RanShort result → (x : Contents) (cached : Blocks)
         → StandsWith (D.view disk.old) (held_of held.old cached) x

@@ -1,12 +1,12 @@
 //! The writes of a checkpoint: the next contents of a store take the place of those that stand on its disk.
 
-ghost use Rattle.std.specs.Prelude.{IsTrue, ◌≡◌, ◌≤◌, ◌<◌, ◌+◌, ◌-◌, ◌^◌, ℕ, List, [], ◌∷◌, ◌++◌, Option, length, IsSome, IfOk, OnOk, OnErr, IsErrOf};
+ghost use Rattle.std.specs.Prelude.{IsTrue, ◌≡◌, ◌≤◌, ◌<◌, ◌+◌, ◌-◌, ◌^◌, ℕ, List, [], ◌∷◌, ◌++◌, Option, length, IsSome, IfOk, OnOk, OnErr, IsErrOf, ◌⊎◌};
 ghost use Rattle.strat_base.specs.declared.descriptors.Extent.{Extent as TheExtent};
 ghost use Rattle.strat_base.specs.declared.descriptors.LevelDesc.{LevelDesc as TheLevel};
 ghost use Rattle.def_crash.specs.Blocks.{TearsBlocks};
 ghost use Rattle.def_crash.specs.Faults.{CountsFaults, HasCause};
 ghost use Rattle.def_crash.specs.Image.{Image};
-ghost use Rattle.def_crash.specs.Moments.{Exposes, Passes, OnlyReads, IsDurable};
+ghost use Rattle.def_crash.specs.Moments.{Exposes, Since, Passes, OnlyReads, IsDurable};
 ghost use Rattle.def_crash.specs.Trail.{Trail};
 ghost use Rattle.strat_extent.specs.Blocks.{is_free, used_count};
 ghost use Rattle.strat_extent.specs.Change.{IsMarked, SameBlocks, AreLowest};
@@ -24,7 +24,7 @@ ghost use Rattle.def_publish.specs.Appending.{IsLogOf};
 ghost use Rattle.def_publish.specs.Contents.{Contents, contents_state};
 ghost use Rattle.def_publish.specs.Next.{IsNextOf, HasManifest, arrays_made};
 ghost use Rattle.def_publish.specs.Occupied.{IsSpaceOf, extents_of, arrays_in};
-ghost use Rattle.def_publish.specs.Standing.{ShowsTable, ContentsStand};
+ghost use Rattle.def_publish.specs.Standing.{ReadsAs, ShowsTable, ContentsStand};
 ghost use Rattle.def_state.specs.State.{IsPaid};
 ghost use Rattle.strat_memory.specs.Paying.{ArePaidSince};
 ghost use Rattle.strat_publish.specs.Publishing.{IsComputed, IsWrittenTo, LaysSuperblock, is_in_front};
@@ -118,7 +118,9 @@ pub(crate) fn lay_next<D: Disk>(
         → Trail ShowsTable (D.view disk.new) (D.view disk.old).moment
         (table_of (contents_state old) ∷ []) 0
         × (IsPaid (contents_state old) → IsPaid (contents_state new)
-        → ArePaidSince (D.view disk.new) (D.view disk.old).moment) }
+        → ArePaidSince (D.view disk.new) (D.view disk.old).moment)
+        × ((c : Image) → Since (D.view disk.new) (D.view disk.old).moment c
+        → ReadsAs c old ⊎ ReadsAs c new) }
     ensures kept { OnOk result ((old new : Contents)
         → IsComputed (D.view disk.old) slot (super_of sb.now) journal.old old new
         → ContentsStand (D.view disk.new) new × IsLogOf new journal.new) }

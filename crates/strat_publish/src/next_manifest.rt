@@ -1,6 +1,6 @@
 //! The next manifest of a store, computed in memory from the one before and from what a promotion made.
 
-ghost use Rattle.std.specs.Prelude.{◌≡◌, ◌≤◌, ◌<◌, ℕ, ◌+◌, ◌-◌, ◌*◌, ◌^◌, suc, List, [], ◌∷◌, ◌++◌, replicate, false, Contains, filter, length, take, min, nat_lt, IsSome, IsTrue, IfOk, OnOk, OnErr, IsErrOf};
+ghost use Rattle.std.specs.Prelude.{◌≡◌, ◌≤◌, ◌<◌, ℕ, ◌+◌, ◌-◌, ◌*◌, ◌^◌, List, ◌++◌, Contains, filter, length, take, min, nat_lt, IsSome, IsTrue, IfOk, OnOk, OnErr, IsErrOf};
 ghost use Rattle.std.specs.Option.{option_to_list};
 ghost use Rattle.strat_base.specs.declared.descriptors.Extent.{Extent};
 ghost use Rattle.def_crash.specs.Blocks.{TearsBlocks};
@@ -12,7 +12,7 @@ ghost use Rattle.def_bytes.specs.Arrays.{blocks_of};
 ghost use Rattle.def_bytes.specs.Manifest.{is_lawful_manifest, manifest_bytes};
 ghost use Rattle.strat_extent.specs.Change.{IsMarked, SameBlocks};
 ghost use Rattle.strat_journal.specs.Log.{Log};
-ghost use Rattle.strat_manifest.specs.ManifestView.{marks_of, manifest_of};
+ghost use Rattle.strat_manifest.specs.ManifestView.{manifest_of};
 ghost use Rattle.strat_promote.specs.Promotions.{entries_if_any};
 ghost use Rattle.strat_promote.specs.Spaces.{HasFewFree};
 ghost use Rattle.strat_promote.specs.declared.obstacle.Obstacle.TheVariants as obstacle;
@@ -29,10 +29,10 @@ use crate::lay::write_next;
 use crate::made::Made;
 use def_bytes::NEWEST_FORMAT;
 use std::alloc::Global;
-use strat_base::{Extents, LevelDesc, NoMemory, Versions};
+use strat_base::{Extents, LevelDesc, NoMemory};
 use strat_disk::Disk;
 use strat_extent::Space;
-use strat_manifest::{LevelList, Manifest, Parents, is_writable};
+use strat_manifest::{LevelList, Manifest, Parents, is_writable, living_marks};
 use strat_memory::copying::add_copy;
 use strat_memory::memory::Memory;
 use strat_promote::obstacle::{Obstacle, Unfit};
@@ -94,29 +94,6 @@ fn parents_of(alloc: Global, tree: &Tree, versions: u32) -> Result<Parents, NoMe
     Ok(parents)
 }
 
-/// Adds the mark of a version that was not dropped.
-fn add_living(marks: &mut Versions) -> Result<(), NoMemory>
-    ensures ok { OnOk result (marks.new ≡ marks.old ++ 0 ∷ []) }
-{
-    match marks.push(0) {
-        Ok(()) => Ok(()),
-        Err((failed, _)) => Err(failed),
-    }
-}
-
-/// The marks of version 0 and of so many more, of which none was dropped: no build drops versions yet.
-#[tactic(auto, using(strat_manifest::proofs::MarkLemmas::one_more_zero, crate::proofs::MarkedLemmas::none_set))]
-fn living_marks(alloc: Global, more: usize) -> Result<Versions, NoMemory>
-    ensures ok { IfOk result (λ marks. marks_of marks ≡ replicate (suc more) false) }
-{
-    let mut marks = Versions::new(alloc);
-    add_living(&mut marks)?;
-    for _ in 0..more {
-        add_living(&mut marks)?;
-    }
-    Ok(marks)
-}
-
 /// How many arrays a promotion made.
 fn count_made(made: &Made) -> u64
     ensures ok { result ≡ length (arrays_made made.now.level) }
@@ -168,6 +145,7 @@ pub(crate) fn next_manifest(
     let (_, _, tree) = memory.sealed_parts();
     let (versions, changes, updates) = memory.sealed_counts();
     let parents = parents_of(alloc, tree, versions)?;
+    // no build drops versions yet
     let marks = living_marks(alloc, parents.len())?;
     let levels = next_levels(alloc, made, old.levels.as_slice())?;
     Ok(Manifest {

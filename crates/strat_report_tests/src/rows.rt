@@ -1,6 +1,8 @@
 //! What is written of stores that were served.
 
-use crate::support::{new_store, run, small_store, tells_check, tells_levels, tells_summary};
+use crate::support::{
+    format_of, new_store, old_store, run, small_store, tells_check, tells_levels, tells_summary,
+};
 use std::alloc::Global;
 use strat_disk::MemDisk;
 use strat_model::Ended;
@@ -231,4 +233,24 @@ fn workloads_are_summed_up(rt: HostRuntime) {
             SUMMARY_OF_FAN
         )
     );
+}
+
+/// Whether a store of format 1 is reported as one of format 2 is, and is of format 2 after thirteen puts.
+fn moves_on(alloc: Global, store: Option<MemDisk>) -> bool {
+    match store {
+        Some(mut disk) => {
+            tells_levels(alloc, &mut disk, OF_NONE, Ended::Done)
+                && tells_check(alloc, &mut disk, b"sound\n", Ended::Done)
+                && format_of(&mut disk) == Some(1)
+                && row(alloc, disk.crash(0).ok(), ONE_KEY, OF_ONE_KEY)
+                && run(alloc, &mut disk, ONE_KEY) == Some(Ended::Done)
+                && format_of(&mut disk) == Some(2)
+        }
+        None => false,
+    }
+}
+
+#[test]
+fn old_stores_are_reported_and_move_on(rt: HostRuntime) {
+    assert!(rt; moves_on(rt.alloc(), old_store(rt.alloc())));
 }

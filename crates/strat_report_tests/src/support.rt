@@ -1,9 +1,11 @@
 //! New stores in memory, served with frames, and what is written of them.
 
+ghost use Rattle.std.specs.Prelude.{◌≤◌};
 ghost use Rattle.def_bytes.specs.SuperBlock.{AreLimits};
 
 use std::alloc::Global;
 use strat_disk::{Disk, MemDisk};
+use strat_gate::newest;
 use strat_io::{MemSink, MemSource};
 use strat_model::Ended;
 use strat_report::{write_check, write_levels, write_summary};
@@ -13,20 +15,46 @@ use strat_store::format;
 /// What a run may read here.
 const BUDGET: u64 = 100_000;
 
-/// A disk with a new store of these limits, which has counted no call.
-pub fn new_store(alloc: Global, mem: u32, changes: u32, versions: u32) -> Option<MemDisk>
-    requires { AreLimits mem changes versions }
+/// A disk with a new store of a format and these limits, which has counted no call.
+fn store_of_format(
+    alloc: Global,
+    number: u16,
+    mem: u32,
+    changes: u32,
+    versions: u32,
+) -> Option<MemDisk>
+    requires fits { (1 ≤ number) × (number ≤ 2) × AreLimits mem changes versions }
 {
     let mut disk = MemDisk::new(alloc, &[]).ok()?;
-    if format(alloc, &mut disk, 2, mem, changes, versions).is_err() {
+    if format(alloc, &mut disk, number, mem, changes, versions).is_err() {
         return None;
     }
     disk.crash(0).ok()
 }
 
+/// A disk with a new store of these limits, which has counted no call.
+pub fn new_store(alloc: Global, mem: u32, changes: u32, versions: u32) -> Option<MemDisk>
+    requires { AreLimits mem changes versions }
+{
+    store_of_format(alloc, 2, mem, changes, versions)
+}
+
 /// A disk with a small store, which takes four changes before it publishes.
 pub fn small_store(alloc: Global) -> Option<MemDisk> {
     new_store(alloc, 4, 100, 10)
+}
+
+/// The same in format 1, as builds before format 2 made it.
+pub fn old_store(alloc: Global) -> Option<MemDisk> {
+    store_of_format(alloc, 1, 4, 100, 10)
+}
+
+/// The format that the newest superblock on a disk says.
+pub fn format_of(disk: &mut MemDisk) -> Option<u16> {
+    match newest(disk) {
+        Ok(Some((_, sb))) => Some(sb.format),
+        _ => None,
+    }
 }
 
 /// How a run over a disk ends that is given these frames.

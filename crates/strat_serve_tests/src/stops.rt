@@ -6,10 +6,11 @@ use crate::scripts::{
     Beside, CHANGES, LOOKS, SLICING, Script, all_accepted, changes_among, changes_of,
     count_accepted, fresh_beside, stay_alike,
 };
-use crate::support::{THIRTEEN_PUTS, new_store, run, small_store};
+use crate::support::{THIRTEEN_PUTS, new_store, old_store, run, small_store};
 use std::alloc::Global;
 use strat_base::PairBuf;
 use strat_disk::{Disk, FuseDisk, MemDisk};
+use strat_gate::newest;
 use strat_store::{AttachFault, Store};
 
 /// A list of changes, how many they are, those that look up what they set, and how many of the changes become durable
@@ -235,14 +236,34 @@ fn a_store_is_opened_at_each_fill(rt: HostRuntime) {
     assert!(rt; opens_after_each(rt.alloc(), &five, plan));
 }
 
+/// Whether the newest superblock on a disk says the format that the store was made in if it is the first one, and otherwise
+/// format 2.
+fn says_its_format(disk: &mut MemDisk, made_in: u16) -> bool {
+    match newest(disk) {
+        Ok(Some((_, sb))) if sb.generation == 1 => sb.format == made_in,
+        Ok(Some((_, sb))) => sb.format == 2,
+        _ => false,
+    }
+}
+
+/// Whether it does after each crash.
+fn leaves_old_or_new(disk: &MemDisk, made_in: u16) -> bool {
+    (0..3).all(|choice| match disk.crash(choice) {
+        Ok(mut after) => says_its_format(&mut after, made_in),
+        Err(_) => false,
+    })
+}
+
 /// How many of the thirteen puts a run on a disk that fails after so many calls answers as done, where each crash then
 /// leaves such a store.
-fn served(alloc: Global, store: &MemDisk, plan: Plan, calls: u64) -> Option<u32> {
+fn served(alloc: Global, store: &MemDisk, plan: Plan, made_in: u16, calls: u64) -> Option<u32> {
     let mut fuse = FuseDisk::new(store.crash(0).ok()?, calls);
     let (_, sink) = run(alloc, &mut fuse, THIRTEEN_PUTS)?;
     let done = done_in(sink.bytes());
     let disk = fuse.into_inner();
-    survives_each(alloc, &disk, plan, done, calls).then_some(done)
+    let leaves = leaves_old_or_new(&disk, made_in)
+        && survives_each(alloc, &disk, plan, done, calls);
+    leaves.then_some(done)
 }
 
 /// How many of the replies to puts say that one was done.
@@ -255,21 +276,17 @@ fn done_in(replies: &[u8]) -> u32 {
 }
 
 /// After how many calls a run answers each of the thirteen as done, where each stop leaves such a store.
-fn served_stops(alloc: Global, store: &MemDisk, plan: Plan) -> Option<u64> {
+fn served_stops(alloc: Global, store: &MemDisk, plan: Plan, made_in: u16) -> Option<u64> {
     for calls in 0..1000 {
-        if served(alloc, store, plan, calls)? == 13 {
+        if served(alloc, store, plan, made_in, calls)? == 13 {
             return Some(calls);
         }
     }
     None
 }
 
-#[test]
-fn a_crash_leaves_every_put_that_was_acknowledged(rt: HostRuntime) {
-    let Some(store) = small_store(rt.alloc()) else {
-        assert!(rt; false);
-        return;
-    };
+/// Whether a store keeps every put that was acknowledged, wherever it is stopped.
+fn keeps_puts(alloc: Global, store: Option<MemDisk>, made_in: u16) -> bool {
     let plan = Plan {
         run: Run::Changes,
         script: Script::Thirteen,
@@ -278,5 +295,21 @@ fn a_crash_leaves_every_put_that_was_acknowledged(rt: HostRuntime) {
         looks: 13,
         batch: 4,
     };
-    assert!(rt; served_stops(rt.alloc(), &store, plan).is_some_and(|calls| calls > 52));
+    match store {
+        Some(store) => {
+            served_stops(alloc, &store, plan, made_in).is_some_and(|calls| calls > 52)
+        }
+        None => false,
+    }
+}
+
+#[test]
+fn a_crash_leaves_every_put_that_was_acknowledged(rt: HostRuntime) {
+    assert!(rt; keeps_puts(rt.alloc(), small_store(rt.alloc()), 2));
+}
+
+// The first checkpoint brings it to format 2.
+#[test]
+fn a_crash_leaves_every_put_in_an_old_store(rt: HostRuntime) {
+    assert!(rt; keeps_puts(rt.alloc(), old_store(rt.alloc()), 1));
 }

@@ -1,6 +1,6 @@
 //! New stores in memory, and runs over them.
 
-ghost use Rattle.std.specs.Prelude.{◌<◌};
+ghost use Rattle.std.specs.Prelude.{◌<◌, ◌≤◌};
 ghost use Rattle.def_bytes.specs.SuperBlock.{AreLimits};
 
 use std::alloc::Global;
@@ -50,20 +50,38 @@ pub const THIRTEEN_PUTS: &[u8] = b"\
 /// What a run may read here.
 const BUDGET: u64 = 100_000;
 
-/// A disk with a new store of these limits, which has counted no call.
-pub fn new_store(alloc: Global, mem: u32, changes: u32, versions: u32) -> Option<MemDisk>
-    requires { AreLimits mem changes versions }
+/// A disk with a new store of a format and these limits, which has counted no call.
+fn store_of_format(
+    alloc: Global,
+    number: u16,
+    mem: u32,
+    changes: u32,
+    versions: u32,
+) -> Option<MemDisk>
+    requires fits { (1 ≤ number) × (number ≤ 2) × AreLimits mem changes versions }
 {
     let mut disk = MemDisk::new(alloc, &[]).ok()?;
-    if format(alloc, &mut disk, 2, mem, changes, versions).is_err() {
+    if format(alloc, &mut disk, number, mem, changes, versions).is_err() {
         return None;
     }
     disk.crash(0).ok()
 }
 
+/// A disk with a new store of these limits, which has counted no call.
+pub fn new_store(alloc: Global, mem: u32, changes: u32, versions: u32) -> Option<MemDisk>
+    requires { AreLimits mem changes versions }
+{
+    store_of_format(alloc, 2, mem, changes, versions)
+}
+
 /// A disk with a small store, which takes four changes.
 pub fn small_store(alloc: Global) -> Option<MemDisk> {
     new_store(alloc, 4, 100, 10)
+}
+
+/// The same in format 1, as builds before format 2 made it.
+pub fn old_store(alloc: Global) -> Option<MemDisk> {
+    store_of_format(alloc, 1, 4, 100, 10)
 }
 
 /// How a run over a disk ends that is given these bytes, so many at a time, and the sink that it fills.

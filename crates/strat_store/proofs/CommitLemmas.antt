@@ -1,5 +1,5 @@
 -- Staged changes that become durable: what the disk then has, and that the store stands on it.
-use Rattle.std.proofs.Common.{◌≡◌, ◌<◌, ◌≤◌, ◌+◌, ℕ, Bool, true, false, List, length, refl, sym, ap, subst, arith}
+use Rattle.std.proofs.Common.{◌≡◌, ◌<◌, ◌≤◌, ◌+◌, ℕ, Bool, true, false, inl, List, length, Some, Ok, refl, sym, ap, ◌∙◌, subst, arith}
 use Rattle.def_crash.specs.Blocks.{AgreeOn, KeepsTaken}
 use Rattle.def_crash.specs.Image.{Image}
 use Rattle.def_crash.specs.Moments.{DiskView, Exposes}
@@ -18,13 +18,13 @@ use Rattle.strat_memory.specs.Held.{Held, IsConsistent, IsOnDisk, IsOpenAt, Stan
 use Rattle.strat_memory.specs.Paying.{ArePaidSince}
 use Rattle.strat_promote.specs.Job.{blocks_listed}
 use Rattle.strat_publish.specs.Publishing.{is_in_front}
-use Rattle.strat_publish.specs.Settling.{KeepsPublished, LeavesPublished}
+use Rattle.strat_publish.specs.Settling.{HaveOldOrNext, KeepsPublished, LeavesPublished}
 use Rattle.strat_store.specs.Staging.{FollowsBatch, held_joined}
 use Rattle.strat_store.proofs.AppliedLemmas.{going_kept, rows_kept}
 use Rattle.strat_store.proofs.ChangingLemmas.{cached_behind}
 use Rattle.strat_store.proofs.GoingLemmas.{none_open, open_none}
 use Rattle.strat_store.proofs.LeavingLemmas.{front_keeps, leaves_room, logged_leaves}
-use Rattle.strat_store.proofs.LoggingLemmas.{appended_behind, batch_low, batch_paid, taking_here}
+use Rattle.strat_store.proofs.LoggingLemmas.{appended_behind, batch_low, batch_paid, batch_super, taking_here}
 use Rattle.strat_store.proofs.StagingLemmas.{staged_log, takes_batch}
 
 -- a store whose staged changes were appended, or were to be
@@ -53,6 +53,12 @@ module _ (old new : DiskView) (s : Held) (whole : IsConsistent (held_joined s)) 
     commit_paid : IsPaid (contents_state x) → ArePaidSince new old.moment
     commit_paid = batch_paid old new x s.log stands.stands (staged_log old s x whole stands) appends sound
 
+    commit_pays : (IsPaid (contents_state x) → ArePaidSince new old.moment) × HaveOldOrNext new old.moment s.slot s.sb
+    commit_pays = (
+      commit_paid,
+      λ c since. inl (batch_super old new x s.log stands.stands (staged_log old s x whole stands) appends sound c since ∙ ap (λ (y : Contents). Ok (Some (y.slot, y.sb))) stands.held),
+    )
+
     -- where it became durable the contents with the batch stand
     module _ (log : Log) (joins : log ≡ batch_joined s.log) (kept : (f : Image) → Exposes old f → Stands old s.log → Stands new log) where
       done : Stands new (batch_joined s.log)
@@ -66,7 +72,7 @@ module _ (old new : DiskView) (s : Held) (whole : IsConsistent (held_joined s)) 
 
   -- what is left where the device failed
   pub commit_failed : (t : Held) (b : Bool) → KeepsPublished s t → t.promoting ≡ s.promoting → LeavesPublished old new s false (reply.Refused why.DeviceFault) (record t { spent = b })
-  commit_failed t b same going = leaves_room old new s t false (reply.Refused why.DeviceFault) b room same going (λ other. absurd (other refl)) commit_paid (λ other. absurd (other refl))
+  commit_failed t b same going = leaves_room old new s t false (reply.Refused why.DeviceFault) b room same going (λ other. absurd (other refl)) commit_pays (λ other. absurd (other refl))
 
   -- and where the batch is durable
   module _ (holds : HoldsBatch old new s.log) where
@@ -79,7 +85,7 @@ module _ (old new : DiskView) (s : Held) (whole : IsConsistent (held_joined s)) 
     agree = front_keeps old new (held_joined s) whole behind
 
     pub commit_leaves : (t : Held) (b : Bool) → KeepsPublished s t → t.promoting ≡ s.promoting → LeavesPublished old new s true reply.Done (record t { spent = b })
-    commit_leaves t b same going = leaves_room old new s t true reply.Done b room same going (λ other. commit_on t same going behind) commit_paid (λ other. agree)
+    commit_leaves t b same going = leaves_room old new s t true reply.Done b room same going (λ other. commit_on t same going behind) commit_pays (λ other. agree)
 
     -- the store stands with the batch in its journal
     pub commit_at : (x : Contents) (rows : List Cursor) → ContentsStand new (with_batch x s.log.batch) → StandsAt old s x rows → StandsAt new (held_joined s) (with_batch x s.log.batch) rows

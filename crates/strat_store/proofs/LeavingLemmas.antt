@@ -1,5 +1,5 @@
 -- What a command leaves of the superblock and the manifest of a store.
-use Rattle.std.proofs.Common.{◌≡◌, ◌≢◌, ◌≤◌, ◌<◌, ◌+◌, ◌*◌, ◌&&◌, ℕ, Bool, true, false, inl, inr, List, length, Contains, Option, Some, None, refl, sym, ap, ◌∙◌, subst, arith, true≢false}
+use Rattle.std.proofs.Common.{◌≡◌, ◌≢◌, ◌≤◌, ◌<◌, ◌+◌, ◌*◌, ◌&&◌, ℕ, Bool, true, false, inl, inr, List, length, Contains, Option, Some, None, Ok, refl, sym, ap, ◌∙◌, subst, arith, true≢false}
 use Rattle.std.specs.Prelude.{IfSome, option_map}
 use Rattle.std.proofs.lemmas.Grind.{flat_map-append}
 use Rattle.std.proofs.lemmas.List.Elements.{Contains-append_left, Contains-append_right}
@@ -14,7 +14,7 @@ use Rattle.strat_base.specs.declared.failures.Trouble.TheVariants as trouble
 use Rattle.def_crash.proofs.BlockLemmas.{keeps_trans}
 use Rattle.def_crash.specs.Blocks.{AgreeOn, KeepsTaken}
 use Rattle.def_crash.specs.Image.{Image}
-use Rattle.def_crash.specs.Moments.{DiskView, Exposes, Passes, TearsOnly, OnlyReads}
+use Rattle.def_crash.specs.Moments.{DiskView, Exposes, Since, Passes, TearsOnly, OnlyReads}
 use Rattle.strat_cursor.proofs.RetiredLemmas.{retired_rest}
 use Rattle.strat_cursor.specs.Cursors.{retired_all}
 use Rattle.strat_cursor.specs.Held.{AreRowsOf, HeldCursor, HeldCursors}
@@ -23,7 +23,7 @@ use Rattle.def_bytes.specs.Arrays.{blocks_of}
 use Rattle.def_bytes.specs.Chained.{Chained}
 use Rattle.def_bytes.specs.Layout.{first_free, region_at, region_size}
 use Rattle.def_bytes.specs.Manifest.{Manifest}
-use Rattle.def_bytes.specs.SuperBlock.{Super}
+use Rattle.def_bytes.specs.SuperBlock.{Super, newest_in}
 use Rattle.strat_model.specs.Answer.{Answer, accepts}
 use Rattle.strat_model.specs.Request.{Request, Put, Delete, Clone, DropVersion}
 use Rattle.strat_model.specs.Run.{is_change}
@@ -36,10 +36,11 @@ use Rattle.strat_promote.specs.Job.{arrays_to, blocks_listed}
 use Rattle.strat_promote.specs.Promotions.{ReadsOf, target_of}
 use Rattle.def_meaning.specs.StateTable.{request_for}
 use Rattle.def_publish.specs.Contents.{Contents, contents_state}
+use Rattle.def_publish.specs.Standing.{ReadsAs}
 use Rattle.def_slice.specs.Opened.{OpenPromotion}
 use Rattle.def_state.specs.State.{IsPaid}
 use Rattle.strat_store.specs.Cursoring.{LeavesCursors}
-use Rattle.strat_memory.specs.Held.{HasReadFrom, Held, ArePlaced, IsConsistent, IsOnDisk, StandsWith, arrays_held}
+use Rattle.strat_memory.specs.Held.{HasReadFrom, Held, ArePlaced, IsConsistent, IsOnDisk, StandsWith, arrays_held, contents_held}
 use Rattle.strat_memory.specs.Memory.{IsReadyFrom, KeepsRows, Memory, refusal_of_change, reply_to}
 use Rattle.strat_memory.specs.Paying.{ArePaidSince}
 use Rattle.strat_publish.specs.Counting.{CountsWritten}
@@ -49,7 +50,7 @@ use Rattle.strat_publish.specs.Advancing.{StaysOpen}
 use Rattle.strat_store.specs.Applying.{held_after}
 use Rattle.strat_publish.specs.Publishing.{is_in_front}
 use Rattle.strat_memory.specs.Filters.{LevelFilters}
-use Rattle.strat_publish.specs.Settling.{ArePublishedAfter, KeepsCursors, KeepsPublished, HasPublished, LeavesPublished, arrays_taken, carries_out}
+use Rattle.strat_publish.specs.Settling.{ArePublishedAfter, HaveOldOrNext, KeepSuper, KeepsCursors, KeepsPublished, HasPublished, LeavesPublished, arrays_taken, carries_out}
 use Rattle.strat_memory.specs.declared.open_store.OpenStore.{OpenStore}
 use Rattle.strat_publish.proofs.AdvancingLemmas.{read_open}
 use Rattle.strat_publish.proofs.KeptLemmas.{behind_kept, left_held}
@@ -184,6 +185,22 @@ keeps_spent s t b same = record { slot = same.slot; sb = same.sb; chained = same
 pub on_spent : (v : DiskView) (s : Held) (b : Bool) → IsOnDisk v s → IsOnDisk v (record s { spent = b })
 on_spent v s b on = record { content = on.content; exposed = on.exposed; newest = on.newest; chain = on.chain; read = on.read }
 
+-- an image of contents that a store holds has the superblock that it holds
+pub super_held : (s : Held) (x : Contents) (c : Image) → x ≡ contents_held s x.levels → ReadsAs c x → newest_in c ≡ Ok (Some (s.slot, s.sb))
+super_held s x c held reads = reads.newest ∙ ap (λ (y : Contents). Ok (Some (y.slot, y.sb))) held
+
+-- what keeps that of a store which holds the same, or of one that has published since, has the old one or the next one
+pub super_kept : (w : DiskView) (start : ℕ) (s mid : Held) → KeepsPublished s mid → KeepSuper w start mid.slot mid.sb → HaveOldOrNext w start s.slot s.sb
+super_kept w start s mid same keeps c since = inl (keeps c since ∙ (λ i. Ok (Some (same.slot i, same.sb i))))
+
+pub super_next : (w : DiskView) (start : ℕ) (s mid : Held) → HasPublished s mid → KeepSuper w start mid.slot mid.sb → HaveOldOrNext w start s.slot s.sb
+super_next w start s mid has keeps c since = inr (
+  mid.sb,
+  keeps c since ∙ ap (λ (n : ℕ). Ok (Some (n, mid.sb))) has.slot,
+  ap (λ (b : Super). b.format) has.after.are.sb_is,
+  ap (λ (b : Super). b.generation) has.after.are.sb_is,
+)
+
 -- nothing was carried out
 pub left_alone : (v w : DiskView) (s : Held) (carried : Bool) (told : Reply) (b : Bool) → carried ≡ false → OnlyReads v w → LeavesPublished v w s carried told (record s { spent = b })
 left_alone v w s carried told b none reads =
@@ -196,6 +213,7 @@ left_alone v w s carried told b none reads =
       on_disk = λ other on. on_spent w s b (read_on v w s on reads);
       beside = λ other. read_keeps v w s reads;
       paid = λ x stands paid. paid_reads v w x stands.stands reads paid;
+      superblocks = λ x stands c since. inl (super_held s x c stands.held (stands.stands.reads c (reads.images.each c since)));
       counted = λ x stands. inl refl;
     }
 
@@ -215,12 +233,13 @@ left_queried v w r new m old now carried told b is none reads =
       on_disk = λ other on. same_on w s t same refl (read_on v w s on reads);
       beside = λ other. read_keeps v w s reads;
       paid = λ x stands paid. paid_reads v w x stands.stands reads paid;
+      superblocks = λ x stands c since. inl (super_held s x c stands.held (stands.stands.reads c (reads.images.each c since)));
       counted = λ x stands. inl refl;
     })
 
 -- a change was carried out, or met a fault, where the journal had room
 pub leaves_room : (v w : DiskView) (s t : Held) (carried : Bool) (told : Reply) (b : Bool) → length s.log.list < s.log.mem → KeepsPublished s t → t.promoting ≡ s.promoting → (told ≢ reply.Refused why.DeviceFault → IsOnDisk v s → IsOnDisk w t)
-    → ((x : Contents) → StandsWith v s x → IsPaid (contents_state x) → ArePaidSince w v.moment) → (told ≢ reply.Refused why.DeviceFault → KeepsArrays v w s)
+    → ((x : Contents) → StandsWith v s x → (IsPaid (contents_state x) → ArePaidSince w v.moment) × HaveOldOrNext w v.moment s.slot s.sb) → (told ≢ reply.Refused why.DeviceFault → KeepsArrays v w s)
     → LeavesPublished v w s carried told (record t { spent = b })
 leaves_room v w s t carried told b room same going still pays agree =
     let all = keeps_spent s t b same in
@@ -231,14 +250,15 @@ leaves_room v w s t carried told b room same going still pays agree =
       below = λ few. going;
       on_disk = λ other on. on_spent w t b (still other on);
       beside = agree;
-      paid = pays;
+      paid = λ x stands. (pays x stands).0;
+      superblocks = λ x stands. (pays x stands).1;
       counted = λ x stands. inl (ap (λ (c : Chained). c.manifest) same.chained);
     }
 
 -- a publication gave up
 pub gives_up : (v w : DiskView) (r new : OpenStore) (cached : Blocks) (t : Trouble) (told : Refusal) → told ≡ refusal_of_trouble t → r.journal.mem ≤ length r.journal.list → KeepsPublished (held_of r cached) (held_of new cached)
     → ((t ≡ trouble.Device → ⊥) → IsOnDisk v (held_of r cached) → IsOnDisk w (held_of new cached))
-    → ((x : Contents) → StandsWith v (held_of r cached) x → IsPaid (contents_state x) → ArePaidSince w v.moment) → KeepsArrays v w (held_of r cached)
+    → ((x : Contents) → StandsWith v (held_of r cached) x → (IsPaid (contents_state x) → ArePaidSince w v.moment) × HaveOldOrNext w v.moment (held_of r cached).slot (held_of r cached).sb) → KeepsArrays v w (held_of r cached)
     → LeavesPublished v w (held_of r cached) false (reply.Refused told) (held_after new cached (reply.Refused told))
 gives_up v w r new cached t told is full same still pays agree =
     let all = keeps_spent (held_of r cached) (held_of new cached) (is_fault (reply.Refused told)) same in
@@ -249,7 +269,8 @@ gives_up v w r new cached t told is full same still pays agree =
       below = λ few. absurd (omega (arith, full, few));
       on_disk = λ other on. on_spent w (held_of new cached) (is_fault (reply.Refused told)) (still (λ e. other (ap (λ (q : Refusal). reply.Refused q) (is ∙ ap refusal_of_trouble e))) on);
       beside = λ other. agree;
-      paid = pays;
+      paid = λ x stands. (pays x stands).0;
+      superblocks = λ x stands. (pays x stands).1;
       counted = λ x stands. inl (ap (λ (c : Chained). c.manifest) same.chained);
     }
 
@@ -281,7 +302,7 @@ still_published s mid t has same cursors going =
 
 pub renews : (v u w : DiskView) (s mid t : Held) (told : Reply) → HasPublished s mid → KeepsPublished mid t × (told ≢ reply.Refused why.DeviceFault → IsOnDisk u mid → IsOnDisk w t) → t.memory.cursors ≡ mid.memory.cursors → t.promoting ≡ mid.promoting
     → (accepts told ≡ false → told ≡ reply.Refused why.DeviceFault) → (IsOnDisk v s → IsOnDisk u mid)
-    → ((x : Contents) → StandsWith v s x → IsPaid (contents_state x) → ArePaidSince w v.moment)
+    → ((x : Contents) → StandsWith v s x → (IsPaid (contents_state x) → ArePaidSince w v.moment) × HaveOldOrNext w v.moment s.slot s.sb)
     → ((x : Contents) → StandsWith v s x → CountsWritten s.chained.manifest mid.chained.manifest)
     → (told ≢ reply.Refused why.DeviceFault → KeepsArrays v w s)
     → LeavesPublished v w s (accepts told) told (record t { spent = is_fault told })
@@ -295,7 +316,8 @@ renews v u w s mid t told has keeps cursors going refused still pays counts agre
       below = λ few. let full = has.full in absurd (omega (arith, full, few));
       on_disk = λ other on. on_spent w t (is_fault told) (keeps.1 other (still on));
       beside = agree;
-      paid = pays;
+      paid = λ x stands. (pays x stands).0;
+      superblocks = λ x stands. (pays x stands).1;
       counted = λ x stands. inr (subst (CountsWritten s.chained.manifest) (sym manifest_is) (counts x stands));
     }
 
@@ -320,7 +342,7 @@ keeps_both s mid t first second = record {
 
 -- and so it does behind a change
 pub promotes : (v u w : DiskView) (s mid t : Held) (told : Reply) → StaysOpen s mid → KeepsPublished mid t × (told ≢ reply.Refused why.DeviceFault → IsOnDisk u mid → IsOnDisk w t) → t.promoting ≡ mid.promoting → (IsOnDisk v s → IsOnDisk u mid)
-    → ((x : Contents) → StandsWith v s x → IsPaid (contents_state x) → ArePaidSince w v.moment) → (told ≢ reply.Refused why.DeviceFault → KeepsArrays v w s)
+    → ((x : Contents) → StandsWith v s x → (IsPaid (contents_state x) → ArePaidSince w v.moment) × HaveOldOrNext w v.moment s.slot s.sb) → (told ≢ reply.Refused why.DeviceFault → KeepsArrays v w s)
     → LeavesPublished v w s (accepts told) told (record t { spent = is_fault told })
 promotes v u w s mid t told stays keeps going still pays agree =
     let same : KeepsPublished s t = keeps_both s mid t (open_keeps s mid stays) keeps.0 in
@@ -332,7 +354,8 @@ promotes v u w s mid t told stays keeps going still pays agree =
       below = λ few. let full = stays.full in absurd (omega (arith, full, few));
       on_disk = λ other on. on_spent w t (is_fault told) (keeps.1 other (still on));
       beside = agree;
-      paid = pays;
+      paid = λ x stands. (pays x stands).0;
+      superblocks = λ x stands. (pays x stands).1;
       counted = λ x stands. inl (ap (λ (c : Chained). c.manifest) same.chained);
     }
 

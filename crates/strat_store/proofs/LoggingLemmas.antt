@@ -27,6 +27,7 @@ use Rattle.def_state.specs.State.{IsPaid}
 use Rattle.strat_memory.proofs.PayingLemmas.{paid_as, paid_appended, stored_since}
 use Rattle.strat_memory.specs.Paying.{ArePaidSince, StoreTwoSince}
 use Rattle.strat_publish.specs.Publishing.{is_in_front}
+use Rattle.strat_publish.specs.Settling.{KeepSuper}
 
 -- changes behind the first ones are lawful as all are
 lawful_behind : (n : ℕ) (xs : List Change) → list_all is_lawful xs ≡ true → list_all is_lawful (drop n xs) ≡ true
@@ -101,6 +102,13 @@ batch_paid old new x log s l appends sound paid c since = elim (either_reads old
   | inr all ↦ paid_as c (with_batch x log.batch) all (paid_appended x log.batch paid)
 ]
 
+-- and has the superblock of the contents
+pub batch_super : (old new : DiskView) (x : Contents) (log : Log) → ContentsStand old x → IsLogOf x log → AppendsBatch old new log → IsSound (contents_state (with_batch x log.batch)) → KeepSuper new old.moment x.slot x.sb
+batch_super old new x log s l appends sound c since = elim (either_reads old new x log s l appends sound c since) [
+  | inl none ↦ none.newest
+  | inr all ↦ all.newest
+]
+
 pub batch_stored : (v : DiskView) (start : ℕ) (tables : List Table) (n : ℕ) → Trail ShowsTable v start tables n → StoreTwoSince v start
 batch_stored = stored_since
 
@@ -136,6 +144,9 @@ module _ (old new : DiskView) (x : Contents) (log added : Log) (change : Change)
         (either_trail old new x added s added_of appends sound_added)
 
     -- what each of them leaves is paid for
+    pub logged_super : KeepSuper new old.moment x.slot x.sb
+    logged_super = batch_super old new x added s added_of appends sound_added
+
     pub logged_paid : IsPaid (contents_state x) → ArePaidSince new old.moment
     logged_paid = batch_paid old new x added s added_of appends sound_added
 

@@ -11,6 +11,7 @@ ghost use Rattle.def_crash.specs.Image.{Image};
 ghost use Rattle.def_crash.specs.Moments.{Exposes, Passes, TearsOnly};
 ghost use Rattle.def_crash.specs.Trail.{Trail};
 ghost use Rattle.def_bytes.specs.Layout.{region_at, region_size};
+ghost use Rattle.strat_gate.specs.SuperView.{super_of};
 ghost use Rattle.strat_journal.specs.Log.{batch_region};
 ghost use Rattle.strat_model.specs.Answer.{accepts, plain};
 ghost use Rattle.strat_model.specs.declared.replies.Refusal.{Refusal};
@@ -34,7 +35,7 @@ ghost use Rattle.strat_memory.specs.Paying.{ArePaidSince};
 ghost use Rattle.strat_publish.specs.Publishing.{is_in_front};
 ghost use Rattle.strat_memory.specs.RecoveredFields.{held_of};
 ghost use Rattle.strat_store.specs.Applying.{held_after};
-ghost use Rattle.strat_publish.specs.Settling.{KeepsPublished, LeavesPublished};
+ghost use Rattle.strat_publish.specs.Settling.{KeepSuper, KeepsPublished, LeavesPublished};
 
 use std::alloc::Global;
 use strat_base::{Change, Failed};
@@ -60,7 +61,8 @@ fn log_change<D: Disk>(
         → Takes (contents_state x) (change_of change.now)
         → Trail ShowsTable (D.view disk.new) (D.view disk.old).moment (table_of (contents_state x)
         ∷ table_of (contents_state (with_batch x (change_of change.now ∷ []))) ∷ []) 0
-        × (IsPaid (contents_state x) → ArePaidSince (D.view disk.new) (D.view disk.old).moment) }
+        × (IsPaid (contents_state x) → ArePaidSince (D.view disk.new) (D.view disk.old).moment)
+        × KeepSuper (D.view disk.new) (D.view disk.old).moment x.slot x.sb }
     ensures kept { OnOk result ((x : Contents) → ContentsStand (D.view disk.old) x
         → IsLogOf x journal.old → Takes (contents_state x) (change_of change.now)
         → Trail ShowsTable (D.view disk.new) (D.view disk.old).moment (table_of (contents_state x)
@@ -97,7 +99,9 @@ fn carry_out<D: Disk>(held: &mut OpenStore, disk: &mut D, change: &Change<'_>) -
         → StandsWith (D.view disk.old) (held_of held.old cached) x
         → FollowsStep (D.view disk.old) (D.view disk.new) x (request_for (change_of change.now))
         (plain result)
-        × (IsPaid (contents_state x) → ArePaidSince (D.view disk.new) (D.view disk.old).moment) }
+        × (IsPaid (contents_state x) → ArePaidSince (D.view disk.new) (D.view disk.old).moment)
+        × KeepSuper (D.view disk.new) (D.view disk.old).moment held.old.slot
+        (super_of held.old.sb) }
     ensures kept { is_fault result ≡ false → (cached : Blocks)
         → IsConsistent (held_of held.new cached) }
     ensures disk { (cached : Blocks)

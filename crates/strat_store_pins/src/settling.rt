@@ -102,7 +102,8 @@ pub fn no_other_command_publishes<D: Viewed>()
 {}
 
 /// Unless the device failed, what a store holds of superblock and manifest is on the disk where it was before, and the blocks of all
-/// arrays that it held are as they were. Where it stands, crashes leave what is paid for, and its manifest counts.
+/// arrays that it held are as they were. Where it stands, crashes leave what is paid for, and its manifest counts. Each leaves the
+/// superblock that was held, in whatever format, or the one that a checkpoint laid after it, in format 2.
 pub fn what_is_held_stays_on_the_disk<D: Viewed>()
     ensures durable { (d e : D) (old new : Held) (carried : Bool) (told : Reply)
         → LeavesPublished (D.view d) (D.view e) old carried told new
@@ -119,6 +120,12 @@ pub fn what_is_held_stays_on_the_disk<D: Viewed>()
     ensures len { (d e : D) (old new : Held) (carried : Bool) (told : Reply) (x : Contents)
         → LeavesPublished (D.view d) (D.view e) old carried told new
         → StandsWith (D.view d) old x → KeepsCount old.chained.manifest new.chained.manifest }
+    ensures time { (d e : D) (old new : Held) (carried : Bool) (told : Reply) (x : Contents)
+        (c : Image) → LeavesPublished (D.view d) (D.view e) old carried told new
+        → StandsWith (D.view d) old x → Since (D.view e) (D.view d).moment c
+        → (newest_in c ≡ Ok (Some (old.slot, old.sb)))
+        ⊎ ((next : Super) × (newest_in c ≡ Ok (Some (1 - old.slot, next)))
+        × (next.format ≡ 2) × (next.generation ≡ old.sb.generation + 1)) }
 {}
 
 /// What a store has on the disk is in each crash state: its superblock is the newest, and its manifest is where that leads.

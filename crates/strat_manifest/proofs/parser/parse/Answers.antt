@@ -43,8 +43,8 @@ returns-clause-found c =
     all_spelled c.args.format c.args.bytes.now c.in_ok-head.head c.take_head.new.reader head (omega arith) c.in_ok-manifest.manifest c.take_behind.new.reader c.in_ok-manifest.ensures.ok
     (λ i. let f = c.type_inv.bytes i in omega arith) c.if-not-is_all.ensures.ok
 
-pub returns-clause-marks : goal.returns-clause-marks
-returns-clause-marks c =
+pub returns-clause-kept : goal.returns-clause-kept
+returns-clause-kept c =
     let head = ap (read_head c.args.format) (sym c.new-reader.ensures.ok) ∙ c.in_ok-head.ensures.ok in
     all_marks c.args.format c.args.bytes.now c.in_ok-head.head c.take_head.new.reader head (omega arith) c.in_ok-manifest.manifest c.take_behind.new.reader c.in_ok-manifest.ensures.ok
     (λ i. let f = c.type_inv.bytes i in omega arith) c.if-not-is_all.ensures.ok

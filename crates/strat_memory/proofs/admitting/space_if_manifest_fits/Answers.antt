@@ -2,13 +2,13 @@ use Rattle.std.proofs.Common.{◌≡◌, ℕ, Bool, List, sym, ap, ◌∙◌}
 use Rattle.def_bytes.specs.Arrays.{blocks_of}
 use Rattle.strat_base.specs.Marks.{none_dropped}
 use Rattle.strat_gate.specs.SuperView.{super_of}
-use Rattle.strat_manifest.specs.ManifestView.{marks_of, manifest_of}
+use Rattle.strat_manifest.specs.ManifestView.{marks_listed, manifest_of}
 use Rattle.strat_memory.proofs.AdmitLemmas.{marks_fail, counts_fail, ids_fail, ids_are, space_kept, space_none}
 use Rattle.strat_memory.proofs.admitting.space_if_manifest_fits.Goals as goal
 
 -- what was found of the marks, told of the manifest
-marks_are : (marks listed : List ℕ) (b t : Bool) → listed ≡ marks → b ≡ none_dropped (marks_of listed) → b ≡ t → none_dropped (marks_of marks) ≡ t
-marks_are marks listed b t same is outcome = ap (λ (xs : List ℕ). none_dropped (marks_of xs)) (sym same) ∙ sym is ∙ outcome
+marks_are : (marks listed : List ℕ) (b t : Bool) → listed ≡ marks → b ≡ none_dropped (marks_listed listed) → b ≡ t → none_dropped (marks_listed marks) ≡ t
+marks_are marks listed b t same is outcome = ap (λ (xs : List ℕ). none_dropped (marks_listed xs)) (sym same) ∙ sym is ∙ outcome
 
 pub returns-then-not-none_is_dropped-clause-none : goal.returns-then-not-none_is_dropped-clause-none
 returns-then-not-none_is_dropped-clause-none c = λ _ _.

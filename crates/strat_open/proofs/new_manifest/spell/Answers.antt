@@ -1,4 +1,4 @@
-use Rattle.std.proofs.Common.{◌≡◌, sym, ap, ◌∙◌, arith}
+use Rattle.std.proofs.Common.{◌≡◌, ap, ◌∙◌, arith}
 use Rattle.strat_open.specs.Format.{new_block}
 use Rattle.strat_open.proofs.new_manifest.spell.Goals as goal
 

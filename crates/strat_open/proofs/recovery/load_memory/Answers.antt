@@ -2,7 +2,8 @@ use Rattle.strat_gate.specs.SuperView.{super_of}
 use Rattle.strat_open.proofs.RecoverLemmas.{load_older, load_room, load_counts}
 use Rattle.strat_open.proofs.recovery.load_memory.Goals as goal
 use Rattle.std.proofs.Common.{refl, []}
-use Rattle.strat_memory.proofs.AdmitLemmas.{admitted_undropped}
+use Rattle.def_bytes.proofs.ManifestLemmas.{pass_at}
+use Rattle.def_recovery.proofs.PassedLemmas.{belonging_tests}
 use Rattle.strat_memory.specs.Admitting.{chained_of}
 use Rattle.strat_memory.proofs.MemoryLawLemmas.{memory_loaded}
 
@@ -19,4 +20,4 @@ pub returns-clause-ok : goal.returns-clause-ok
 returns-clause-ok c =
     rw (c.load.ensures.ok, c.in_ok-memory.ensures.ok, c.as_slice.ensures.ok)
     (memory_loaded (record { sb = super_of c.args.sb.now; manifest = (chained_of c.args.published.now).manifest; journal = [] }) refl
-    (admitted_undropped (super_of c.args.sb.now) c.args.published.now c.requires.kept))
+    (pass_at (belonging_tests (super_of c.args.sb.now) (chained_of c.args.published.now)) 8 c.requires.kept.belonging))

@@ -3,7 +3,7 @@ use Rattle.def_bytes.specs.Arrays.{blocks_of}
 use Rattle.strat_gate.specs.SuperView.{super_of}
 use Rattle.strat_manifest.specs.ManifestView.{manifest_of}
 use Rattle.strat_open.proofs.RecoverLemmas.{damaged_block, manifest_damaged}
-use Rattle.strat_memory.proofs.AdmitLemmas.{lawful_newest}
+use Rattle.def_publish.proofs.NextLemmas.{lawful_newest}
 use Rattle.strat_open.proofs.recovery.read_published.Goals as goal
 
 pub admit-requires-clause-kept : goal.admit-requires-clause-kept

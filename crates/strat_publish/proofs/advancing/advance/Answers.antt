@@ -5,6 +5,7 @@ use Rattle.strat_base.proofs.ResultFacts.{err_of, on_ok_then}
 use Rattle.strat_base.specs.declared.descriptors.LevelDesc.{LevelDesc}
 use Rattle.def_crash.proofs.MomentLemmas.{reads_refl}
 use Rattle.def_crash.specs.Trail.{Trail}
+use Rattle.strat_gate.specs.SuperView.{super_of}
 use Rattle.strat_promote.proofs.ObstacleLemmas.{short_fit}
 use Rattle.strat_promote.specs.Job.{arrays_to, blocks_listed}
 use Rattle.strat_promote.specs.Promotions.{ReadsOf, target_of}
@@ -24,7 +25,7 @@ use Rattle.strat_memory.specs.RecoveredFields.{held_of, empty_cache, open_of}
 use Rattle.strat_memory.specs.declared.open_store.OpenStore.{OpenStore}
 use Rattle.strat_memory.specs.declared.open_store.Promoting.{Promoting}
 use Rattle.strat_publish.proofs.AdvancingLemmas.{found_all, kept_parents, ok_or_short, on_err_then, read_open, ready_leads, stands_reads, taken_open}
-use Rattle.strat_publish.proofs.CountingLemmas.{paid_beside}
+use Rattle.strat_publish.proofs.CountingLemmas.{paid_beside, super_beside}
 use Rattle.strat_publish.proofs.LaidLemmas.{kept_on}
 use Rattle.strat_publish.proofs.ObstacleLemmas.{on_err, short_block, short_cause}
 use Rattle.strat_publish.proofs.RoomLemmas.{chain_short}
@@ -33,6 +34,7 @@ use Rattle.strat_publish.proofs.SettlingLemmas.{chain_numbered, listed_left, unw
 use Rattle.strat_publish.proofs.WholeLemmas.{arrays_few}
 use Rattle.strat_publish.specs.Advancing.{FillsLevel}
 use Rattle.strat_publish.specs.Promoting.{StandsOpenWith, leads_in_memory}
+use Rattle.strat_publish.specs.Settling.{HaveOldOrNext}
 use Rattle.strat_publish.proofs.advancing.advance.Given.{Over}
 use Rattle.strat_publish.proofs.advancing.advance.Goals.{After-seal_for_next, In_ok-promoting}
 use Rattle.strat_publish.proofs.advancing.advance.Goals as goal
@@ -53,10 +55,14 @@ stands_here g c x cached stands =
 trail_here : (g : Over) (c : After-seal_for_next g) (x : Contents) (cached : Blocks) → StandsWith (g.D.Disk.view c.args.disk.now) (held_of c.args.held.now cached) x
     → Trail ShowsTable (g.D.Disk.view c.args.disk.now) (g.D.Disk.view c.args.disk.now).moment (table_of (contents_state x) ∷ []) 0
     × (IsPaid (contents_state x) → ArePaidSince (g.D.Disk.view c.args.disk.now) (g.D.Disk.view c.args.disk.now).moment)
+    × HaveOldOrNext (g.D.Disk.view c.args.disk.now) (g.D.Disk.view c.args.disk.now).moment c.args.held.now.slot (super_of c.args.held.now.sb)
 trail_here g c x cached stands =
     let v = g.D.Disk.view c.args.disk.now in
-    let still = unwritten v (held_of c.args.held.now cached) in
-    (trail_beside v v (held_of c.args.held.now cached) x stands still, λ paid. paid_beside v v (held_of c.args.held.now cached) x stands still paid)
+    let still = unwritten v (held_of c.args.held.now cached) in (
+      trail_beside v v (held_of c.args.held.now cached) x stands still,
+      λ paid. paid_beside v v (held_of c.args.held.now cached) x stands still paid,
+      super_beside v v (held_of c.args.held.now cached) x stands still,
+    )
 
 on_here : (g : Over) (c : After-seal_for_next g) (cached : Blocks) → IsOnDisk (g.D.Disk.view c.args.disk.now) (held_of c.args.held.now cached) → IsOnDisk (g.D.Disk.view c.args.disk.now) (held_of (sealed_here g c) cached)
 on_here g c cached on =

@@ -2,13 +2,14 @@ use Rattle.std.proofs.Common.{ℕ, inl, inr, ◌⊎◌, [], ◌∷◌, Option, r
 use Rattle.std.specs.Prelude.{is_some, option_map}
 use Rattle.strat_array.specs.Kept.{Blocks}
 use Rattle.strat_base.proofs.ResultFacts.{err_of, on_ok_then}
-use Rattle.def_crash.proofs.MomentLemmas.{passes_trans}
+use Rattle.def_crash.proofs.MomentLemmas.{each_then, passes_trans}
 use Rattle.def_crash.proofs.BlockLemmas.{keeps_trans}
 use Rattle.def_crash.specs.Blocks.{AgreeOn}
 use Rattle.def_crash.specs.Faults.{HasCause}
 use Rattle.def_crash.specs.Image.{Image}
 use Rattle.def_crash.specs.Moments.{Exposes, Passes}
 use Rattle.def_crash.specs.Trail.{Trail}
+use Rattle.strat_gate.specs.SuperView.{super_of}
 use Rattle.strat_promote.proofs.PushingLemmas.{still_told}
 use Rattle.strat_promote.specs.Job.{blocks_listed}
 use Rattle.strat_promote.specs.declared.obstacle.Obstacle.TheVariants.{Device}
@@ -24,14 +25,14 @@ use Rattle.strat_memory.specs.Paying.{ArePaidSince}
 use Rattle.strat_memory.specs.RecoveredFields.{held_of, empty_cache, open_of}
 use Rattle.strat_memory.specs.declared.open_store.OpenStore.{OpenStore}
 use Rattle.strat_publish.proofs.AdvancingLemmas.{on_more, on_ok_both, stands_more, whole_more}
-use Rattle.strat_publish.proofs.CountingLemmas.{paid_beside}
+use Rattle.strat_publish.proofs.CountingLemmas.{paid_beside, super_beside}
 use Rattle.strat_publish.proofs.LaidLemmas.{beside_on}
 use Rattle.strat_publish.proofs.ObstacleLemmas.{off_ok, on_err}
 use Rattle.strat_publish.proofs.SettledLemmas.{arrays_kept, one_trail, stands_beside, trail_beside}
 use Rattle.strat_publish.proofs.SlicingLemmas.{beside_apart, done_of, more_of}
 use Rattle.strat_publish.specs.Advancing.{HasAdvanced}
 use Rattle.strat_publish.specs.Promoting.{KeepsOpenToBudget, StandsOpenWith}
-use Rattle.strat_publish.specs.Settling.{IsInstalled, KeepsPublished, TakesOpen, WritesBeside}
+use Rattle.strat_publish.specs.Settling.{HasOldOrNext, HaveOldOrNext, IsInstalled, KeepsPublished, TakesOpen, WritesBeside}
 use Rattle.strat_publish.proofs.advancing.go_on.Given.{Over}
 use Rattle.strat_publish.proofs.advancing.go_on.Goals.{After-slice_open}
 use Rattle.strat_publish.proofs.advancing.go_on.Goals as goal
@@ -46,10 +47,14 @@ beside_here g c cached =
 trail_here : (g : Over) (c : After-slice_open g) (x : Contents) (cached : Blocks) → StandsOpenWith (g.D.Disk.view c.args.disk.now) (held_of c.args.held.now cached) x (open_of c.args.promoting)
     → Trail ShowsTable (g.D.Disk.view c.slice_open.new.disk) (g.D.Disk.view c.args.disk.now).moment (table_of (contents_state x) ∷ []) 0
     × (IsPaid (contents_state x) → ArePaidSince (g.D.Disk.view c.slice_open.new.disk) (g.D.Disk.view c.args.disk.now).moment)
+    × HaveOldOrNext (g.D.Disk.view c.slice_open.new.disk) (g.D.Disk.view c.args.disk.now).moment c.args.held.now.slot (super_of c.args.held.now.sb)
 trail_here g c x cached st =
     let v = g.D.Disk.view c.args.disk.now in
-    let w = g.D.Disk.view c.slice_open.new.disk in
-    (trail_beside v w (held_of c.args.held.now cached) x st.stands (beside_here g c cached), λ paid. paid_beside v w (held_of c.args.held.now cached) x st.stands (beside_here g c cached) paid)
+    let w = g.D.Disk.view c.slice_open.new.disk in (
+      trail_beside v w (held_of c.args.held.now cached) x st.stands (beside_here g c cached),
+      λ paid. paid_beside v w (held_of c.args.held.now cached) x st.stands (beside_here g c cached) paid,
+      super_beside v w (held_of c.args.held.now cached) x st.stands (beside_here g c cached),
+    )
 
 still_here : (g : Over) (c : After-slice_open g) (x : Contents) (cached : Blocks) → StandsWith (g.D.Disk.view c.args.disk.now) (held_of c.args.held.now cached) x → StandsWith (g.D.Disk.view c.slice_open.new.disk) (held_of c.args.held.now cached) x
 still_here g c x cached stands =
@@ -209,8 +214,11 @@ returns-in-Done-clause-trail g c = λ x cached st.
     let u = g.D.Disk.view c.publish_made.new.disk in
     let here = trail_here g (goal.at.returns-in-Done-clause-trail g c).After-slice_open x cached st in
     let laid = c.publish_made.ensures.trail x cached (done_of _ c.in_ok-progress.progress c.in-Done.is c.in_ok-progress.ensures.ok x cached st) in
-    let time = c.publish_made.ensures.time.0 in
-    (one_trail ShowsTable w u _ _ time here.0 laid.0, λ paid. paid_then w u _ time (here.1 paid) (laid.1 paid))
+    let time = c.publish_made.ensures.time.0 in (
+      one_trail ShowsTable w u _ _ time here.0 laid.0,
+      λ paid. paid_then w u _ time (here.1 paid) (laid.1 paid),
+      each_then w u _ (HasOldOrNext c.args.held.now.slot (super_of c.args.held.now.sb)) time here.2 laid.2,
+    )
 
 pub returns-in-Done-clause-err : goal.returns-in-Done-clause-err
 returns-in-Done-clause-err g c = λ unfit x cached st. c.publish_made.ensures.err unfit x cached (done_of _ c.in_ok-progress.progress c.in-Done.is c.in_ok-progress.ensures.ok x cached st)

@@ -1,7 +1,7 @@
 use Rattle.std.proofs.Common.{◌<◌, ℕ, refl, sym, ap, ◌∙◌, subst, arith}
 use Rattle.std.specs.Prelude.{option_map}
 use Rattle.strat_base.proofs.ResultFacts.{err_of}
-use Rattle.def_crash.proofs.MomentLemmas.{passes_trans}
+use Rattle.def_crash.proofs.MomentLemmas.{each_then, passes_trans}
 use Rattle.def_crash.specs.Blocks.{TearsBlocks}
 use Rattle.def_bytes.specs.SuperBlock.{Super}
 use Rattle.strat_array.specs.Kept.{Blocks}
@@ -14,7 +14,7 @@ use Rattle.strat_memory.specs.Admitting.{chained_of}
 use Rattle.strat_memory.specs.Held.{Held, IsConsistent, IsOnDisk}
 use Rattle.strat_memory.specs.RecoveredFields.{held_of, empty_cache, open_of}
 use Rattle.strat_publish.proofs.CheckpointLemmas.{ended_made, made_taken_from}
-use Rattle.strat_publish.proofs.CountingLemmas.{paid_beside, counts_next}
+use Rattle.strat_publish.proofs.CountingLemmas.{paid_beside, super_beside, super_laid, counts_next}
 use Rattle.strat_publish.proofs.LaidLemmas.{beside_on, published_on}
 use Rattle.strat_publish.proofs.ObstacleLemmas.{device_fit, device_short, off_ok, on_err}
 use Rattle.strat_publish.proofs.SettledLemmas.{trail_beside, stands_beside, arrays_kept, arrays_stay, one_trail, published_as, consistent_next}
@@ -23,6 +23,7 @@ use Rattle.strat_publish.specs.Counting.{CountsWritten}
 use Rattle.strat_publish.specs.Outcomes.{IsPublishedAs}
 use Rattle.strat_publish.specs.Promoting.{StandsEnded, StandsMade}
 use Rattle.strat_publish.specs.Publishing.{is_in_front}
+use Rattle.strat_publish.specs.Settling.{HasOldOrNext}
 use Rattle.strat_publish.proofs.checkpoint.publish_made.Given.{Over}
 use Rattle.strat_publish.proofs.checkpoint.publish_made.Goals.{After-take_made-made}
 use Rattle.strat_publish.proofs.checkpoint.publish_made.Goals as goal
@@ -74,8 +75,11 @@ returns-in_err-install-clause-kept g c =
 pub returns-in_err-next-clause-trail : goal.returns-in_err-next-clause-trail
 returns-in_err-next-clause-trail g c = λ x cached st.
     let v = g.D.Disk.view c.args.disk.now in
-    let w = g.D.Disk.view c.prepare_next.new.disk in
-    (trail_beside v w (held_of c.args.held.now cached) x st.stands (c.prepare_next.ensures.images cached), λ paid. paid_beside v w (held_of c.args.held.now cached) x st.stands (c.prepare_next.ensures.images cached) paid)
+    let w = g.D.Disk.view c.prepare_next.new.disk in (
+      trail_beside v w (held_of c.args.held.now cached) x st.stands (c.prepare_next.ensures.images cached),
+      λ paid. paid_beside v w (held_of c.args.held.now cached) x st.stands (c.prepare_next.ensures.images cached) paid,
+      super_beside v w (held_of c.args.held.now cached) x st.stands (c.prepare_next.ensures.images cached),
+    )
 
 pub returns-in_err-next-clause-damaged : goal.returns-in_err-next-clause-damaged
 returns-in_err-next-clause-damaged g c = λ b torn. c.in_err-next.ensures.damaged b (err_of c.from_residual.result _ _ c.from_residual.ensures.1 torn)
@@ -90,6 +94,10 @@ returns-in_err-install-clause-trail g c = λ x cached st.
       λ paid.
           paid_then w (g.D.Disk.view c.install.new.disk) v.moment c.install.ensures.time
           (paid_beside v w (held_of c.args.held.now cached) x st.stands (c.prepare_next.ensures.images cached) paid) (laid.1 paid (ready.paid paid c.requires.kept.3)),
+      each_then w (g.D.Disk.view c.install.new.disk) v.moment (HasOldOrNext c.args.held.now.slot (super_of c.args.held.now.sb)) c.install.ensures.time
+          (super_beside v w (held_of c.args.held.now cached) x st.stands (c.prepare_next.ensures.images cached))
+          (super_laid (g.D.Disk.view c.install.new.disk) w.moment (held_of c.args.held.now cached) x (super_of c.in_ok-next.next.sb) (chained_of c.in_ok-next.next.published) ready.levels c.in_ok-next.ensures.found.first c.in_ok-next.ensures.found.size
+          st.stands.held c.in_ok-next.ensures.found.sb_is laid.2),
     )
 
 pub returns-clause-trail : goal.returns-clause-trail
@@ -102,6 +110,10 @@ returns-clause-trail g c = λ x cached st.
       λ paid.
           paid_then w (g.D.Disk.view c.install.new.disk) v.moment c.install.ensures.time
           (paid_beside v w (held_of c.args.held.now cached) x st.stands (c.prepare_next.ensures.images cached) paid) (laid.1 paid (ready.paid paid c.requires.kept.3)),
+      each_then w (g.D.Disk.view c.install.new.disk) v.moment (HasOldOrNext c.args.held.now.slot (super_of c.args.held.now.sb)) c.install.ensures.time
+          (super_beside v w (held_of c.args.held.now cached) x st.stands (c.prepare_next.ensures.images cached))
+          (super_laid (g.D.Disk.view c.install.new.disk) w.moment (held_of c.args.held.now cached) x (super_of c.in_ok-next.next.sb) (chained_of c.in_ok-next.next.published) ready.levels c.in_ok-next.ensures.found.first c.in_ok-next.ensures.found.size
+          st.stands.held c.in_ok-next.ensures.found.sb_is laid.2),
     )
 
 pub returns-clause-ok : goal.returns-clause-ok

@@ -5,7 +5,7 @@ use Rattle.def_crash.proofs.BlockLemmas.{reads_tear_none, blocks_trans}
 use Rattle.def_bytes.specs.Layout.{region_at}
 use Rattle.strat_publish.specs.Publishing.{is_in_front}
 use Rattle.strat_publish.proofs.LaidLemmas.{laid_superblock}
-use Rattle.strat_publish.proofs.PublishingLemmas.{synced_trail, synced_paid, next_of, lay_trail, lay_paid, turn_trail, turn_paid, turn_stands, torn_in_front, gate_in_front, slot_in_front}
+use Rattle.strat_publish.proofs.PublishingLemmas.{synced_trail, synced_paid, synced_either, next_of, lay_trail, lay_paid, lay_either, turn_trail, turn_paid, turn_either, turn_stands, torn_in_front, gate_in_front, slot_in_front}
 use Rattle.strat_publish.proofs.lay.lay_next.Given.{Over}
 use Rattle.strat_publish.proofs.lay.lay_next.Goals.{After-sync_written, After-lay, After-turn}
 use Rattle.strat_publish.proofs.lay.lay_next.Goals as goal
@@ -36,6 +36,8 @@ returns-in_err-lay-clause-trail g c old new computed =
           _ c.lay.ensures.images c.lay.ensures.time c.lay.ensures.trail,
       lay_paid _ (g.D.Disk.view c.sync_written.new.disk) _ _ _ old new computed reads c.in_ok-sync_written.ensures.ok (g.met.D.Disk.leaves_content c.sync_written.new.disk)
           _ c.lay.ensures.images c.lay.ensures.time c.lay.ensures.trail,
+      lay_either _ (g.D.Disk.view c.sync_written.new.disk) _ _ _ old new computed reads c.in_ok-sync_written.ensures.ok (g.met.D.Disk.leaves_content c.sync_written.new.disk)
+          _ c.lay.ensures.images c.lay.ensures.time c.lay.ensures.trail,
     )
 
 pub returns-in_err-lay-clause-images : goal.returns-in_err-lay-clause-images
@@ -47,6 +49,8 @@ returns-in_err-turn-clause-trail g c old new computed =
       turn_trail _ (g.D.Disk.view c.sync_written.new.disk) _ _ _ old new computed reads c.in_ok-sync_written.ensures.ok (g.met.D.Disk.leaves_content c.sync_written.new.disk)
           (g.D.Disk.view c.lay.new.disk) c.lay.ensures.images c.lay.ensures.time c.lay.ensures.trail c.in_ok-lay.ensures.durable c.in_ok-lay.ensures.found _ c.turn.ensures.images c.turn.ensures.time,
       turn_paid _ (g.D.Disk.view c.sync_written.new.disk) _ _ _ old new computed reads c.in_ok-sync_written.ensures.ok (g.met.D.Disk.leaves_content c.sync_written.new.disk)
+          (g.D.Disk.view c.lay.new.disk) c.lay.ensures.images c.lay.ensures.time c.lay.ensures.trail c.in_ok-lay.ensures.durable c.in_ok-lay.ensures.found _ c.turn.ensures.images c.turn.ensures.time,
+      turn_either _ (g.D.Disk.view c.sync_written.new.disk) _ _ _ old new computed reads c.in_ok-sync_written.ensures.ok (g.met.D.Disk.leaves_content c.sync_written.new.disk)
           (g.D.Disk.view c.lay.new.disk) c.lay.ensures.images c.lay.ensures.time c.lay.ensures.trail c.in_ok-lay.ensures.durable c.in_ok-lay.ensures.found _ c.turn.ensures.images c.turn.ensures.time,
     )
 
@@ -60,6 +64,8 @@ returns-clause-trail g c old new computed =
       turn_trail _ (g.D.Disk.view c.sync_written.new.disk) _ _ _ old new computed reads c.in_ok-sync_written.ensures.ok (g.met.D.Disk.leaves_content c.sync_written.new.disk)
           (g.D.Disk.view c.lay.new.disk) c.lay.ensures.images c.lay.ensures.time c.lay.ensures.trail c.in_ok-lay.ensures.durable c.in_ok-lay.ensures.found _ c.turn.ensures.images c.turn.ensures.time,
       turn_paid _ (g.D.Disk.view c.sync_written.new.disk) _ _ _ old new computed reads c.in_ok-sync_written.ensures.ok (g.met.D.Disk.leaves_content c.sync_written.new.disk)
+          (g.D.Disk.view c.lay.new.disk) c.lay.ensures.images c.lay.ensures.time c.lay.ensures.trail c.in_ok-lay.ensures.durable c.in_ok-lay.ensures.found _ c.turn.ensures.images c.turn.ensures.time,
+      turn_either _ (g.D.Disk.view c.sync_written.new.disk) _ _ _ old new computed reads c.in_ok-sync_written.ensures.ok (g.met.D.Disk.leaves_content c.sync_written.new.disk)
           (g.D.Disk.view c.lay.new.disk) c.lay.ensures.images c.lay.ensures.time c.lay.ensures.trail c.in_ok-lay.ensures.durable c.in_ok-lay.ensures.found _ c.turn.ensures.images c.turn.ensures.time,
     )
 
@@ -80,6 +86,7 @@ returns-in_err-sync_written-clause-trail g c old new computed =
     let reads = synced g (goal.at.returns-in_err-sync_written-clause-trail g c).After-sync_written in (
       synced_trail _ (g.D.Disk.view c.sync_written.new.disk) _ _ _ old new computed reads,
       λ was is. synced_paid _ (g.D.Disk.view c.sync_written.new.disk) _ _ _ old new computed reads was,
+      synced_either _ (g.D.Disk.view c.sync_written.new.disk) _ _ _ old new computed reads,
     )
 
 pub returns-clause-disk : goal.returns-clause-disk

@@ -1,5 +1,6 @@
-use Rattle.std.proofs.Common.{refl, ap, ◌∙◌, subst, arith, ℕ}
+use Rattle.std.proofs.Common.{Some, Ok, refl, ap, ◌∙◌, subst, arith, ℕ}
 use Rattle.def_crash.specs.Blocks.{KeepsTaken}
+use Rattle.def_publish.specs.Contents.{Contents}
 use Rattle.strat_journal.specs.Log.{batch_region}
 use Rattle.strat_memory.specs.RecoveredFields.{held_of, empty_cache}
 use Rattle.strat_store.proofs.ChangingLemmas.{cursors_stay, log_of, region_low, kept_more, breaks, takes, step_trail, told_trail, carries, finds_none, room_kept}
@@ -30,8 +31,11 @@ returns-in_default-clause-trail g c x cached stands =
     let kept = c.requires.kept cached in
     let logged =
     c.log_change.ensures.trail x stands.stands (log_of c.args.held.now cached kept x stands.held)
-    (takes c.args.held.now cached kept (g.D.Disk.view c.args.disk.now) x stands _ c.requires.none c.requires.room.0) in
-    (step_trail c.args.held.now cached kept (g.D.Disk.view c.args.disk.now) x stands _ c.requires.none c.requires.room.0 (g.D.Disk.view c.log_change.new.disk) 0 logged.0, logged.1)
+    (takes c.args.held.now cached kept (g.D.Disk.view c.args.disk.now) x stands _ c.requires.none c.requires.room.0) in (
+      step_trail c.args.held.now cached kept (g.D.Disk.view c.args.disk.now) x stands _ c.requires.none c.requires.room.0 (g.D.Disk.view c.log_change.new.disk) 0 logged.0,
+      logged.1,
+      λ d since. logged.2 d since ∙ ap (λ (y : Contents). Ok (Some (y.slot, y.sb))) stands.held,
+    )
 
 pub take-requires-clause-room : goal.take-requires-clause-room
 take-requires-clause-room g c =
@@ -55,6 +59,7 @@ returns-clause-trail g c x cached stands =
       told_trail c.args.held.now cached kept (g.D.Disk.view c.args.disk.now) x stands _ c.requires.none c.requires.room.0 (g.D.Disk.view c.log_change.new.disk) c.take.result c.take.ensures.found
           (c.in-Ok.ensures.kept x stands.stands of may).0,
       (c.log_change.ensures.trail x stands.stands of may).1,
+      λ d since. (c.log_change.ensures.trail x stands.stands of may).2 d since ∙ ap (λ (y : Contents). Ok (Some (y.slot, y.sb))) stands.held,
     )
 
 pub returns-clause-kept : goal.returns-clause-kept

@@ -1,6 +1,7 @@
 use Rattle.std.proofs.Common.{◌≡◌, ◌≢◌, ◌<◌, ◌∙◌, Option, true, false, length, Err, inl, inr, refl, ap, sym, subst, arith}
 use Rattle.std.specs.Prelude.{Result, IsErrOf}
 use Rattle.std.proofs.lemmas.List.{length-drop}
+use Rattle.def_crash.proofs.MomentLemmas.{each_then}
 use Rattle.strat_journal.specs.Log.{Log}
 use Rattle.strat_model.specs.Answer.{accepts}
 use Rattle.strat_model.specs.declared.replies.Refusal.TheVariants as why
@@ -13,10 +14,11 @@ use Rattle.strat_memory.specs.RecoveredFields.{empty_cache, held_of}
 use Rattle.strat_publish.proofs.AdvancingLemmas.{read_open}
 use Rattle.strat_publish.proofs.ObstacleLemmas.{damaged_told}
 use Rattle.strat_publish.specs.Advancing.{SlicesInBudget}
+use Rattle.strat_publish.specs.Settling.{HasOldOrNext}
 use Rattle.strat_store.specs.Applying.{held_after, is_fault}
 use Rattle.strat_store.proofs.ChangingLemmas.{rows_stay}
 use Rattle.strat_store.proofs.GoingLemmas.{advanced_open, advanced_published, emptied_refuses, log_stays, one_open, one_published, ready_opened, ready_refuses, sealed_open}
-use Rattle.strat_store.proofs.LeavingLemmas.{KeepsArrays, both_keep, cursors_left, cursors_published, cursors_ready, gives_up, holds_the_same, keeps_spent, opened_after, promotes, renews, rows_renewed, still_published, troubled}
+use Rattle.strat_store.proofs.LeavingLemmas.{KeepsArrays, both_keep, cursors_left, cursors_published, cursors_ready, gives_up, holds_the_same, keeps_spent, open_keeps, opened_after, promotes, renews, rows_renewed, still_published, super_kept, super_next, troubled}
 use Rattle.strat_memory.proofs.PayingLemmas.{paid_now, paid_then}
 use Rattle.strat_store.proofs.RenewingLemmas.{calm_short, carried_behind, damage_of, short_of, told_up, renewed, renewed_trail, trail_so_far}
 use Rattle.strat_store.proofs.changing.carry_out_behind.Goals as goal
@@ -120,7 +122,9 @@ returns-in-Err-clause-disk g c = λ cached.
     let keeps = c.in-Err.ensures.same.3.1 cached in (
       gives_up (g.D.Disk.view c.args.disk.now) (g.D.Disk.view c.advance.new.disk) c.args.held.now c.advance.new.held cached (told_as c.in-Err.obstacle) c.refusal_of.result c.refusal_of.ensures.ok
           (let full = c.requires.kept.1 in let mem = (c.requires.kept.0 cached).log.mem in omega (arith, full, mem)) keeps.0 (λ other. c.in-Err.ensures.disk (λ e. other (let x : ◌≡◌ {A = Result _ Obstacle} (Err c.in-Err.obstacle) (Err Device) = e in let same : c.in-Err.obstacle ≡ Device = cc in ap told_as same)) cached)
-          (λ x stands. (c.advance.ensures.trail x cached stands).1) c.advance.ensures.time.1,
+          (λ x stands.
+          let trail = c.advance.ensures.trail x cached stands in
+          (trail.1, trail.2)) c.advance.ensures.time.1,
       cursors_left (held_of c.args.held.now cached) (held_after c.advance.new.held cached (reply.Refused c.refusal_of.result)) _ _ keeps.1,
     )
 
@@ -142,21 +146,29 @@ returns-clause-disk g c = λ cached.
     elim (c.in_default.ensures.found cached) [
       | inl stays ↦ (
         promotes v u w s mid t c.carry_out.result stays keeps going still
-            (λ x stands paid.
+            (λ x stands.
             let more = advanced_open u s mid x stays (c.in_default.ensures.ok x cached stands) in
-            let first = (c.advance.ensures.trail x cached stands).1 paid in
-            paid_then u w v.moment c.carry_out.ensures.images.0 first
-            ((c.carry_out.ensures.trail x cached more.stands).1 (paid_now u v.moment x more.stands.stands c.advance.ensures.time.0.later first)))
+            let advanced = c.advance.ensures.trail x cached stands in
+            let carried = c.carry_out.ensures.trail x cached more.stands in (
+              λ paid.
+                  let first = advanced.1 paid in
+                  paid_then u w v.moment c.carry_out.ensures.images.0 first (carried.1 (paid_now u v.moment x more.stands.stands c.advance.ensures.time.0.later first)),
+              each_then u w v.moment (HasOldOrNext s.slot s.sb) c.carry_out.ensures.images.0 advanced.2 (super_kept w u.moment s mid (open_keeps s mid stays) carried.2),
+            ))
             agree,
         cursors_left s after _ _ (cursors_ready s mid after stays.ready c.carry_out.ensures.found.0),
       )
       | inr emptied ↦ (
         renews v u w s mid t c.carry_out.result emptied.published keeps c.carry_out.ensures.found.0 going c.carry_out.ensures.same.2 still
-            (λ x stands paid.
+            (λ x stands.
             let p = (advanced_published u s mid x emptied (c.in_default.ensures.ok x cached stands)).0 in
-            let first = (c.advance.ensures.trail x cached stands).1 paid in
-            paid_then u w v.moment c.carry_out.ensures.images.0 first
-            ((c.carry_out.ensures.trail p.after cached p.stands).1 (paid_now u v.moment p.after p.stands.stands c.advance.ensures.time.0.later first)))
+            let advanced = c.advance.ensures.trail x cached stands in
+            let carried = c.carry_out.ensures.trail p.after cached p.stands in (
+              λ paid.
+                  let first = advanced.1 paid in
+                  paid_then u w v.moment c.carry_out.ensures.images.0 first (carried.1 (paid_now u v.moment p.after p.stands.stands c.advance.ensures.time.0.later first)),
+              each_then u w v.moment (HasOldOrNext s.slot s.sb) c.carry_out.ensures.images.0 advanced.2 (super_next w u.moment s mid emptied.published carried.2),
+            ))
             (λ x stands. (advanced_published u s mid x emptied (c.in_default.ensures.ok x cached stands)).1)
             agree,
         cursors_published s after _ _ kept.placed (still_published s mid after emptied.published (keeps_spent mid t (is_fault c.carry_out.result) keeps.0) c.carry_out.ensures.found.0 going),

@@ -1,4 +1,4 @@
-use Rattle.std.proofs.Common.{◌≡◌, ◌<◌, false, true, length, Some, None, refl, sym, ap, ◌∙◌, arith}
+use Rattle.std.proofs.Common.{◌≡◌, ◌<◌, false, true, inl, length, Some, None, refl, sym, ap, ◌∙◌, arith}
 use Rattle.strat_model.specs.Answer.{accepts}
 use Rattle.strat_model.specs.declared.replies.Refusal.TheVariants as why
 use Rattle.def_crash.proofs.MomentLemmas.{reads_refl}
@@ -44,7 +44,9 @@ returns-clause-disk g c = λ cached.
     let t = held_after c.carry_out.new.held cached c.carry_out.result in (
       leaves_room (g.D.Disk.view c.args.disk.now) (g.D.Disk.view c.carry_out.new.disk) s (held_of c.carry_out.new.held cached) _ c.carry_out.result _
           (omega (arith, c.if-count-held.false, c.count.ensures.ok, kept.log.mem, kept.log.few)) both.0 (c.carry_out.ensures.found.2 cached) both.1
-          (λ x stands. (c.carry_out.ensures.trail x cached stands).1)
+          (λ x stands.
+          let trail = c.carry_out.ensures.trail x cached stands in
+          (trail.1, λ d since. inl (trail.2 d since)))
           (λ other. front_keeps (g.D.Disk.view c.args.disk.now) (g.D.Disk.view c.carry_out.new.disk) s kept (c.carry_out.ensures.images.1 other)),
       cursors_left s t _ _ (cursors_same s t c.carry_out.ensures.found.0),
     )

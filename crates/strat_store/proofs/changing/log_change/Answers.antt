@@ -1,7 +1,7 @@
 use Rattle.std.proofs.Common.{◌≡◌, List, length, ap, arith}
 use Rattle.strat_base.specs.Change.{Change}
 use Rattle.def_publish.specs.Appending.{AppendsBatch}
-use Rattle.strat_store.proofs.LoggingLemmas.{logged_behind, logged_paid, logged_trail, logged_stands, room_some}
+use Rattle.strat_store.proofs.LoggingLemmas.{logged_behind, logged_paid, logged_super, logged_trail, logged_stands, room_some}
 use Rattle.strat_store.proofs.changing.log_change.Given.{Over}
 use Rattle.strat_store.proofs.changing.log_change.Goals as goal
 use Rattle.strat_store.proofs.changing.log_change.Goals.{After-append}
@@ -20,6 +20,7 @@ returns-in_err-append-clause-trail g c x stands of takes =
     let appended = appends g (goal.at.returns-in_err-append-clause-trail g c).After-append in (
       logged_trail _ (g.D.Disk.view c.append.new.disk) x c.args.journal.now c.add.new.self _ stands of c.requires.none c.add.ensures.ok takes appended,
       logged_paid _ (g.D.Disk.view c.append.new.disk) x c.args.journal.now c.add.new.self _ stands of c.requires.none c.add.ensures.ok takes appended,
+      logged_super _ (g.D.Disk.view c.append.new.disk) x c.args.journal.now c.add.new.self _ stands of c.requires.none c.add.ensures.ok takes appended,
     )
 
 pub returns-clause-trail : goal.returns-clause-trail
@@ -27,6 +28,7 @@ returns-clause-trail g c x stands of takes =
     let appended = appends g (goal.at.returns-clause-trail g c).After-append in (
       logged_trail _ (g.D.Disk.view c.append.new.disk) x c.args.journal.now c.add.new.self _ stands of c.requires.none c.add.ensures.ok takes appended,
       logged_paid _ (g.D.Disk.view c.append.new.disk) x c.args.journal.now c.add.new.self _ stands of c.requires.none c.add.ensures.ok takes appended,
+      logged_super _ (g.D.Disk.view c.append.new.disk) x c.args.journal.now c.add.new.self _ stands of c.requires.none c.add.ensures.ok takes appended,
     )
 
 pub returns-clause-kept : goal.returns-clause-kept

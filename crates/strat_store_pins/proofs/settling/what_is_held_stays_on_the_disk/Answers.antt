@@ -11,3 +11,6 @@ returns-clause-images g c = λ d e old new carried told x image leaves stands pa
 
 pub returns-clause-len : goal.returns-clause-len
 returns-clause-len g c = λ d e old new carried told x leaves stands. leaves.counted x stands
+
+pub returns-clause-time : goal.returns-clause-time
+returns-clause-time g c = λ d e old new carried told x image leaves stands since. leaves.superblocks x stands image since
