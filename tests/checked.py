@@ -1,7 +1,7 @@
 #!/usr/bin/env python3
 """Has the program check damaged files, as many as it is told, and compares each answer with the rules in `tests/rules.py`.
 
-It is run by hand, `python3 tests/checked.py [COUNT [SEED]]` at the top, with the program built: 20,000 files and seed 43 unless it is
+It is run by hand, `python3 tests/checked.py [COUNT [SEED]]` at the top, with the program built: 20,000 files and seed 46 unless it is
 told otherwise. No answer may be another, no run may be ended by a signal or take more than seconds, and no file or folder
 may change. It prints how many answers there were of each kind.
 """

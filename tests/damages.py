@@ -14,8 +14,9 @@ from formats import BLOCK, CLONE, DELETE, PUT
 from samples import drawn_changes
 from unsound import Part, Stratum, described, laid_out
 
-# Stores to begin from: M, changes, how many keys there are, how many of the changes are clones, and entries in a block at most
-STORES = [(4, 90, 6, 0.2, 2), (4, 160, 12, 0.3, 4), (8, 150, 30, 0.1, 300), (4, 60, 2, 0.5, 1), (5, 231, 40, 0.05, 7)]
+# Stores to begin from: M, changes, how many keys there are, how many of the changes are clones, entries in a block at most, and the
+# format
+STORES = [(4, 90, 6, 0.2, 2, 1), (4, 160, 12, 0.3, 4, 2), (8, 150, 30, 0.1, 300, 1), (4, 60, 2, 0.5, 1, 2), (5, 231, 40, 0.05, 7, 2)]
 
 
 class Base:
@@ -27,7 +28,7 @@ class Base:
         self.blocks = [block for array in self.arrays for block in formats.blocks_of(array)]
 
 
-def store_bytes(chance, mem, count, keys, clones, most):
+def store_bytes(chance, mem, count, keys, clones, most, form):
     """The bytes of a store that took drawn changes, laid out as a store's may be, with so many entries in a block at most."""
     store = model.Store(mem, 1000, 200)
     store.serve(b"".join(drawn_changes(chance, count, 1, keys, clones)))
@@ -38,7 +39,7 @@ def store_bytes(chance, mem, count, keys, clones, most):
         sliced = [Part(part.id, part.versions, [part.entries[at:at + most] for at in range(0, len(part.entries), most)])
                   for part in parts]
         strata.append(Stratum(number, horizon, sliced))
-    head = formats.new_head(*store.limits)._replace(generation=times + 1, region=times % 2)
+    head = formats.new_head(*store.limits, form)._replace(generation=times + 1, region=times % 2)
     return laid_out(strata, emptied.parents, journal, (), chance.random() < 0.5, times % 2, head, changes=emptied.changes,
                     updates=emptied.updates, written=emptied.written, next_array=emptied.next_array)
 
@@ -112,6 +113,15 @@ def a_parent(chance, base):
         at = chance.randrange(len(parents))
         parents[at] = chance.choice((chance.randrange(at + 1), near(chance, parents[at], 2 ** 32 - 1)))
     return with_manifest(base, base.contents.manifest._replace(parents=tuple(parents)))
+
+
+def a_mark(chance, base):
+    """A version is marked as dropped, or a mark is no mark; there are none in format 1, where all stays as it is."""
+    count = len(base.contents.manifest.parents) + 1
+    marks = [0] * count
+    for _ in range(chance.randrange(1, 4)):
+        marks[chance.choice((0, count - 1, chance.randrange(count)))] = chance.choice((1, 1, 2, 255))
+    return with_manifest(base, base.contents.manifest._replace(marks=tuple(marks)))
 
 
 def with_level(manifest, at, level):
@@ -319,7 +329,7 @@ def a_chain(chance, base):
     return patched(data, contents.slot * BLOCK, formats.head_bytes(contents.head._replace(first=places[0], length=len(spelling))))
 
 
-DAMAGES = [a_byte, a_byte, a_field_of_the_superblock, a_field_of_the_manifest, a_parent, a_level,
+DAMAGES = [a_byte, a_byte, a_field_of_the_superblock, a_field_of_the_manifest, a_parent, a_mark, a_level,
            fewer_levels, a_later_horizon, a_field_of_an_array, a_tag, a_tag,
            an_extent, two_arrays, an_entry, an_entry, an_entry, an_entry, a_record, a_block, a_chain]
 

@@ -70,22 +70,28 @@ def block_at(data, number):
 
 # Superblocks
 
-def lawful(head):
-    return (head.form in SHORTEST and head.generation >= 1 and 4 <= head.mem <= 4096
+def lawful(head, forms=SHORTEST):
+    return (head.form in forms and head.generation >= 1 and 4 <= head.mem <= 4096
             and first_free(head.mem) <= head.first < BLOCKS_END and head.length >= SHORTEST[head.form] and head.region <= 1
             and 1 <= head.changes_max <= 2 ** 24 and 1 <= head.versions_max <= 2 ** 14)
 
 
-def newest(data):
-    """The slot that counts and its fields, or None where none does."""
+def newest(data, forms=SHORTEST):
+    """The slot that counts and its fields, or None where none does. A program that knows these formats alone takes no other."""
     heads = [Head(*struct.unpack(FORM, bytes_at(data, slot * BLOCK, 40))) for slot in (0, 1)]
     there = [slot for slot in (0, 1) if heads[slot][:2] == (OPEN, MAGIC)]
     if not there:
         return None
     slot = max(there, key=lambda number: heads[number].generation)
-    if not lawful(heads[slot]):
+    if not lawful(heads[slot], forms):
         raise Damaged(slot, "a field of the superblock is out of its range")
     return slot, heads[slot]
+
+
+def form_of(data):
+    """The format of the store with these bytes, or None where there is none."""
+    found = newest(data)
+    return found and found[1].form
 
 
 def head_bytes(head):
@@ -376,9 +382,9 @@ def entries_of(data, array):
 
 # What a file says
 
-def read(data):
+def read(data, forms=SHORTEST):
     """What an opening finds in a file, but for whether the table takes the changes of the journal; None where nothing."""
-    found = newest(data)
+    found = newest(data, forms)
     if found is None:
         return None
     slot, head = found
@@ -514,10 +520,10 @@ def levels_text(contents):
     yield f"stored {stored} updates {manifest.updates + updates} written {manifest.written}"
 
 
-def levels_printed(data):
-    """What the job `levels` prints of a file with these bytes, and its status."""
+def levels_printed(data, forms=SHORTEST):
+    """What the job `levels` of a program that knows these formats prints of a file with these bytes, and its status."""
     try:
-        contents = read(data)
+        contents = read(data, forms)
         if contents is None:
             return b"", model.NOT_A_STORE
         store_of(data, contents)

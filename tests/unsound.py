@@ -68,7 +68,7 @@ def laid_out(strata, parents, journal=(), lies=(), backwards=False, slot=1, head
     updates = sum(array.leads for array in arrays)
     manifest = Manifest(updates + len(parents) + 1, updates, sum(array.entries for array in arrays),
                         max((array.id for array in arrays), default=0) + 1, tuple(parents), tuple(levels))._replace(**told)
-    count = -(-len(formats.spelled(manifest)) // formats.CHAINED)
+    count = -(-len(formats.spelled(manifest, head.form)) // formats.CHAINED)
     return formats.file_of(slot, head, manifest, range(behind, behind + count), blocks, journal)
 
 

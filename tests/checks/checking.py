@@ -23,7 +23,7 @@ from program import (
 from samples import DISTINCT, PUBLISHED, store_after
 
 DAMAGED = 400  # damaged files that are tried here; `tests/checked.py` tries as many as it is told
-SEED = 43
+SEED = 46
 PASSES = 3  # how often a block of an array is read at most, beside what a recovery reads
 
 TELLABLE = "mbcdefhijk"  # a is refused by recovery, g follows from m and a, and l from k

@@ -86,7 +86,7 @@ def used_store(folder):
 def a_store_cut_short_is_refused_by_name(folder):
     path, data = used_store(folder)
     places = [0, 1, 8, 9, 10, 39, 40, 41, 4096, 8191, 8192, 8193, 8235, 8236, 8237, 16384, 24575, 24576, 24580, 24607,
-              24608, 28671, 28672]
+              24616, 24617, 24618, 28671, 28672]
     chance = random.Random(7)
     for place in places + [chance.randrange(len(data)) for _ in range(20)]:
         expect_opened(f"cut at {place}", path, data[:place])
@@ -140,11 +140,13 @@ def altered_bytes_are_named(folder):
     for name, place, byte in (("the slot's gate shut", 0, 0), ("its text", 1, 0x73)):
         expect(name, expect_opened(name, path, with_byte(new, place, byte)), model.NOT_A_STORE)
     for name, data, place, byte, block in (
-        ("the slot's generation", new, 18, 2, 6), ("its manifest's block", new, 22, 5, 0), ("its length", new, 26, 30, 6),
+        ("the slot's generation", new, 18, 2, 6), ("its manifest's block", new, 22, 5, 0), ("its length", new, 26, 39, 6),
+        ("its length, too short", new, 26, 37, 0), ("its format", new, 10, 3, 0), ("its format, that of an older one", new, 10, 1, 6),
         ("its region", new, 27, 2, 0), ("its versions", new, 38, 0xff, 0), ("a byte behind it", new, 40, 9, None),
         ("the other slot open with no text", new, 4096, 0xa7, None), ("a gate with no change behind it", new, 8192, 0xa7, 2),
         ("a chain that goes on", new, 24579, 1, 6), ("as many changes as may be", new, 24583, 100, None),
         ("one more", new, 24583, 101, 6), ("an update without a change", new, 24587, 1, 6), ("a byte behind the manifest", new, 28671, 1, 6),
+        ("entries compacted without a change", new, 24603, 1, 6), ("a mark of version 0", new, 24616, 1, 6),
         ("a put made a deletion", one, 8193, 2, None), ("a put made a clone", one, 8193, 3, None),
         ("a put at a version that is not there", one, 8197, 1, 2), ("a clone past the limit", single, 8193, 3, 2),
         ("the other region open behind a full one", used, 16384, 0xa7, 4), ("the last gate shut", used, 8225, 0, None),

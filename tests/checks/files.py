@@ -22,9 +22,9 @@ def formatting_writes_the_bytes_of_a_new_store(folder):
     os.close(inside)
     os.close(outside)
     data = bytes_of(path)
-    head = hexed("a7 5354524154425431 0001 0000000000000001 00000006 0000001d 00 00000004 00000064 0000000a")
+    head = hexed("a7 5354524154425431 0002 0000000000000001 00000006 00000026 00 00000004 00000064 0000000a")
     expect("the superblock", data[:40], head)
-    expect("the manifest", data[24576:24612], hexed(8 * "00" + "00" * 12 + "0000000000000001 00000001 00 000000"))
+    expect("the manifest", data[24576:24621], hexed(8 * "00" + "00" * 20 + "0000000000000001 00000001 00 00 000000"))
     for limits in ((4, 1, 1), (4096, 2 ** 24, 2 ** 14), (5, 7, 9)):
         StoreFile(folder, *limits).expect_served(f"limits {limits}", [GET_A], (reply(8, model.ABSENT), 0))
     # whatever was there is gone: other bytes, or a store with pairs

@@ -61,7 +61,7 @@ of_two_blocks first second = record {
 -- a published disk with such an array, both of whose blocks are zeros
 abbrev pub twice_erased : (first second : ℕ) → Image
 twice_erased first second =
-    patch (published_by (record chain_super { length = 106 })
+    patch (published_by (record chain_super { length = 118 })
     (record chain_manifest {
       changes = 5;
       updates = 2;

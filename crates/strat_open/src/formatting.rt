@@ -71,8 +71,7 @@ pub fn format<D: Disk>(
     changes_max: u32,
     versions_max: u32,
 ) -> Result<(), FormatFault>
-    requires form { (1 ≤ format) × (format ≤ 2) }
-    requires fits { AreLimits mem changes_max versions_max }
+    requires fits { (1 ≤ format) × (format ≤ 2) × AreLimits mem changes_max versions_max }
     ensures ok { OnOk result ((f : Image) → Exposes (D.view disk.old) f
         → IsNewDisk format mem changes_max versions_max (D.view disk.new)) }
     ensures images { (f : Image) → Exposes (D.view disk.old) f → IsBlank (D.view disk.old)

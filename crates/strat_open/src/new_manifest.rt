@@ -34,7 +34,7 @@ fn spell_second(into: &mut [u8])
 
 /// Spells the manifest's block in a format into one of zeros.
 fn spell(format: u16, into: &mut [u8])
-    requires form { (1 ≤ format) × (format ≤ 2) }
+    requires fits { (1 ≤ format) × (format ≤ 2) }
     requires none { into.old ≡ zeros 4096 }
     ensures ok { into.new ≡ new_block format }
 {
@@ -47,8 +47,7 @@ fn spell(format: u16, into: &mut [u8])
 
 /// Writes the manifest of a new store into its block and syncs.
 pub fn write_manifest<D: Disk>(disk: &mut D, format: u16, mem: u32) -> Result<(), Failed>
-    requires form { (1 ≤ format) × (format ≤ 2) }
-    requires fits { mem ≤ 4096 }
+    requires fits { (1 ≤ format) × (format ≤ 2) × (mem ≤ 4096) }
     ensures ok { WritesThrough (D.view disk.old) (D.view disk.new)
         (4096 * first_free mem) (new_block format) result }
     ensures cause { CountsFaults (D.faults disk.old) (D.faults disk.new) result }

@@ -29,7 +29,7 @@ fn leaves_none_or_new(alloc: Global, disk: &MemDisk, choice: u8, is_done: bool) 
 /// Formats an empty disk that fails after so many calls, and says whether it was done, where each crash leaves no store or
 /// a new one.
 fn format_behind_fuse(alloc: Global, number: u16, calls: u64) -> Option<bool>
-    requires form { (1 ≤ number) × (number ≤ 2) }
+    requires fits { (1 ≤ number) × (number ≤ 2) }
 {
     let mut disk = FuseDisk::new(MemDisk::new(alloc, &[]).ok()?, calls);
     let is_done = match format(alloc, &mut disk, number, 4, 100, 10) {
@@ -44,7 +44,7 @@ fn format_behind_fuse(alloc: Global, number: u16, calls: u64) -> Option<bool>
 
 /// After how many calls it is done, where each stop leaves no store or a new one.
 fn formatting_calls(alloc: Global, number: u16) -> Option<u64>
-    requires form { (1 ≤ number) × (number ≤ 2) }
+    requires fits { (1 ≤ number) × (number ≤ 2) }
 {
     for calls in 0..40 {
         if format_behind_fuse(alloc, number, calls)? {

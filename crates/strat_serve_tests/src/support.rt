@@ -58,8 +58,7 @@ fn store_of_format(
     changes: u32,
     versions: u32,
 ) -> Option<MemDisk>
-    requires form { (1 ≤ number) × (number ≤ 2) }
-    requires fits { AreLimits mem changes versions }
+    requires fits { (1 ≤ number) × (number ≤ 2) × AreLimits mem changes versions }
 {
     let mut disk = MemDisk::new(alloc, &[]).ok()?;
     if format(alloc, &mut disk, number, mem, changes, versions).is_err() {

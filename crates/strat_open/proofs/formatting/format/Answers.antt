@@ -35,7 +35,7 @@ ready : (g : Over) (c : After-lay g) (f : Image) → (g.D.Disk.view c.args.disk.
 ready g c f exposed =
     let v1 = g.D.Disk.view c.shut_all.new.disk in
     let shut : IsShut c.args.mem v1 = c.in_ok-shut_all.ensures.ok f exposed in
-    prepared c.args.format c.args.mem c.requires.form v1 _ shut c.in_ok-write_manifest.ensures.ok.content c.in_ok-write_manifest.ensures.ok.settled
+    prepared c.args.format c.args.mem (c.requires.fits.0, c.requires.fits.1) v1 _ shut c.in_ok-write_manifest.ensures.ok.content c.in_ok-write_manifest.ensures.ok.settled
 
 -- until the superblock is laid, an image is no store or the new one
 until_laid : (g : Over) (c : After-lay g) (f : Image) → (g.D.Disk.view c.args.disk.now).content ≡ Some f → StaysBlank (g.D.Disk.view c.args.disk.now) (g.D.Disk.view c.write_manifest.new.disk)
@@ -45,7 +45,7 @@ until_laid g c f exposed stays =
     let p : Prepared c.args.format c.args.mem v2 = ready g c f exposed in
     each_then v2 _ _ (IsNoneOrNew c.args.format c.args.mem c.args.changes_max c.args.versions_max) c.lay.ensures.time
     (none_yet c.args.format c.args.mem c.args.changes_max c.args.versions_max (g.D.Disk.view c.args.disk.now) v2 stays)
-    (laying c.args.format c.args.mem c.args.changes_max c.args.versions_max (omega (arith, c.requires.fits.mem_least)) v2 p (g.D.Disk.view c.lay.new.disk) c.first_free.result
+    (laying c.args.format c.args.mem c.args.changes_max c.args.versions_max (omega (arith, c.requires.fits.2.mem_least)) v2 p (g.D.Disk.view c.lay.new.disk) c.first_free.result
     c.first_free.ensures.ok c.lay.ensures.images (c.lay.ensures.trail p.content (lays_over c.args.format c.args.mem v2 p _)))
 
 pub returns-in_err-lay-clause-images : goal.returns-in_err-lay-clause-images
@@ -65,14 +65,14 @@ returns-clause-ok g c = λ f exposed.
     let p : Prepared c.args.format c.args.mem v2 = ready g (goal.at.returns-clause-ok g c).After-lay f exposed in
     let there = c.in_ok-lay.ensures.ok p.content p.exposed in
     new_disk c.args.format c.args.mem c.args.changes_max c.args.versions_max v3 _ there (settled_at v3 _ there c.in_ok-lay.ensures.durable) (g.met.D.Disk.leaves_content c.lay.new.disk)
-    (laid c.args.format c.args.mem c.args.changes_max c.args.versions_max (omega (arith, c.requires.fits.mem_least)) v2 p v3 c.first_free.result
+    (laid c.args.format c.args.mem c.args.changes_max c.args.versions_max (omega (arith, c.requires.fits.2.mem_least)) v2 p v3 c.first_free.result
     c.first_free.ensures.ok c.lay.ensures.time c.lay.ensures.images (c.in_ok-lay.ensures.found p.content (lays_over c.args.format c.args.mem v2 p _)))
 
 -- what the manifest and the superblock leave alone
 kept_manifest : (g : Over) (c : After-write_manifest g) → KeepsOthers c.args.mem (g.D.Disk.view c.args.disk.now) (g.D.Disk.view c.write_manifest.new.disk)
 kept_manifest g c =
     keep_trans c.args.mem _ _ _ c.shut_all.ensures.time c.write_manifest.ensures.ok.time c.shut_all.ensures.kept
-    (tears_keep c.args.mem (4096 * first_free c.args.mem) (length (new_block c.args.format)) _ _ (λ i from to. inr (inr (inr (from, omega (arith, length-new_block c.args.format c.requires.form))))) c.write_manifest.ensures.ok.images)
+    (tears_keep c.args.mem (4096 * first_free c.args.mem) (length (new_block c.args.format)) _ _ (λ i from to. inr (inr (inr (from, omega (arith, length-new_block c.args.format (c.requires.fits.0, c.requires.fits.1)))))) c.write_manifest.ensures.ok.images)
 
 kept_laid : (g : Over) (c : After-lay g) → KeepsOthers c.args.mem (g.D.Disk.view c.args.disk.now) (g.D.Disk.view c.lay.new.disk)
 kept_laid g c =
