@@ -4,7 +4,7 @@ use Rattle.std.proofs.lemmas.Bool.{le-leb}
 use Rattle.std.proofs.lemmas.List.{length-replicate}
 use Rattle.def_bytes.specs.Chain.{link_bytes}
 use Rattle.def_crash.specs.Image.{Image, Outside, SameIn, patch, window}
-use Rattle.def_bytes.specs.Layout.{region_at, first_free}
+use Rattle.def_bytes.specs.Layout.{region_at, first_free, shortest_manifest}
 use Rattle.def_bytes.specs.Manifest.{manifest_bytes}
 use Rattle.def_crash.specs.Moments.{DiskView, Images, Since, Passes, TearsOnly, IsDurable}
 use Rattle.strat_base.specs.Numbers.{be}
@@ -133,27 +133,27 @@ module _ (format mem changes_max versions_max : ℕ) (some : 0 < mem) (v : DiskV
             subst IsPaid same (fresh_paid mem changes_max versions_max);
       }
 
-  -- the superblock of a new store, with the number of its manifest's block as it was reckoned
-  abbrev super_at : ℕ → Super
-  super_at first = record (super_for format mem changes_max versions_max) { manifest = first }
+  -- the superblock of a new store, with its manifest's block and length as they were reckoned
+  abbrev super_at : ℕ → ℕ → Super
+  super_at first size = record (super_for format mem changes_max versions_max) { manifest = first; length = size }
 
   -- an image of the content, but for the first block
   torn_front : (new : DiskView) → TearsOnly v new 0 4096 → (c : Image) → Since new v.moment c → Outside 0 4096 p.content c
   torn_front new tears c since = let torn = tears.each c since in subst (λ (d : Image). Outside 0 4096 d c) (p.only torn.0 torn.1) torn.2
 
   -- while the superblock is laid, an image is no store or the new one
-  pub laying : (new : DiskView) (first : ℕ) → first ≡ first_free mem → TearsOnly v new 0 4096
-      → ((c : Image) → Since new v.moment c → OldOrNew p.content 0 (super_at first) c) → (c : Image) → Since new v.moment c → IsNoneOrNew format mem changes_max versions_max c
-  laying new first is tears either c since = elim (either c since) [
+  pub laying : (new : DiskView) (first size : ℕ) → first ≡ first_free mem → size ≡ shortest_manifest format → TearsOnly v new 0 4096
+      → ((c : Image) → Since new v.moment c → OldOrNew p.content 0 (super_at first size) c) → (c : Image) → Since new v.moment c → IsNoneOrNew format mem changes_max versions_max c
+  laying new first size is long tears either c since = elim (either c since) [
     | inl old ↦ inl (old ∙ none_newest p.content p.first p.second)
-    | inr here ↦ inr (new_store c (torn_front new tears c since) (here ∙ (λ j. Ok (Some (0, super_at (is j))))))
+    | inr here ↦ inr (new_store c (torn_front new tears c since) (here ∙ (λ j. Ok (Some (0, super_at (is j) (long j))))))
   ]
 
   -- once it is laid, an image is the new store
-  pub laid : (new : DiskView) (first : ℕ) → first ≡ first_free mem → Passes v new → TearsOnly v new 0 4096
-      → ((c : Image) → Images new c → newest_in c ≡ Ok (Some (0, super_at first))) → (c : Image) → Images new c → IsNewStore format mem changes_max versions_max c
-  laid new first is passes tears newest c left =
-      new_store c (torn_front new tears c (now_since_start v new c passes left)) (newest c left ∙ (λ j. Ok (Some (0, super_at (is j)))))
+  pub laid : (new : DiskView) (first size : ℕ) → first ≡ first_free mem → size ≡ shortest_manifest format → Passes v new → TearsOnly v new 0 4096
+      → ((c : Image) → Images new c → newest_in c ≡ Ok (Some (0, super_at first size))) → (c : Image) → Images new c → IsNewStore format mem changes_max versions_max c
+  laid new first size is long passes tears newest c left =
+      new_store c (torn_front new tears c (now_since_start v new c passes left)) (newest c left ∙ (λ j. Ok (Some (0, super_at (is j) (long j)))))
 
 -- a settled disk each of whose images is a new store is a new disk
 pub new_disk : (format mem changes_max versions_max : ℕ) (v : DiskView) (f : Image) → v.content ≡ Some f → ((c : Image) → Images v c → c ≡ f) → IfSome v.content (Images v)

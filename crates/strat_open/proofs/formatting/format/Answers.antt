@@ -45,8 +45,8 @@ until_laid g c f exposed stays =
     let p : Prepared c.args.format c.args.mem v2 = ready g c f exposed in
     each_then v2 _ _ (IsNoneOrNew c.args.format c.args.mem c.args.changes_max c.args.versions_max) c.lay.ensures.time
     (none_yet c.args.format c.args.mem c.args.changes_max c.args.versions_max (g.D.Disk.view c.args.disk.now) v2 stays)
-    (laying c.args.format c.args.mem c.args.changes_max c.args.versions_max (omega (arith, c.requires.fits.2.mem_least)) v2 p (g.D.Disk.view c.lay.new.disk) c.first_free.result
-    c.first_free.ensures.ok c.lay.ensures.images (c.lay.ensures.trail p.content (lays_over c.args.format c.args.mem v2 p _)))
+    (laying c.args.format c.args.mem c.args.changes_max c.args.versions_max (omega (arith, c.requires.fits.2.mem_least)) v2 p (g.D.Disk.view c.lay.new.disk) c.first_free.result c.shortest_manifest.result
+    c.first_free.ensures.ok c.shortest_manifest.ensures.ok c.lay.ensures.images (c.lay.ensures.trail p.content (lays_over c.args.format c.args.mem v2 p _)))
 
 pub returns-in_err-lay-clause-images : goal.returns-in_err-lay-clause-images
 returns-in_err-lay-clause-images g c = λ f exposed blank.
@@ -65,8 +65,8 @@ returns-clause-ok g c = λ f exposed.
     let p : Prepared c.args.format c.args.mem v2 = ready g (goal.at.returns-clause-ok g c).After-lay f exposed in
     let there = c.in_ok-lay.ensures.ok p.content p.exposed in
     new_disk c.args.format c.args.mem c.args.changes_max c.args.versions_max v3 _ there (settled_at v3 _ there c.in_ok-lay.ensures.durable) (g.met.D.Disk.leaves_content c.lay.new.disk)
-    (laid c.args.format c.args.mem c.args.changes_max c.args.versions_max (omega (arith, c.requires.fits.2.mem_least)) v2 p v3 c.first_free.result
-    c.first_free.ensures.ok c.lay.ensures.time c.lay.ensures.images (c.in_ok-lay.ensures.found p.content (lays_over c.args.format c.args.mem v2 p _)))
+    (laid c.args.format c.args.mem c.args.changes_max c.args.versions_max (omega (arith, c.requires.fits.2.mem_least)) v2 p v3 c.first_free.result c.shortest_manifest.result
+    c.first_free.ensures.ok c.shortest_manifest.ensures.ok c.lay.ensures.time c.lay.ensures.images (c.in_ok-lay.ensures.found p.content (lays_over c.args.format c.args.mem v2 p _)))
 
 -- what the manifest and the superblock leave alone
 kept_manifest : (g : Over) (c : After-write_manifest g) → KeepsOthers c.args.mem (g.D.Disk.view c.args.disk.now) (g.D.Disk.view c.write_manifest.new.disk)
