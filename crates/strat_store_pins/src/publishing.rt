@@ -73,7 +73,7 @@ pub fn wrong_publications_are_refused()
     ensures value { ¬ Succeeds chain_logged (record chain_next { levels = [] }) }
     ensures few { ¬ MayBeNext published_disk published_disk (at_generation 5 chain_next)
         (at_generation 6 chain_again) None [] chain_next.chained.manifest.levels }
-    ensures format { ¬ IsPromotedFrom (at_format 7 chain_logged) (at_format 7 chain_next) }
+    ensures format { ¬ IsPromotedFrom (at_format 1 chain_logged) (at_format 1 chain_next) }
 {}
 
 /// Before the old region is shut nothing stands that could be published again: that would read the old records once
