@@ -1,5 +1,5 @@
 -- The next manifest, once it is written.
-use Rattle.std.proofs.Common.{◌≡◌, ℕ, List, [], ◌∷◌, ◌++◌, length, Option, Result, Ok, Err, IfOk, refl, sym, ap, ◌∙◌, subst, arith}
+use Rattle.std.proofs.Common.{◌≡◌, ◌≤◌, ℕ, true, List, [], ◌∷◌, ◌++◌, length, Option, Result, Ok, Err, IfOk, refl, sym, ap, ◌∙◌, subst, arith}
 use Rattle.strat_base.specs.declared.descriptors.Extent.{Extent}
 use Rattle.strat_base.specs.declared.descriptors.LevelDesc.{LevelDesc}
 use Rattle.def_crash.specs.Image.{Image}
@@ -8,7 +8,7 @@ use Rattle.strat_extent.specs.Change.{IsMarked}
 use Rattle.def_bytes.specs.Arrays.{blocks_of}
 use Rattle.def_bytes.specs.Chain.{IsChain, next_block}
 use Rattle.def_bytes.specs.Chained.{Chained}
-use Rattle.def_bytes.specs.Manifest.{Manifest, manifest_bytes}
+use Rattle.def_bytes.specs.Manifest.{Manifest, is_lawful_manifest, manifest_bytes}
 use Rattle.strat_manifest.proofs.ChainStoredLemmas.{some_bytes}
 use Rattle.strat_manifest.specs.Chains.{IsStored}
 use Rattle.def_publish.proofs.OccupiedLemmas.{marked_more, taken_beside, next_space}
@@ -24,14 +24,14 @@ ok_and (Ok x) P Q R f p q = f x p q
 ok_and (Err e) P Q R f p q = p
 
 -- contents that name it have it
-pub has_stored : (g : Image) (first size : ℕ) (chain : List Extent) (m : Manifest) (new : Contents) → IsStored newest_format g first size m (blocks_of chain) → size ≡ length (manifest_bytes newest_format m)
+pub has_stored : (g : Image) (first size : ℕ) (chain : List Extent) (m : Manifest) (new : Contents) → is_lawful_manifest newest_format m ≡ true → IsStored newest_format g first size m (blocks_of chain) → size ≡ length (manifest_bytes newest_format m)
     → IsWrittenTo first size chain m new → HasManifest g new
-has_stored g first size chain m new stored len w = by_blocks (blocks_of chain) refl
+has_stored g first size chain m new lawful stored len w = by_blocks (blocks_of chain) refl
   where
     by_blocks : (blocks : List ℕ) → blocks_of chain ≡ blocks → HasManifest g new
     by_blocks [] e =
         let none = subst (λ (bs : List ℕ). IsChain g bs (manifest_bytes newest_format m)) e stored.chain in
-        absurd (let some = some_bytes m in let count = none.count in omega (arith, some, count))
+        absurd (let some : 38 ≤ length (manifest_bytes newest_format m) = some_bytes newest_format m lawful in let count = none.count in omega (arith, some, count))
     by_blocks (b ∷ others) e =
         let head : new.sb.manifest ≡ b = w.first_is ∙ stored.first_is ∙ ap next_block e in
         let text : manifest_bytes newest_format m ≡ manifest_bytes new.sb.format new.chained.manifest = λ i. manifest_bytes (sym w.format i) (sym w.chained i).manifest in

@@ -203,7 +203,6 @@ fn admit_next(alloc: Global, held: &OpenStore, computed: Computed) -> Result<Nex
 
 /// Writes the next contents of a store but for their superblock beside what it holds, and tests what their manifest
 /// says. Errors are those of `compute_beside`, and want of memory; `Unfit` never comes where the store stands.
-#[tactic(auto, using(crate::proofs::MarkedLemmas::admitted_undropped))]
 fn prepare_next<D: Disk>(
     alloc: Global,
     held: &OpenStore,

@@ -171,7 +171,7 @@ returns-clause-disk g c = λ other cached on.
     let greater : c.args.held.now.sb.generation < next.sb.generation = omega (arith, ap (λ (sb : Super). sb.generation) found.sb_is) in
     subst (λ (h : Held). IsOnDisk (g.D.Disk.view c.install.new.disk) h) (sym (c.in_ok-install.ensures.ok cached))
     (published_on v (g.D.Disk.view c.prepare_next.new.disk) (g.D.Disk.view c.install.new.disk) s next.target (super_of next.sb) (chained_of next.published) next.published.levels next.filters
-    (c.requires.kept.0 cached).0 (ap (option_map open_of) c.requires.kept.2) refl (c.prepare_next.ensures.images cached) c.in_ok-next.ensures.disk (g.met.D.Disk.leaves_content c.prepare_next.new.disk) c.in_ok-install.ensures.disk c.install.ensures.time
+    (c.requires.kept.0 cached).0 (ap (option_map open_of) c.requires.kept.2) (ap (λ (sb : Super). sb.format) found.sb_is) (c.prepare_next.ensures.images cached) c.in_ok-next.ensures.disk (g.met.D.Disk.leaves_content c.prepare_next.new.disk) c.in_ok-install.ensures.disk c.install.ensures.time
     greater (c.in_ok-next.ensures.fits cached).mem c.in_ok-next.ensures.kept.0.belonging on)
 
 pub returns-in_err-next-clause-same : goal.returns-in_err-next-clause-same
