@@ -39,8 +39,6 @@ CLAUSES = {
     "cursors": ("what became of the cursors", r"[Cc]ursors"),
     "filter": ("what became of the filter of an array", r"[Ff]ilter"),
     "filters": ("of which keys the filters of arrays are", r"[Ff]ilter"),
-    "form": ("which formats of a store may be asked for", r"[Ff]ormat"),
-    "marks": ("that each mark of a version is 0 or 1", r"[Mm]arks"),
 }
 CLAUSES_MOST = 12  # of one function
 

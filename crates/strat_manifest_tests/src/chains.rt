@@ -156,12 +156,7 @@ fn with_manifest(
 }
 
 /// The spelling of a manifest, where it isn't too long.
-fn short_spelling(
-    alloc: Global,
-    format: u16,
-    versions: u16,
-    levels: u8,
-) -> Result<Vec<u8>, Trouble>
+fn short_spelling(alloc: Global, format: u16, versions: u16, levels: u8) -> Result<Vec<u8>, Trouble>
     ensures fits { IfOk result (λ b. length b.items ≤ 100000) }
 {
     let bytes = spelled(alloc, format, versions, levels)?;

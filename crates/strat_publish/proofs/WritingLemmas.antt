@@ -8,8 +8,8 @@ use Rattle.strat_extent.specs.Change.{IsMarked}
 use Rattle.def_bytes.specs.Arrays.{blocks_of}
 use Rattle.def_bytes.specs.Chain.{IsChain, next_block}
 use Rattle.def_bytes.specs.Chained.{Chained}
-use Rattle.def_bytes.specs.Manifest.{Manifest, is_lawful_manifest, manifest_bytes}
-use Rattle.strat_manifest.proofs.ChainStoredLemmas.{some_bytes}
+use Rattle.def_bytes.specs.Manifest.{Manifest, manifest_bytes}
+use Rattle.strat_manifest.proofs.ChainStoredLemmas.{some_byte}
 use Rattle.strat_manifest.specs.Chains.{IsStored}
 use Rattle.def_publish.proofs.OccupiedLemmas.{marked_more, taken_beside, next_space}
 use Rattle.def_publish.specs.Contents.{Contents}
@@ -31,7 +31,7 @@ has_stored g first size chain m new lawful stored len w = by_blocks (blocks_of c
     by_blocks : (blocks : List ℕ) → blocks_of chain ≡ blocks → HasManifest g new
     by_blocks [] e =
         let none = subst (λ (bs : List ℕ). IsChain g bs (manifest_bytes newest_format m)) e stored.chain in
-        absurd (let some : 38 ≤ length (manifest_bytes newest_format m) = some_bytes newest_format m lawful in let count = none.count in omega (arith, some, count))
+        absurd (let some = some_byte newest_format m in let count = none.count in omega (arith, some, count))
     by_blocks (b ∷ others) e =
         let head : new.sb.manifest ≡ b = w.first_is ∙ stored.first_is ∙ ap next_block e in
         let text : manifest_bytes newest_format m ≡ manifest_bytes new.sb.format new.chained.manifest = λ i. manifest_bytes (sym w.format i) (sym w.chained i).manifest in

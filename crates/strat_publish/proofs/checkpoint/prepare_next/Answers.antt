@@ -5,7 +5,6 @@ use Rattle.def_bytes.proofs.ManifestLemmas.{pass_at}
 use Rattle.def_bytes.specs.Chained.{Chained}
 use Rattle.def_bytes.specs.Manifest.{Manifest}
 use Rattle.def_bytes.specs.SuperBlock.{Super}
-use Rattle.def_recovery.proofs.PassedLemmas.{belonging_tests}
 use Rattle.strat_gate.specs.SuperView.{super_of}
 use Rattle.strat_manifest.specs.ManifestView.{manifest_of}
 use Rattle.strat_publish.specs.Publishing.{manifest_after}
@@ -13,6 +12,7 @@ use Rattle.strat_publish.specs.Settling.{StandApart}
 use Rattle.strat_memory.specs.Admitting.{chained_of}
 use Rattle.strat_memory.specs.RecoveredFields.{held_of, empty_cache}
 use Rattle.strat_publish.proofs.LaidLemmas.{written_as}
+use Rattle.strat_publish.proofs.MarkedLemmas.{admitted_undropped}
 use Rattle.strat_publish.proofs.ObstacleLemmas.{short_block, short_cause}
 use Rattle.strat_publish.proofs.SettlingLemmas.{may_admit, numbered_from, readied_as}
 use Rattle.strat_publish.specs.declared.made.Made.{Made}
@@ -53,6 +53,22 @@ returns-clause-found g c = record {
       ∙ (λ i. manifest_after (manifest_of c.args.held.now.published.manifest) c.args.held.now.memory (sym c.in_ok-next.ensures.ok.2 i) c.in_ok-computed.computed.made.level);
   sb_is = c.in_ok-next.ensures.ok.0;
 }
+
+pub returns-clause-fits : goal.returns-clause-fits
+returns-clause-fits g c = λ cached.
+    let sb_is = c.in_ok-next.ensures.ok.0 in
+    let manifest_is = ap (λ (h : Chained). h.manifest) c.in_ok-next.ensures.found ∙ c.in_ok-computed.ensures.found in
+    record {
+      lawful = c.in_ok-next.ensures.ok.1;
+      region = ap (λ (sb : Super). sb.region) sb_is;
+      mem = ap (λ (sb : Super). sb.mem) sb_is;
+      changes_max = ap (λ (sb : Super). sb.changes_max) sb_is;
+      versions_max = ap (λ (sb : Super). sb.versions_max) sb_is;
+      changes = ap (λ (m : Manifest). m.changes) manifest_is;
+      updates = ap (λ (m : Manifest). m.updates) manifest_is;
+      parents = ap (λ (m : Manifest). m.parents) manifest_is;
+      undropped = admitted_undropped (super_of c.in_ok-next.next.sb) c.in_ok-next.next.published c.in_ok-next.ensures.kept;
+    }
 
 pub returns-clause-disk : goal.returns-clause-disk
 returns-clause-disk g c =
