@@ -1,3 +1,4 @@
+pub mod MarkedLemmas
 pub mod LookLawLemmas
 pub mod NeededLemmas
 pub mod PublishingLemmas

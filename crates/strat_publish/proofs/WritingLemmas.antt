@@ -1,5 +1,5 @@
 -- The next manifest, once it is written.
-use Rattle.std.proofs.Common.{◌≡◌, ◌≤◌, ℕ, true, List, [], ◌∷◌, ◌++◌, length, Option, Result, Ok, Err, IfOk, refl, sym, ap, ◌∙◌, subst, arith}
+use Rattle.std.proofs.Common.{◌≡◌, ℕ, List, [], ◌∷◌, ◌++◌, length, Option, Result, Ok, Err, IfOk, refl, sym, ap, ◌∙◌, subst, arith}
 use Rattle.strat_base.specs.declared.descriptors.Extent.{Extent}
 use Rattle.strat_base.specs.declared.descriptors.LevelDesc.{LevelDesc}
 use Rattle.def_crash.specs.Image.{Image}
@@ -24,9 +24,9 @@ ok_and (Ok x) P Q R f p q = f x p q
 ok_and (Err e) P Q R f p q = p
 
 -- contents that name it have it
-pub has_stored : (g : Image) (first size : ℕ) (chain : List Extent) (m : Manifest) (new : Contents) → is_lawful_manifest newest_format m ≡ true → IsStored newest_format g first size m (blocks_of chain) → size ≡ length (manifest_bytes newest_format m)
+pub has_stored : (g : Image) (first size : ℕ) (chain : List Extent) (m : Manifest) (new : Contents) → IsStored newest_format g first size m (blocks_of chain) → size ≡ length (manifest_bytes newest_format m)
     → IsWrittenTo first size chain m new → HasManifest g new
-has_stored g first size chain m new lawful stored len w = by_blocks (blocks_of chain) refl
+has_stored g first size chain m new stored len w = by_blocks (blocks_of chain) refl
   where
     by_blocks : (blocks : List ℕ) → blocks_of chain ≡ blocks → HasManifest g new
     by_blocks [] e =

@@ -1,7 +1,6 @@
 use Rattle.std.proofs.Common.{ℕ, sym, ap, subst, ◌∙◌, arith}
 use Rattle.strat_base.proofs.ResultFacts.{err_of}
 use Rattle.def_bytes.specs.Arrays.{blocks_of}
-use Rattle.def_bytes.proofs.ManifestLemmas.{pass_at}
 use Rattle.def_bytes.specs.Chained.{Chained}
 use Rattle.def_bytes.specs.Manifest.{Manifest}
 use Rattle.def_bytes.specs.SuperBlock.{Super}
@@ -9,7 +8,6 @@ use Rattle.strat_gate.specs.SuperView.{super_of}
 use Rattle.strat_manifest.specs.ManifestView.{manifest_of}
 use Rattle.strat_publish.specs.Publishing.{manifest_after}
 use Rattle.strat_publish.specs.Settling.{StandApart}
-use Rattle.strat_memory.specs.Admitting.{chained_of}
 use Rattle.strat_memory.specs.RecoveredFields.{held_of, empty_cache}
 use Rattle.strat_publish.proofs.LaidLemmas.{written_as}
 use Rattle.strat_publish.proofs.MarkedLemmas.{admitted_undropped}
@@ -25,23 +23,6 @@ pub returns-clause-ok : goal.returns-clause-ok
 returns-clause-ok g c = λ x cached stands.
     readied_as (g.D.Disk.view c.compute_beside.new.disk) (held_of c.args.held.now cached) x _ _ _ _ _ _ _ _ c.in_ok-next.ensures.ok.0 c.in_ok-next.ensures.found c.in_ok-next.ensures.ok.2 c.in_ok-next.ensures.filters
     (c.in_ok-computed.ensures.ok x cached stands).0
-
-pub returns-clause-fits : goal.returns-clause-fits
-returns-clause-fits g c = λ cached.
-    let next = c.in_ok-next.next in
-    let is = c.in_ok-next.ensures.ok.0 in
-    let manifest_is = ap (λ (y : Chained). y.manifest) c.in_ok-next.ensures.found ∙ c.in_ok-computed.ensures.found in
-    record {
-      lawful = c.in_ok-next.ensures.ok.1;
-      region = ap (λ (sb : Super). sb.region) is;
-      mem = ap (λ (sb : Super). sb.mem) is;
-      changes_max = ap (λ (sb : Super). sb.changes_max) is;
-      versions_max = ap (λ (sb : Super). sb.versions_max) is;
-      changes = ap (λ (m : Manifest). m.changes) manifest_is;
-      updates = ap (λ (m : Manifest). m.updates) manifest_is;
-      parents = ap (λ (m : Manifest). m.parents) manifest_is;
-      undropped = pass_at (belonging_tests (super_of next.sb) (chained_of next.published)) 8 c.in_ok-next.ensures.kept.belonging;
-    }
 
 pub returns-clause-found : goal.returns-clause-found
 returns-clause-found g c = record {

@@ -18,7 +18,7 @@ returns-in_err-written-clause-damaged g c = λ b bad. c.in_err-written.ensures.d
 
 pub returns-clause-ok : goal.returns-clause-ok
 returns-clause-ok g c = λ told h now new to.
-    has_stored h c.in_ok-written.written.0 c.in_ok-written.written.1 c.in_ok-written.written.2 (manifest_of c.args.m.now) new c.requires.fits.0 (c.in_ok-written.ensures.ok told h now) c.in_ok-written.ensures.len to
+    has_stored h c.in_ok-written.written.0 c.in_ok-written.written.1 c.in_ok-written.written.2 (manifest_of c.args.m.now) new (c.in_ok-written.ensures.ok told h now) c.in_ok-written.ensures.len to
 
 pub returns-clause-kept : goal.returns-clause-kept
 returns-clause-kept g c = space_written c.args.space.now c.write.new.space c.in_ok-written.written.2 c.in_ok-written.ensures.found.0
