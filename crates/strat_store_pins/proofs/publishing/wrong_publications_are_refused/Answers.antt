@@ -12,5 +12,5 @@ returns c = record {
   lost = λ n. let bad : 0 ≡ 1 = ap (λ (j : List Change). length j) n.journal in omega (arith, bad);
   value = none_lost;
   few = λ m. true≢false (sym m.few);
-  format = λ p. let bad : 7 ≡ 1 = p.format in omega (arith, bad);
+  format = λ p. let bad : 7 ≡ 2 = p.format in omega (arith, bad);
 }
