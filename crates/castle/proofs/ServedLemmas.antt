@@ -13,7 +13,7 @@ use Rattle.strat_model.specs.declared.ended.Ended.TheVariants as ended
 use Rattle.strat_model.specs.declared.replies.Refusal.TheVariants as why
 use Rattle.strat_model.specs.Answer.{refusal}
 use Rattle.strat_model.specs.Batch.{Continuation, tables_behind, tables_continued}
-use Rattle.strat_model.specs.Run.{Position, Response, Exchange, Interruption, IsTranscript, Transcript, bodies_of, of_interruption, positions_of}
+use Rattle.strat_model.specs.Run.{Position, Response, Exchange, Interruption, IsTranscript, Transcript, bodies_of, of_interruption}
 use Rattle.strat_model.specs.Stream.{Splits, Whole, Rest, ending_of}
 use Rattle.strat_model.specs.Table.{Table, fresh, bare}
 use Rattle.def_recovery.specs.Head.{Head}
@@ -27,7 +27,6 @@ use Rattle.strat_model.proofs.BatchLemmas.{over_nothing}
 use Rattle.strat_loop.specs.Session.{Took, AreNextIn, IsAtEnd, Session, EndsFor, GaveUp, RefusesFor, EndHasCause}
 use Rattle.strat_serve.specs.Serving.{FollowsRun, Served, RunOutcome}
 use Rattle.strat_loop.specs.World.{World, world}
-use Rattle.std.specs.List.{AllByRecursion}
 use Rattle.strat_loop.specs.Spoken.{FitsBothRegions}
 use Rattle.strat_serve.proofs.StreamedLemmas.{few_bytes, front_of, all_of_it}
 use Rattle.castle.specs.Working.{EndsWorkload, EndsAfterAll, workload_start, FollowsNew, CarriesOutWorkload, LeavesWorkload}

@@ -15,7 +15,7 @@ returns-clause-ok g c =
 
 pub returns-in_default-clause-images : goal.returns-in_default-clause-images
 returns-in_default-clause-images g c = λ f exposed blank.
-    none_yet c.args.mem c.args.changes_max c.args.versions_max (g.D.Disk.view c.args.disk.now) (g.D.Disk.view c.args.disk.now) (blank_leaves _ _ blank (leaves_refl _))
+    none_yet 2 c.args.mem c.args.changes_max c.args.versions_max (g.D.Disk.view c.args.disk.now) (g.D.Disk.view c.args.disk.now) (blank_leaves _ _ blank (leaves_refl _))
 
 pub returns-in_default-clause-kept : goal.returns-in_default-clause-kept
 returns-in_default-clause-kept g c = keep_refl c.args.mem (g.D.Disk.view c.args.disk.now)

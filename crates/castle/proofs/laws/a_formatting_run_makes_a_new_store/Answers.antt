@@ -14,7 +14,7 @@ pub returns-clause-left : goal.returns-clause-left
 returns-clause-left g c = λ path mem changes versions status x y d e f i ran ends exposed image.
     let disk = ran.2.left (format_left status ran.0 ran.1 ends) f exposed in
     let new = subst (λ (b : Image). IsNewStore 2 mem changes versions b) (sym (disk.rest.alone i image)) disk.new in
-    (new.shows, new.reads, head_for 2 mem changes versions, new.found, refl)
+    (new.shows, new.reads, (head_for 2 mem changes versions, new.found, refl))
 
 pub returns-clause-moments : goal.returns-clause-moments
 returns-clause-moments g c = λ path mem changes versions status x y d e f i ran exposed blank since. none_or_shown mem changes versions i (ran.2.moments f exposed blank i since)
