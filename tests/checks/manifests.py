@@ -178,12 +178,17 @@ def the_rules_of_a_sound_file_are_checked(folder):
 
 
 def chains_of_a_manifest_are_followed(folder):
-    path = os.path.join(folder, "a.store")
-    head = formats.new_head(MEM, 100000, 16384)
-    tree = formats.EMPTY._replace(changes=4000, parents=tuple(version // 2 for version in range(3000)))
+    for form, versions in ((1, 3000), (2, 2400)):
+        expect_chain_followed(os.path.join(folder, "a.store"), form, versions)
+
+
+def expect_chain_followed(path, form, versions):
+    """A manifest with so many versions, which takes three blocks in this format, is read where its links and its fill are right."""
+    head = formats.new_head(MEM, 100000, 16384, form)
+    tree = formats.EMPTY._replace(changes=4000, parents=tuple(version // 2 for version in range(versions - 1)))
     chain = [12, 7, 20]
     data = formats.file_of(0, head, tree, chain)
-    expect("a chain", expect_opened("a chain", path, data), 0)
+    expect(f"a chain, format {form}", expect_opened("a chain", path, data), 0)
     for name, block, link in (("an end before the last", 7, 0), ("a last that goes on", 20, 30), ("a circle", 7, 12), ("itself", 7, 7),
                               ("no block", 7, 2 ** 32 - 1), ("the first itself", 12, 12)):
         wrong = bytearray(data)
@@ -191,14 +196,14 @@ def chains_of_a_manifest_are_followed(folder):
         expect_refused(name, path, bytes(wrong), block)
     for block in (1, 5):
         expect_refused(f"over block {block}", path, formats.file_of(0, head, tree, [12, block, 20]), 12)
-    left = 20 * BLOCK + 4 + len(formats.spelled(tree)) - 2 * formats.CHAINED
+    left = 20 * BLOCK + 4 + len(formats.spelled(tree, form)) - 2 * formats.CHAINED
     for place in (left, 21 * BLOCK - 1):
         expect_refused(f"filled at {place}", path, (data[:place] + b"\1" + data[place + 1:]).ljust(21 * BLOCK, b"\0"), 12)
 
 
-def long_chain(block):
+def long_chain(block, form):
     """A file of 2,100 versions, whose manifest lies in blocks 6, 20 and 9, and whose only array has `a` at version 0 in this block."""
-    head = formats.new_head(MEM, 100000, 16384)._replace(generation=2, region=1)
+    head = formats.new_head(MEM, 100000, 16384, form)._replace(generation=2, region=1)
     level = formats.Level(1, 1, (formats.Array(1, 1, 1, 1, ((block, 1),), (0,)),))
     tree, chain = formats.Manifest(2100, 1, 1, 2, (0,) * 2099, (level,)), [6, 20, 9]
     blocks = {} if block in chain else {block: formats.block_of([formats.Entry(b"a", 0, b"1")])}
@@ -206,12 +211,17 @@ def long_chain(block):
 
 
 def a_long_chain_is_followed_by_a_longer_one(folder):
-    path = os.path.join(folder, "a.store")
+    for form in (1, 2):
+        expect_longer_chain(os.path.join(folder, "a.store"), form)
+
+
+def expect_longer_chain(path, form):
+    """The next manifest behind a long one of this format lies in the lowest free blocks, and is of format 2."""
     for block in (6, 20, 9, 5):
-        expect_refused(f"an array in block {block}", path, long_chain(block), 6)
+        expect_refused(f"an array in block {block}", path, long_chain(block, form), 6)
     for block in (7, 19):
-        expect(f"an array in block {block}", expect_opened(f"an array in block {block}", path, long_chain(block)), 0)
-    data = long_chain(7)
+        expect(f"an array in block {block}", expect_opened(f"an array in block {block}", path, long_chain(block, form)), 0)
+    data = long_chain(7, form)
     with open(path, "wb") as file:
         file.write(data)
     store = formats.store_of(data, formats.read(data))
@@ -224,8 +234,8 @@ def a_long_chain_is_followed_by_a_longer_one(folder):
     # the lowest blocks that are free: 8 and 10 have the arrays, one of which is for 2,099 versions
     data = bytes_of(path)
     contents = formats.read(data)
-    expect("the next chain", (contents.slot, contents.head.generation, contents.head.length, contents.chain),
-           (0, 3, 16906, (11, 12, 13, 14, 15)))
+    expect("the next chain", (contents.slot, contents.head.form, contents.head.generation, contents.head.length, contents.chain),
+           (0, 2, 3, 19014, (11, 12, 13, 14, 15)))
     expect("its arrays", [array.extents for array in formats.arrays_of(contents.manifest)], [((8, 1),), ((10, 1),)])
     expect("broken rules", rules.breaches(data, contents), [])
     expect_alike("a long chain", formats.store_of(data, contents), store)
