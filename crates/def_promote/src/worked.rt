@@ -2,16 +2,19 @@
 
 #![tactic(auto, unfolding(strat_base::specs::Tree::climb, def_state::specs::State::deep))]
 
-ghost use Rattle.std.specs.Prelude.{◌≡◌, [], ◌∷◌};
+ghost use Rattle.std.specs.Prelude.{◌≡◌, [], ◌∷◌, true, false};
 ghost use Rattle.strat_base.specs.Samples.{says, gone};
 ghost use Rattle.def_split.specs.Groups.{group_versions, level_of_groups};
 ghost use Rattle.def_split.specs.Splits.{pair, later_groups, later_plan, wide_groups, wide_plan};
 ghost use Rattle.def_promote.specs.Begun.{first_writes};
+ghost use Rattle.def_promote.specs.Kept.{kept_over};
 ghost use Rattle.def_promote.specs.Merging.{Merges};
 ghost use Rattle.def_promote.specs.Paid.{entries_written, IsLeastTarget};
 ghost use Rattle.def_promote.specs.Promoted.{promoted, PromotesGroups, fresh_of_groups, levels_of_groups};
 ghost use Rattle.def_promote.specs.Purge.{purged};
+ghost use Rattle.def_promote.specs.Thin.{thinned};
 ghost use Rattle.def_state.specs.Counted.{own_at, keys_at};
+ghost use Rattle.def_state.specs.Maps.{map_over};
 ghost use Rattle.def_state.specs.State.{IsPaid};
 ghost use Rattle.def_state.specs.Worked.{array_of, first_level, fan};
 
@@ -61,4 +64,30 @@ pub fn the_newer_run_stands()
     ensures { Merges
         ((says 97 0 50 ∷ []) ∷ (says 97 0 49 ∷ says 98 0 49 ∷ []) ∷ [])
         ((says 97 0 50 ∷ []) ∷ (says 98 0 49 ∷ []) ∷ []) }
+{}
+
+/// Of entries at a version and its parent: what repeats the parent's goes, and a dropped version's go.
+pub fn entries_are_thinned()
+    ensures equal { thinned pair (false ∷ false ∷ []) (says 97 1 49 ∷ says 97 0 49 ∷ [])
+        ≡ says 97 0 49 ∷ [] }
+    ensures other { thinned pair (false ∷ false ∷ []) (says 97 1 50 ∷ says 97 0 49 ∷ [])
+        ≡ says 97 1 50 ∷ says 97 0 49 ∷ [] }
+    ensures below { thinned pair (false ∷ false ∷ []) (gone 97 1 ∷ says 97 0 49 ∷ [])
+        ≡ gone 97 1 ∷ says 97 0 49 ∷ [] }
+    ensures alone { thinned pair (false ∷ false ∷ []) (gone 97 1 ∷ gone 97 0 ∷ []) ≡ [] }
+    ensures dropped { thinned pair (false ∷ true ∷ [])
+        (says 97 0 49 ∷ says 98 1 50 ∷ says 99 0 51 ∷ []) ≡ says 97 0 49 ∷ says 99 0 51 ∷ [] }
+{}
+
+/// Of maps at a version and its parent: a key that only the parent has counts as one that only the version has, and those of
+/// a dropped version do not count.
+pub fn differences_of_maps_are_counted()
+    ensures living { kept_over pair (false ∷ false ∷ [])
+        (λ v. map_over pair (gone 97 1 ∷ says 97 0 49 ∷ says 98 1 50 ∷ []) v) ≡ 3 }
+    ensures changed { kept_over pair (false ∷ false ∷ [])
+        (λ v. map_over pair (says 97 1 50 ∷ says 97 0 49 ∷ says 98 0 50 ∷ []) v) ≡ 3 }
+    ensures equal { kept_over pair (false ∷ false ∷ [])
+        (λ v. map_over pair (says 97 1 49 ∷ says 97 0 49 ∷ []) v) ≡ 1 }
+    ensures dropped { kept_over pair (false ∷ true ∷ [])
+        (λ v. map_over pair (gone 97 1 ∷ says 97 0 49 ∷ says 98 1 50 ∷ []) v) ≡ 1 }
 {}
