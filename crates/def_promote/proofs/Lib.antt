@@ -1,4 +1,5 @@
 pub mod UnionLemmas
+pub mod DropLemmas
 pub mod PurgeLemmas
 pub mod LevelsLemmas
 pub mod ReplacedLemmas
@@ -10,3 +11,6 @@ pub mod SealedLemmas
 pub mod TargetLemmas
 pub mod ReadLemmas
 pub mod UniqueLemmas
+pub mod ThinLemmas
+pub mod KeptLemmas
+pub mod CompactedLemmas

@@ -162,7 +162,7 @@ levels_written s j (level ∷ levels) each =
 
 -- the journal
 
-latest_few : (entries : List Entry) → length (latest entries) ≤ length entries
+pub latest_few : (entries : List Entry) → length (latest entries) ≤ length entries
 latest_few [] = omega arith
 latest_few (e ∷ entries) =
     let rest = latest_few entries in

@@ -88,10 +88,10 @@ module _ (s : State) (sound : IsOrdered s) (j : ℕ) (taken kept : List Level) (
   low : (e : Entry) → Among e over → e.version < horizon_of plan
   low e among = let known = union_known s sound j taken kept entries takes union e (inside e among) in omega (arith, known, horizon)
 
-  made_stratified : IsStratified parents made
+  pub made_stratified : IsStratified parents made
   made_stratified = plan_stratified parents tree over plan low split j first up
 
-  made_entry : (e : Entry) → Among e (level_leads made) → Among e over
+  pub made_entry : (e : Entry) → Among e (level_leads made) → Among e over
   made_entry e among = lead_entry parents tree over plan low split j first up e among
 
   made_new : 0 < length plan.parts → IsNewLevel s j made
@@ -167,7 +167,7 @@ module _ (s : State) (sound : IsOrdered s) (j : ℕ) (taken kept : List Level) (
 
 module _ (parents : Parents) (groups : List (List Entry)) (grouped : AreGroups groups) where
   -- the entries of a key are found in its group
-  find_in_group : (group : List Entry) → Among group groups → (e : Entry) → Among e group → (u : ℕ) → find (is_at e.key u) (grouped_entries groups) ≡ find (is_at e.key u) group
+  pub find_in_group : (group : List Entry) → Among group groups → (e : Entry) → Among e group → (u : ℕ) → find (is_at e.key u) (grouped_entries groups) ≡ find (is_at e.key u) group
   find_in_group group among e there u =
       elim (option_cases (find (is_at e.key u) (grouped_entries groups))) [
         | inl none ↦
@@ -201,7 +201,7 @@ module _ (parents : Parents) (groups : List (List Entry)) (grouped : AreGroups g
   over_groups (level ∷ kept) = refl
 
 -- groups from which entries are dropped are groups
-kept_keyed : (p : List Entry → Entry → Bool) (groups : List (List Entry)) → list_all has_one_key groups ≡ true → list_all has_one_key (map (λ group. filter (p group) group) groups) ≡ true
+pub kept_keyed : (p : List Entry → Entry → Bool) (groups : List (List Entry)) → list_all has_one_key groups ≡ true → list_all has_one_key (map (λ group. filter (p group) group) groups) ≡ true
 kept_keyed p [] keyed = refl
 kept_keyed p (group ∷ groups) keyed =
     let parts = and_parts (has_one_key group) (list_all has_one_key groups) keyed in
@@ -219,7 +219,7 @@ kept_keyed p (group ∷ groups) keyed =
         go [] inside = refl
         go (x ∷ es) inside = all_from (is_of x.key) es (λ d among. same_bytes d.key x.key (key_of d (inside d (inr among)) ∙ sym (key_of x (inside x (inl refl)))))
 
-kept_apart : (p : List Entry → Entry → Bool) (groups : List (List Entry)) → are_keyed_apart groups ≡ true → are_keyed_apart (map (λ group. filter (p group) group) groups) ≡ true
+pub kept_apart : (p : List Entry → Entry → Bool) (groups : List (List Entry)) → are_keyed_apart groups ≡ true → are_keyed_apart (map (λ group. filter (p group) group) groups) ≡ true
 kept_apart p [] apart = refl
 kept_apart p (group ∷ groups) apart =
     let parts = and_parts (list_all (λ e. not (list_any (is_of e.key) (grouped_entries groups))) group) (are_keyed_apart groups) apart in

@@ -19,7 +19,6 @@ use Rattle.def_state.specs.Sound.{has_child_below, shallower, has_old_horizon, i
 use Rattle.strat_base.proofs.ListFacts.{Among, any_among, all_at, all_from, all_same, among_split, among_left, among_right, among_flat, among_in_flat, range_among, each_of, each_from, filter_map-append}
 use Rattle.strat_base.proofs.TreeLemmas.{path_kept}
 use Rattle.def_state.proofs.AppendedLemmas.{stratified_kept, least_kept}
-use Rattle.def_state.proofs.MarkLemmas.{accepted_drop}
 use Rattle.def_state.proofs.SealLemmas.{no_child}
 use Rattle.def_state.proofs.SoundLemmas.{sound_tree, tree_from_test, clone_known, tree_accepted, ordered, with_settled}
 use Rattle.def_state.proofs.StepLemmas.{versions-appended, marks-appended, updates-appended}
@@ -151,9 +150,9 @@ module _ (a b : State) (same : SaysTheSame a b) (one : IsOrdered a) (two : IsOrd
       ]
   maps_after (DropVersion u) left right fits_a fits_b v known =
       let lt : v < length (versions_of a) = subst (λ (parents : Parents). v < length parents) (versions-appended a (DropVersion u)) known in
-      drop_map b u two (accepted_drop b.changes_max b.versions_max (versions_of b) (marks_of b) (changes_of b) u right) v
+      drop_map b u two right v
       ∙ (λ i. cond (eqb v u) [] (same.maps v lt i))
-      ∙ sym (drop_map a u one (accepted_drop a.changes_max a.versions_max (versions_of a) (marks_of a) (changes_of a) u left) v)
+      ∙ sym (drop_map a u one left v)
 
   says_after : (c : Change) → accepts_change a c ≡ true → accepts_change b c ≡ true → length a.journal < journal_max a.mem → length b.journal < journal_max b.mem → SaysTheSame (appended a c) (appended b c)
   says_after c accepts_a accepts_b fits_a fits_b =

@@ -6,3 +6,6 @@ pub mod Replaced
 pub mod Begun
 pub mod Paid
 pub mod Sealed
+pub mod Thin
+pub mod Kept
+pub mod Compacted

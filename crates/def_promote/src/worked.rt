@@ -2,17 +2,21 @@
 
 #![tactic(auto, unfolding(strat_base::specs::Tree::climb, def_state::specs::State::deep))]
 
-ghost use Rattle.std.specs.Prelude.{◌≡◌, [], ◌∷◌};
+ghost use Rattle.std.specs.Prelude.{◌≡◌, [], ◌∷◌, true, false, map};
 ghost use Rattle.strat_base.specs.Samples.{says, gone};
 ghost use Rattle.def_split.specs.Groups.{group_versions, level_of_groups};
 ghost use Rattle.def_split.specs.Splits.{pair, later_groups, later_plan, wide_groups, wide_plan};
-ghost use Rattle.def_promote.specs.Begun.{first_writes};
+ghost use Rattle.def_promote.specs.Begun.{first_writes, repeated_writes, repeated_groups, repeated_plan};
+ghost use Rattle.def_promote.specs.Compacted.{thinned_in, CompactsGroups, compact_level_of_groups, compacted_to};
+ghost use Rattle.def_promote.specs.Kept.{kept_over};
 ghost use Rattle.def_promote.specs.Merging.{Merges};
 ghost use Rattle.def_promote.specs.Paid.{entries_written, IsLeastTarget};
 ghost use Rattle.def_promote.specs.Promoted.{promoted, PromotesGroups, fresh_of_groups, levels_of_groups};
 ghost use Rattle.def_promote.specs.Purge.{purged};
+ghost use Rattle.def_promote.specs.Thin.{thinned};
 ghost use Rattle.def_state.specs.Counted.{own_at, keys_at};
-ghost use Rattle.def_state.specs.State.{IsPaid};
+ghost use Rattle.def_state.specs.Maps.{map_over};
+ghost use Rattle.def_state.specs.State.{versions_of, marks_of, map_at, stored, IsPaid};
 ghost use Rattle.def_state.specs.Worked.{array_of, first_level, fan};
 
 /// A journal with a clone and a put at it becomes level 1, which has one array.
@@ -61,4 +65,47 @@ pub fn the_newer_run_stands()
     ensures { Merges
         ((says 97 0 50 ∷ []) ∷ (says 97 0 49 ∷ says 98 0 49 ∷ []) ∷ [])
         ((says 97 0 50 ∷ []) ∷ (says 98 0 49 ∷ []) ∷ []) }
+{}
+
+/// Of entries at a version and its parent: what repeats the parent's goes, and a dropped version's go.
+pub fn entries_are_thinned()
+    ensures equal { thinned pair (false ∷ false ∷ []) (says 97 1 49 ∷ says 97 0 49 ∷ [])
+        ≡ says 97 0 49 ∷ [] }
+    ensures other { thinned pair (false ∷ false ∷ []) (says 97 1 50 ∷ says 97 0 49 ∷ [])
+        ≡ says 97 1 50 ∷ says 97 0 49 ∷ [] }
+    ensures below { thinned pair (false ∷ false ∷ []) (gone 97 1 ∷ says 97 0 49 ∷ [])
+        ≡ gone 97 1 ∷ says 97 0 49 ∷ [] }
+    ensures alone { thinned pair (false ∷ false ∷ []) (gone 97 1 ∷ gone 97 0 ∷ []) ≡ [] }
+    ensures dropped { thinned pair (false ∷ true ∷ [])
+        (says 97 0 49 ∷ says 98 1 50 ∷ says 99 0 51 ∷ []) ≡ says 97 0 49 ∷ says 99 0 51 ∷ [] }
+{}
+
+/// Of maps at a version and its parent: a key that only the parent has counts as one that only the version has, and those of
+/// a dropped version do not count.
+pub fn differences_of_maps_are_counted()
+    ensures living { kept_over pair (false ∷ false ∷ [])
+        (λ v. map_over pair (gone 97 1 ∷ says 97 0 49 ∷ says 98 1 50 ∷ []) v) ≡ 3 }
+    ensures changed { kept_over pair (false ∷ false ∷ [])
+        (λ v. map_over pair (says 97 1 50 ∷ says 97 0 49 ∷ says 98 0 50 ∷ []) v) ≡ 3 }
+    ensures equal { kept_over pair (false ∷ false ∷ [])
+        (λ v. map_over pair (says 97 1 49 ∷ says 97 0 49 ∷ []) v) ≡ 1 }
+    ensures dropped { kept_over pair (false ∷ true ∷ [])
+        (λ v. map_over pair (gone 97 1 ∷ says 97 0 49 ∷ says 98 1 50 ∷ []) v) ≡ 1 }
+{}
+
+/// A put, a clone, and the same put at that: a compaction leaves one entry for both versions, which differ from their parents
+/// at one key in all.
+pub fn a_repeated_put_is_compacted()
+    ensures compacts { CompactsGroups repeated_writes 1 repeated_groups
+        (own_at (group_versions (map (thinned_in repeated_writes) repeated_groups)))
+        (keys_at pair (group_versions (map (thinned_in repeated_writes) repeated_groups)))
+        repeated_plan }
+    ensures level { compact_level_of_groups repeated_writes 1 repeated_groups repeated_plan 1
+        ≡ first_level 2 (array_of 1 (0 ∷ 1 ∷ []) (says 97 0 49 ∷ []) 1 1 1 ∷ []) }
+    ensures kept { kept_over (versions_of repeated_writes) (marks_of repeated_writes)
+        (map_at repeated_writes)
+        ≡ 1 }
+    ensures stored { stored (compacted_to repeated_writes
+        (compact_level_of_groups repeated_writes 1 repeated_groups repeated_plan 1) 1 2)
+        ≡ 1 }
 {}

@@ -42,8 +42,7 @@ use Rattle.def_recovery.specs.Opened.{array_on, level_on, parents_in}
 use Rattle.def_recovery.specs.Opening.{has_own_blocks, has_own_ids, has_own_versions, is_filled, has_few_publications, belongs, recover_manifest, accepted_in, recover_journal, state_of, reads_as}
 use Rattle.def_recovery.specs.Passed.{is_sized, IsTestedArray, IsTestedLevel, PassesOpening}
 use Rattle.def_recovery.proofs.OpeningLemmas.{map_some, next_some, each_some, manifest_tests, level_tests, lawful_found, journal_tests, state_found}
-use Rattle.strat_base.specs.Marks.{Marks, none_dropped, takes_drops}
-use Rattle.def_state.proofs.MarkLemmas.{accepted_drop}
+use Rattle.strat_base.specs.Marks.{Marks}
 
 -- an entry that is read from a block has lawful sizes
 sized_fits : (e : Entry) → fits_fields e ≡ true → is_sized e ≡ true
@@ -170,7 +169,7 @@ module _ (changes_max versions_max : ℕ) where
       let more = apart (length parents) versions_max (and_parts (is_there parents marks v) (not (eqb (length parents) versions_max)) parts.0).1 few in
       (apart n changes_max parts.1 le, omega (arith, more, length-append parents (Some v ∷ [])))
   one_within parents marks n (DropVersion v) is le few =
-      let parts = and_parts (takes_updates parents marks v && not (eqb v 0)) (not (eqb n changes_max)) (accepted_drop changes_max versions_max parents marks n v is) in
+      let parts = and_parts (takes_updates parents marks v && not (eqb v 0)) (not (eqb n changes_max)) is in
       (apart n changes_max parts.1 le, few)
 
   within : (parents : Parents) (marks : Marks) (n : ℕ) (journal : List Change) → are_accepted changes_max versions_max parents marks n journal ≡ true → n ≤ changes_max → length parents ≤ versions_max
@@ -339,8 +338,7 @@ belonging_tests sb found =
     has_own_blocks sb found.blocks found.manifest ∷ has_own_ids found.manifest ∷ list_all has_own_versions found.manifest.levels
     ∷ leb (versions_in found.manifest) sb.versions_max ∷ leb found.manifest.changes sb.changes_max
     ∷ leb (fold (λ n a. n + a.leads) 0 (descriptors found.manifest)) found.manifest.updates
-    ∷ list_all is_filled (descriptors found.manifest) ∷ has_few_publications sb found.manifest
-    ∷ (takes_drops || none_dropped found.manifest.marks) ∷ []
+    ∷ list_all is_filled (descriptors found.manifest) ∷ has_few_publications sb found.manifest ∷ []
 
 -- what an opening tests of a manifest with its superblock
 record Belongs (sb : Super) (m : Manifest) : Type 0 where
@@ -350,7 +348,6 @@ record Belongs (sb : Super) (m : Manifest) : Type 0 where
   next : m.next_array ≤ 16384 * m.changes + 1
   written : m.written ≤ 33554432 * m.changes
   compacted : m.compacted ≤ 33554432 * m.changes
-  undropped : (takes_drops || none_dropped m.marks) ≡ true
 
 belongs_from : (sb : Super) (x : Chained) → belongs sb x ≡ true → Belongs sb x.manifest
 belongs_from sb x e =
@@ -364,7 +361,6 @@ belongs_from sb x e =
       next = leb-true m.next_array (16384 * m.changes + 1) (and_parts (leb sb.generation (m.changes + 1)) (leb m.next_array (16384 * m.changes + 1)) few.0).1;
       written = leb-true m.written (33554432 * m.changes) few.1;
       compacted = leb-true m.compacted (33554432 * m.changes) tests.1;
-      undropped = pass_at (belonging_tests sb x) 8 e;
     }
 
 belongs_read : (c : Image) (sb : Super) (m : Manifest) → recover_manifest c sb ≡ Ok m → Belongs sb m
@@ -405,7 +401,6 @@ module _ (c : Image) (sb : Super) (m : Manifest) (journal : List Change) (found 
         next_most = fits.next;
         written_most = fits.written;
         compacted_most = fits.compacted;
-        undropped = fits.undropped;
         distinct = ap is_distinct (ids_kept c m.levels made.0 made.1) ∙ fits.ids;
         tested = levels_tested c (versions_in m) m.next_array m.levels made.0 made.1 (pass_at (manifest_tests sb.format m) 8 lawful);
         sized = journal_sized c sb m journal changes;

@@ -1,9 +1,9 @@
 -- What recovery finds in the bytes of a disk, and the state that they read as.
-use Rattle.std.specs.Prelude.{ℕ, suc, ◌+◌, ◌*◌, nat_lt, nat_le, ◌&&◌, ◌||◌, Bool, if◌then◌else◌, List, [], ◌∷◌, ◌++◌, map, flat_map, sum_by, Option, Some, None, Ok, Err, option_and_then}
+use Rattle.std.specs.Prelude.{ℕ, suc, ◌+◌, ◌*◌, nat_lt, nat_le, ◌&&◌, Bool, if◌then◌else◌, List, [], ◌∷◌, ◌++◌, map, flat_map, sum_by, Option, Some, None, Ok, Err, option_and_then}
 use Rattle.std.specs.List.{list_all}
 use Rattle.def_crash.specs.Image.{Image}
 use Rattle.strat_base.specs.Tree.{Parents}
-use Rattle.strat_base.specs.Marks.{Marks, none_dropped, takes_drops}
+use Rattle.strat_base.specs.Marks.{Marks}
 use Rattle.def_state.specs.Level.{is_distinct}
 use Rattle.def_bytes.specs.Manifest.{Manifest, all_pass, versions_in}
 use Rattle.strat_base.specs.declared.descriptors.ArrayDesc.{ArrayDesc}
@@ -61,7 +61,6 @@ belongs sb found = all_pass (
     ∷ nat_le (sum_by (λ a. a.leads) (descriptors found.manifest)) found.manifest.updates
     ∷ list_all is_filled (descriptors found.manifest)
     ∷ has_few_publications sb found.manifest
-    ∷ (takes_drops || none_dropped found.manifest.marks)
     ∷ [])
 
 -- the manifest of a superblock, or the block that is damaged

@@ -1,9 +1,8 @@
 -- What an opening has tested of a state beside that it is well formed. It holds whether the state is
 -- sound or not, and soundness does not give it.
-use Rattle.std.specs.Prelude.{◌≤◌, ◌<◌, ℕ, ◌+◌, ◌*◌, ◌&&◌, ◌||◌, Bool, List, length, map, flat_map, slice_index, IsTrue}
+use Rattle.std.specs.Prelude.{◌≤◌, ◌<◌, ℕ, ◌+◌, ◌*◌, ◌&&◌, Bool, List, length, map, flat_map, slice_index, IsTrue}
 use Rattle.std.specs.List.{list_all, AllByRecursion}
 use Rattle.strat_base.specs.Entries.{Entry}
-use Rattle.strat_base.specs.Marks.{none_dropped, takes_drops}
 use Rattle.strat_base.specs.EntryBytes.{is_markable}
 use Rattle.strat_base.specs.Sizes.{is_key}
 use Rattle.def_bytes.specs.Manifest.{is_rising}
@@ -46,8 +45,6 @@ pub record PassesOpening (s : State) : Type 0 where
   pub next_most : s.next_array ≤ 16384 * s.changes + 1
   pub written_most : s.written ≤ 33554432 * s.changes
   pub compacted_most : s.compacted ≤ 33554432 * s.changes
-  -- no version was dropped before the changes of the journal, while a build takes no drops
-  pub undropped : IsTrue (takes_drops || none_dropped s.marks)
   pub distinct : IsTrue (is_distinct (map (λ a. a.id) (arrays_of s)))
   pub tested : AllByRecursion (IsTestedLevel s.next_array) s.levels
   pub sized : IsTrue (list_all is_sized (journal_updates s))

@@ -5,7 +5,7 @@ use Rattle.std.specs.Option.{option_map_or}
 use Rattle.std.proofs.lemmas.Bool.{cases_Bool, cases_eq, eqb-true, eq-eqb, ltb-true, and_parts, and_from, or_cases, or_left, or_right, not-true, not_from_false, false_from_ne_true}
 use Rattle.std.proofs.lemmas.List.{length-set, get_or-set_other}
 use Rattle.strat_base.specs.Tree.{Parents, parent_of, path, is_known, with_child, IsTree}
-use Rattle.strat_base.specs.Marks.{Marks, is_dropped, has_living_child, are_pruned, ArePruned, takes_drops}
+use Rattle.strat_base.specs.Marks.{Marks, is_dropped, has_living_child, are_pruned, ArePruned}
 use Rattle.strat_base.specs.Change.{Change, Put, Delete, Clone, DropVersion}
 use Rattle.strat_base.proofs.ListFacts.{Among, all_at, all_from, any_from, among_range}
 use Rattle.strat_base.proofs.TreeLemmas.{along_path, on_root, on_path, parent_kept, child_on_path}
@@ -128,13 +128,6 @@ module _ (changes_max versions_max : ℕ) (parents : Parents) (marks : Marks) (n
       let inner = and_parts (takes_updates parents marks v) (not (eqb v 0)) outer.0 in
       (inner.0, not-true (eqb v 0) inner.1)
 
-  -- what is said of a drop that is accepted goes through this, so that it stays right in a build that takes drops
-  pub accepted_drop : (v : ℕ) → is_accepted changes_max versions_max parents marks n (DropVersion v) ≡ true → is_droppable changes_max parents marks n v ≡ true
-  accepted_drop v h = (and_parts takes_drops (is_droppable changes_max parents marks n v) h).1
-
-  drop_open : (v : ℕ) → is_accepted changes_max versions_max parents marks n (DropVersion v) ≡ true → (takes_updates parents marks v ≡ true) × (eqb v 0 ≡ false)
-  drop_open v h = droppable_open v (accepted_drop v h)
-
 -- a tree that was pruned stays so while changes are accepted
 module _ (changes_max versions_max : ℕ) where
   pub pruned_after : (parents : Parents) (marks : Marks) (n : ℕ) (c : Change) → IsTree parents → ArePruned parents marks → is_accepted changes_max versions_max parents marks n c ≡ true
@@ -162,7 +155,7 @@ module _ (changes_max versions_max : ℕ) where
       pushed_parent [] w p is = cc
       pushed_parent (q ∷ ps) w p is = pushed_parent ps w p is
   pruned_after parents marks n (DropVersion w) tree pruned h =
-      let open' = drop_open changes_max versions_max parents marks n w h in
+      let open' = droppable_open changes_max versions_max parents marks n w h in
       record {
         len = let size = pruned.len in omega (arith, size, length-set marks w true);
         root = get_or-set_other marks w 0 true false (λ same. true≢false (sym (eq-eqb w 0 (sym same)) ∙ open'.1)) ∙ pruned.root;

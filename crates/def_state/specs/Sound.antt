@@ -4,7 +4,7 @@ use Rattle.std.specs.Option.{option_map_or}
 use Rattle.std.specs.List.{list_any, list_all, range_with_len, AllByRecursion}
 use Rattle.strat_base.specs.declared.limits.TheConstants.{LEVELS}
 use Rattle.strat_base.specs.Tree.{Parents, is_known, parent_of}
-use Rattle.strat_base.specs.Marks.{Marks, is_dropped, has_living_child, are_pruned, takes_drops}
+use Rattle.strat_base.specs.Marks.{Marks, is_dropped, has_living_child, are_pruned}
 use Rattle.strat_base.specs.Entries.{is_ascending}
 use Rattle.strat_base.specs.Change.{Change, Put, Delete, Clone, DropVersion}
 use Rattle.def_state.specs.Level.{TaggedArray, Level, own_leads, least_live, level_leads, IsStratified}
@@ -91,7 +91,7 @@ is_accepted changes_max versions_max parents marks changes (Clone version) =
     is_there parents marks version && not (length parents == versions_max)
     && not (changes == changes_max)
 is_accepted changes_max versions_max parents marks changes (DropVersion version) =
-    takes_drops && is_droppable changes_max parents marks changes version
+    is_droppable changes_max parents marks changes version
 
 -- each change is accepted in its turn
 abbrev pub are_accepted : ℕ → ℕ → Parents → Marks → ℕ → List Change → Bool

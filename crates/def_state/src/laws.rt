@@ -101,8 +101,8 @@ pub fn a_clone_copies_a_map()
         × (changes_of (appended s (Clone p)) ≡ changes_of s + 1) }
 {}
 
-/// A version that a sound state may drop has the empty map once it is dropped, and no other map changes. Where a build
-/// takes drops, the state stays sound.
+/// A version that a sound state may drop has the empty map once it is dropped, no other map changes, and the state stays
+/// sound.
 pub fn a_drop_empties_a_map()
     ensures kept { (s : State) (v : ℕ) → Takes s (DropVersion v)
         → IsSound (appended s (DropVersion v)) }

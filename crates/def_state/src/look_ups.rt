@@ -4,13 +4,12 @@ ghost use Rattle.std.specs.List.{list_any};
 ghost use Rattle.std.specs.Prelude.{◌≡◌, ◌<◌, ℕ, Bool, List, [], ◌∷◌, ◌++◌, length, filter_map, None, option_and_then, false, IsTrue};
 ghost use Rattle.strat_base.specs.Change.{Change};
 ghost use Rattle.strat_base.specs.Entries.{Entry, is_of, latest};
-ghost use Rattle.strat_base.specs.Marks.{none_dropped};
 ghost use Rattle.strat_base.specs.Tree.{Parents};
 ghost use Rattle.def_state.specs.Level.{TaggedArray, Level};
 ghost use Rattle.def_state.specs.LookUp.{Reading, looked_up, of_state, filtered};
 ghost use Rattle.def_state.specs.Reading.{level_zero, live_of, read_at};
-ghost use Rattle.def_state.specs.Sound.{IsWellFormed, IsSound};
-ghost use Rattle.def_state.specs.State.{State, versions_of, marks_of, is_living, update_of, value_at};
+ghost use Rattle.def_state.specs.Sound.{IsSound};
+ghost use Rattle.def_state.specs.State.{State, versions_of, is_living, update_of, value_at};
 
 /// A state is read by looking up in its level 0 and its levels, and where it is sound this finds the value of
 /// the key at the version.
@@ -43,13 +42,4 @@ pub fn filters_change_no_answer()
         → ((a : TaggedArray) → may_hold a key ≡ false → list_any (is_of key) a.content ≡ false)
         → looked_up (filtered may_hold of_state) parents zeros levels v key
         ≡ looked_up of_state parents zeros levels v key }
-{}
-
-/// A build that takes no drops reads every version that a state has, if the manifest's were not dropped.
-#[tactic(auto, using(crate::proofs::UndroppedLemmas::none_now, crate::proofs::UndroppedLemmas::all_living))]
-pub fn without_drops_all_versions_are_read()
-    ensures none { (s : State) → IsWellFormed s → IsTrue (none_dropped s.marks)
-        → IsTrue (none_dropped (marks_of s)) }
-    ensures living { (s : State) (v : ℕ) → IsWellFormed s → IsTrue (none_dropped s.marks)
-        → IsTrue (is_living s v) }
 {}

@@ -35,10 +35,6 @@ pub record ArePruned (parents : Parents) (marks : Marks) : Type 0 where
   pub down : (v p : ℕ) → parent_of parents v ≡ Some p → is_dropped marks p ≡ true
       → is_dropped marks v ≡ true
 
--- no version was dropped, as in each store of a build that takes no drops
+-- no version was dropped
 abbrev pub none_dropped : Marks → Bool
 none_dropped marks = list_all not marks
-
--- whether this build drops versions. While it does not, no journal holds a drop, and no table takes one.
-abbrev pub takes_drops : Bool
-takes_drops = false

@@ -217,7 +217,7 @@ fn each_is_unset(marks: &[u32]) -> bool
 }
 
 /// Whether no mark says that a version was dropped.
-pub fn none_is_dropped(marks: &[u32]) -> bool
+fn none_is_dropped(marks: &[u32]) -> bool
     ensures ok { result ≡ list_all not (marks_listed marks.now) }
 {
     each_is_unset(marks)

@@ -28,7 +28,6 @@ mod reader;
 mod size;
 mod stored;
 
-pub use lawful::none_is_dropped;
 pub use manifest::{LevelList, Manifest, ManifestFault, Parents};
 pub use marks::living_marks;
 pub use parser::parse;

@@ -56,7 +56,7 @@ get_default (y ∷ xs) zero x d is = cc
 get_default (y ∷ xs) (suc i) x d is = get_default xs i x d is
 
 module _ (parents : Parents) (items : List Item) (v : ℕ) (down : is_descending items ≡ true) where
-  found_live : find (λ (item : Item). is_ancestor parents item.version v) items ≡ option_and_then (λ n. slice_get items n) (position (is_live_item parents items v) items)
+  pub found_live : find (λ (item : Item). is_ancestor parents item.version v) items ≡ option_and_then (λ n. slice_get items n) (position (is_live_item parents items v) items)
   found_live = find_position (λ (item : Item). is_ancestor parents item.version v) items ∙ ap (λ o. option_and_then (λ n. slice_get items n) o) (live_first parents v items down)
 
   pub value_none : None ≡ position (is_live_item parents items v) items → false ≡ is_put_at parents items v
@@ -100,7 +100,7 @@ position_within p xs i is =
     ]
 
 -- the entries of the items that say something are those that do
-find_mapped : (parents : Parents) (v : ℕ) (entry : Item → Entry) (items : List Item) → ((item : Item) → (entry item).version ≡ item.version)
+pub find_mapped : (parents : Parents) (v : ℕ) (entry : Item → Entry) (items : List Item) → ((item : Item) → (entry item).version ≡ item.version)
     → find (λ (e : Entry). is_ancestor parents e.version v) (map entry items) ≡ option_map entry (find (λ (item : Item). is_ancestor parents item.version v) items)
 find_mapped parents v entry [] at = refl
 find_mapped parents v entry (x ∷ items) at =
@@ -113,7 +113,7 @@ find_mapped parents v entry (x ∷ items) at =
     go false ih = ih
 
 -- greater versions are on no path
-find_behind : (parents : Parents) (v : ℕ) (front rest : List Item) → IsTree parents → ((x : Item) → Among x front → v < x.version)
+pub find_behind : (parents : Parents) (v : ℕ) (front rest : List Item) → IsTree parents → ((x : Item) → Among x front → v < x.version)
     → find (λ (item : Item). is_ancestor parents item.version v) (front ++ rest) ≡ find (λ (item : Item). is_ancestor parents item.version v) rest
 find_behind parents v [] rest tree above = refl
 find_behind parents v (x ∷ front) rest tree above =
@@ -128,7 +128,7 @@ find_behind parents v (x ∷ front) rest tree above =
         ]
 
 -- the items in front of one have greater versions
-front_above : (front : List Item) (item : Item) (rest : List Item) → is_descending (front ++ item ∷ rest) ≡ true → (x : Item) → Among x front → item.version < x.version
+pub front_above : (front : List Item) (item : Item) (rest : List Item) → is_descending (front ++ item ∷ rest) ≡ true → (x : Item) → Among x front → item.version < x.version
 front_above [] item rest down x among = absurd among
 front_above (y ∷ front) item rest down x (inl here) =
     let all = (and_parts (list_all (λ later. nat_lt later.version y.version) (front ++ item ∷ rest)) (is_descending (front ++ item ∷ rest)) down).0 in
@@ -146,7 +146,7 @@ module _ (parents : Parents) (tree : IsTree parents) (key : List ℕ) (value : I
   abbrev entry : Item → Entry
   entry item = record { key = key; version = item.version; value = said_by item.gone (value item) }
 
-  ascends : (items : List Item) → is_descending items ≡ true → is_ascending (map entry items) ≡ true
+  pub ascends : (items : List Item) → is_descending items ≡ true → is_ascending (map entry items) ≡ true
   ascends [] down = refl
   ascends (x ∷ items) down =
       let parts = and_parts (list_all (λ later. nat_lt later.version x.version) items) (is_descending items) down in
@@ -161,7 +161,7 @@ module _ (parents : Parents) (tree : IsTree parents) (key : List ℕ) (value : I
           (ap (λ o. is_lt (ordering_then o (nat_cmp y.version x.version))) (tied_itself nat_list_cmp_total key) ∙ ap is_lt (sym (nat_cmp_is y.version x.version Less lt)))
           (go rest parts.1)
 
-  all_of_key : (items : List Item) → filter (is_of key) (map entry items) ≡ map entry items
+  pub all_of_key : (items : List Item) → filter (is_of key) (map entry items) ≡ map entry items
   all_of_key items = filter_every (is_of key) (map entry items) (λ e among. let at = map_among entry items e among in ap (is_of key) at.2 ∙ same_bytes key key refl)
 
   valued_is : (items : List Item) (v : ℕ) → is_descending items ≡ true → is_valued parents (map entry items) key v ≡ is_put_at parents items v
@@ -232,10 +232,10 @@ drop_next zero xs = refl
 drop_next (suc i) [] = refl
 drop_next (suc i) (x ∷ xs) = drop_next i xs
 
-drop_more : {X : Type 0} (i : ℕ) (xs : List X) → drop (i + 1) xs ≡ drop 1 (drop i xs)
+pub drop_more : {X : Type 0} (i : ℕ) (xs : List X) → drop (i + 1) xs ≡ drop 1 (drop i xs)
 drop_more i xs = let e : i + 1 ≡ suc i = omega arith in ap (λ n. drop n xs) e ∙ drop_next i xs
 
-get_drop : {X : Type 0} (i : ℕ) (xs : List X) (d : X) → get_or (drop i xs) 0 d ≡ get_or xs i d
+pub get_drop : {X : Type 0} (i : ℕ) (xs : List X) (d : X) → get_or (drop i xs) 0 d ≡ get_or xs i d
 get_drop zero xs d = refl
 get_drop (suc i) [] d = refl
 get_drop (suc i) (x ∷ xs) d = get_drop i xs d

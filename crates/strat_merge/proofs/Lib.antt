@@ -5,3 +5,4 @@ pub mod GatherLemmas
 pub mod GroupLemmas
 pub mod TurnLemmas
 pub mod KeepingLemmas
+pub mod ThinningLemmas

@@ -4,3 +4,4 @@ pub mod Reading
 pub mod Gathered
 pub mod MergerFields
 pub mod Keeping
+pub mod Thinning

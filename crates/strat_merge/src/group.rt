@@ -1,14 +1,17 @@
 //! The items of one key.
 
 ghost use Rattle.std.specs.Prelude.{◌≡◌, [], ◌∷◌, ◌++◌, length, IfOk, OnOk, OnErr, IsTrue};
+ghost use Rattle.strat_arena.specs.Items.{have_pairs};
 ghost use Rattle.strat_live.specs.Counting.{are_below};
 ghost use Rattle.strat_live.specs.Group.{is_descending};
 ghost use Rattle.strat_merge.specs.Keeping.{kept_items};
+ghost use Rattle.strat_merge.specs.Thinning.{told_items};
 
 use crate::purging::keep_needed;
+use crate::thinning::keep_told;
 use std::alloc::Global;
 use std::marker::Model;
-use strat_arena::Item;
+use strat_arena::{Arena, Item};
 use strat_base::NoMemory;
 use strat_tree::Tree;
 
@@ -69,6 +72,18 @@ impl GroupBuf {
         ensures ok { self.new ≡ kept_items tree.now.parents self.old }
     {
         let kept = keep_needed(&mut self.items, tree);
+        self.items.truncate(kept);
+    }
+
+    /// Keeps the items that tell something.
+    pub(crate) fn keep_told(&mut self, arena: &Arena, tree: &Tree)
+        requires kept { IsTrue (is_descending self.old) }
+        requires fits { IsTrue (are_below (length tree.now.parents) self.old) }
+        requires room { IsTrue (have_pairs arena.now.pairs self.old) }
+        ensures ok { self.new
+            ≡ told_items tree.now.parents tree.now.marks arena.now.pairs self.old }
+    {
+        let kept = keep_told(&mut self.items, arena, tree);
         self.items.truncate(kept);
     }
 }

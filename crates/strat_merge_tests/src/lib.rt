@@ -1,4 +1,4 @@
-//! Tests of merged runs, and of purged groups.
+//! Tests of merged runs, and of purged and thinned groups.
 #![tactic(auto)]
 
 #[cfg(test)]
@@ -13,3 +13,5 @@ mod list_run;
 mod purged;
 #[cfg(test)]
 mod rows;
+#[cfg(test)]
+mod thinned;

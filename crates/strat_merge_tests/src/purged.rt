@@ -34,14 +34,14 @@ fn run_of(alloc: Global, said: &[Said]) -> Result<ListRun<'static>, NoMemory> {
 }
 
 /// Whether all items have versions below a number.
-fn all_below(items: &[Item], versions: u32) -> bool
+pub(crate) fn all_below(items: &[Item], versions: u32) -> bool
     ensures ok { result ≡ are_below versions items.now }
 {
     items.iter().all(|item| item.version < versions)
 }
 
 /// Whether items have these versions.
-fn have_versions(items: &[Item], versions: &[Version]) -> bool {
+pub(crate) fn have_versions(items: &[Item], versions: &[Version]) -> bool {
     if items.len() != versions.len() {
         return false;
     }
@@ -104,7 +104,7 @@ fn parent_in(is_chain: bool, v: Version) -> Version
 }
 
 /// A chain, or a drawn tree, of so many versions.
-fn grown(alloc: Global, is_chain: bool, versions: u32) -> Result<Tree, NoMemory>
+pub(crate) fn grown(alloc: Global, is_chain: bool, versions: u32) -> Result<Tree, NoMemory>
     requires { (1 ≤ versions) × (versions ≤ 64) }
     ensures len { IfOk result (λ t. length t.parents ≡ versions) }
 {

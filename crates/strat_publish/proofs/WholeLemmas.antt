@@ -45,7 +45,7 @@ use Rattle.strat_publish.specs.Promoting.{MayPromote, StandsMade}
 use Rattle.def_promote.proofs.PaidLemmas.{updates_few}
 use Rattle.strat_publish.proofs.PartsLemmas.{accepted_front}
 use Rattle.strat_base.specs.Marks.{Marks}
-use Rattle.def_state.proofs.MarkLemmas.{there_known, open_there, accepted_drop}
+use Rattle.def_state.proofs.MarkLemmas.{there_known, open_there}
 use Rattle.def_bytes.specs.Layout.{newest_format}
 use Rattle.strat_memory.proofs.NumbersLemmas.{array_lawful, own_numbers, low_numbers}
 
@@ -89,7 +89,7 @@ counted_in : (cm vm : ℕ) (parents : Parents) (marks : Marks) (n : ℕ) (c : Ch
 counted_in cm vm parents marks n (Put v key value) is = (and_parts (takes_updates parents marks v) (not (eqb n cm)) is).1
 counted_in cm vm parents marks n (Delete v key) is = (and_parts (takes_updates parents marks v) (not (eqb n cm)) is).1
 counted_in cm vm parents marks n (Clone v) is = (and_parts (is_there parents marks v && not (eqb (length parents) vm)) (not (eqb n cm)) is).1
-counted_in cm vm parents marks n (DropVersion v) is = (and_parts (takes_updates parents marks v && not (eqb v 0)) (not (eqb n cm)) (accepted_drop cm vm parents marks n v is)).1
+counted_in cm vm parents marks n (DropVersion v) is = (and_parts (takes_updates parents marks v && not (eqb v 0)) (not (eqb n cm)) is).1
 
 pub accepted_few : (cm vm : ℕ) (parents : Parents) (marks : Marks) (n : ℕ) (journal : List Change) → are_accepted cm vm parents marks n journal ≡ true → n ≤ cm → n + length journal ≤ cm
 accepted_few cm vm parents marks n [] accepted le = omega (arith, le)
