@@ -1,5 +1,5 @@
 -- The bytes of commands and replies. A body begins with the tag by which a client knows its reply.
-use Rattle.std.specs.Prelude.{◌≡◌, ◌<◌, ◌≤◌, ℕ, ◌^◌, ◌&&◌, Bool, true, not, nat_le, if◌then◌else◌, List, [], ◌∷◌, ◌++◌, length, Option, Some, None, IsTrue}
+use Rattle.std.specs.Prelude.{◌≡◌, ◌<◌, ◌≤◌, ℕ, ◌^◌, ◌&&◌, Bool, true, not, nat_le, if◌then◌else◌, List, [], ◌∷◌, ◌++◌, length, Option, Some, None}
 use Rattle.std.specs.List.{flat_map, AllByRecursion}
 use Rattle.strat_base.specs.Numbers.{be, number}
 use Rattle.strat_base.specs.Sizes.{is_key, is_value}
@@ -11,7 +11,6 @@ use Rattle.strat_model.specs.declared.replies.Refusal.TheVariants as why
 use Rattle.strat_model.specs.Pairs.{Pairs}
 use Rattle.strat_model.specs.Request.{Request, Put, Delete, Get, Clone, Scan, Info, OpenCursor, NextPairs, CloseCursor, Stat, DropVersion}
 use Rattle.strat_model.specs.Answer.{Answer}
-use Rattle.strat_base.specs.Marks.{takes_drops}
 
 -- a length in two bytes, and so many bytes
 abbrev pub counted : List ℕ → List ℕ
@@ -90,13 +89,13 @@ size_refusal request =
 abbrev pub FitsCount : List ℕ → Type 0
 FitsCount bytes = length bytes < 2 ^ 16
 
--- the numbers of a command and the lengths of its bytes fit their fields; no body asks for a drop until this build takes them
+-- the numbers of a command and the lengths of its bytes fit their fields
 abbrev pub FitsFields : Request → Type 0
 FitsFields (Put version key value) = (version < 2 ^ 32) × FitsCount key × FitsCount value
 FitsFields (Delete version key) = (version < 2 ^ 32) × FitsCount key
 FitsFields (Get version key) = (version < 2 ^ 32) × FitsCount key
 FitsFields (Clone version) = version < 2 ^ 32
-FitsFields (DropVersion version) = IsTrue takes_drops × (version < 2 ^ 32)
+FitsFields (DropVersion version) = version < 2 ^ 32
 FitsFields (Scan version lo hi limit) =
     (version < 2 ^ 32) × FitsCount lo × FitsCount hi × (limit < 2 ^ 16)
 FitsFields (Info version) = version < 2 ^ 32
@@ -160,6 +159,7 @@ status_byte (reply.Refused why.KeySize) = 23
 status_byte (reply.Refused why.ValueSize) = 24
 status_byte (reply.Refused why.ScanSize) = 25
 status_byte (reply.Refused why.FrameTooLong) = 26
+status_byte (reply.Refused why.Root) = 27
 status_byte (reply.Refused why.NoMemory) = 32
 status_byte (reply.Refused why.DeviceFault) = 33
 status_byte (reply.Refused (why.Damaged block)) = 34

@@ -3,7 +3,7 @@ use Rattle.std.specs.Prelude.{ℕ, ◌+◌, ◌==◌, ◌&&◌, nat_lt, Bool, tr
 use Rattle.std.specs.List.{list_any}
 use Rattle.std.specs.Option.{option_map_or}
 use Rattle.strat_base.specs.Tree.{parent_of, depth}
-use Rattle.strat_base.specs.Marks.{is_dropped, has_living_child, takes_drops}
+use Rattle.strat_base.specs.Marks.{is_dropped, has_living_child}
 use Rattle.strat_base.specs.declared.limits.TheConstants.{CURSORS_MAX}
 use Rattle.strat_model.specs.declared.replies.Reply.TheVariants as reply
 use Rattle.strat_model.specs.declared.replies.Refusal.{Refusal}
@@ -91,11 +91,11 @@ abbrev pub with_dropped : List Row → ℕ → List Row
 with_dropped rows v =
     slice_set rows v (record (slice_index_or rows v no_row) { dropped = true; pairs = [] })
 
--- a version is dropped; version 0 never is, and is refused like a frozen one until it has a refusal of its own
+-- a version is dropped, which leaves it without pairs; version 0 never is
 abbrev pub drop_version : Table → ℕ → Outcome
 drop_version t v =
     if not (has_row t v) then refuses t why.UnknownVersion else
-    if v == 0 then refuses t why.Frozen else
+    if v == 0 then refuses t why.Root else
     if is_frozen t v then refuses t why.Frozen else
     if t.changes == t.changes_max then refuses t why.ChangeLimit else
     record {
@@ -134,7 +134,7 @@ next_pairs t n limit = option_map_or
     (find (λ c. c.number == n) t.cursors)
     (refuses t why.UnknownCursor)
 
--- what a command answers at a table, and the table after it; a drop is refused by each until this build takes them
+-- what a command answers at a table, and the table after it
 abbrev pub step : Table → Request → Outcome
 step t (Put v key value) = update t v (set key value (pairs_at t v))
 step t (Delete v key) = update t v (unset key (pairs_at t v))
@@ -142,8 +142,7 @@ step t (Get v key) =
     if has_row t v then replies_with t (found key (value_of (pairs_at t v) key))
     else refuses t why.UnknownVersion
 step t (Clone v) = clone t v
-step t (DropVersion v) =
-    if takes_drops then drop_version t v else refuses t why.UnknownVersion
+step t (DropVersion v) = drop_version t v
 step t (Scan v lo hi limit) =
     if has_row t v then replies_with t (page (range (pairs_at t v) lo hi) limit)
     else refuses t why.UnknownVersion

@@ -5,13 +5,13 @@ use strat_base::Version;
 /// A command. Keys and bounds are compared by their bytes; an empty upper bound is above every key.
 #[derive(Clone, Copy, Debug, PartialEq, Eq)]
 pub enum Command<'a> {
-    /// Sets the value of a key in a version without a child.
+    /// Sets the value of a key in a version without a living child.
     Put {
         version: Version,
         key: &'a [u8],
         value: &'a [u8],
     },
-    /// Removes a key from a version without a child.
+    /// Removes a key from a version without a living child.
     Delete {
         version: Version,
         key: &'a [u8],
@@ -23,6 +23,10 @@ pub enum Command<'a> {
     },
     /// Makes a child of a version, with that version's pairs.
     Clone {
+        version: Version,
+    },
+    /// Drops a version without a living child: nothing reads it from then on, and it counts among the versions still.
+    DropVersion {
         version: Version,
     },
     /// Asks for the first pairs from `lo` on and below `hi`, at most `limit` of them.

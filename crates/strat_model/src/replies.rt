@@ -19,7 +19,7 @@ pub enum Reply {
     Made {
         version: Version,
     },
-    /// A version's parent, its distance from version 0, and whether it has a child.
+    /// A version's parent, its distance from version 0, and whether it has a living child.
     Info {
         parent: Option<Version>,
         depth: u32,
@@ -29,7 +29,7 @@ pub enum Reply {
     Opened {
         cursor: u64,
     },
-    /// How many versions there are, how many updates and changes were made, and how many cursors are open.
+    /// How many versions there are, the dropped ones too, how many updates and changes were made, and how many cursors are open.
     Stat {
         versions: u32,
         updates: u32,
@@ -44,9 +44,9 @@ pub enum Reply {
 /// Why a command was refused.
 #[derive(Clone, Copy, Debug, PartialEq, Eq)]
 pub enum Refusal {
-    /// There is no such version.
+    /// There is no such version, or it was dropped.
     UnknownVersion,
-    /// The version has a child, and takes no more changes.
+    /// The version has a living child, and takes no more changes until that is dropped.
     Frozen,
     /// There is no such cursor.
     UnknownCursor,
@@ -66,6 +66,8 @@ pub enum Refusal {
     ScanSize,
     /// The frame's length is above 2,048. Nothing after it is read.
     FrameTooLong,
+    /// Version 0 cannot be dropped.
+    Root,
     /// Memory ran out.
     NoMemory,
     /// The device failed. The store has to be opened again.
