@@ -1,9 +1,9 @@
 -- What a store has in memory of its versions and of level 0, and what changes do to it.
-use Rattle.std.specs.Prelude.{◌≡◌, ◌≤◌, ◌⊎◌, ℕ, ◌+◌, ◌-◌, ◌==◌, not, if◌then◌else◌, List, [], ◌∷◌, ◌++◌, length, take, Option, Some, None, option_map, IfSome, IsTrue}
+use Rattle.std.specs.Prelude.{◌≡◌, ◌≤◌, ◌⊎◌, ℕ, ◌+◌, ◌-◌, ◌==◌, true, false, not, if◌then◌else◌, List, [], ◌∷◌, ◌++◌, length, take, slice_set, Option, Some, None, option_map, IfSome}
 use Rattle.std.specs.Option.{option_map_or}
 use Rattle.strat_base.specs.Change.{Change, Put, Delete, Clone, DropVersion}
 use Rattle.strat_base.specs.Entries.{Entry}
-use Rattle.strat_base.specs.Tree.{Parents, is_known, parent_of, depth, has_child, with_child}
+use Rattle.strat_base.specs.Tree.{Parents, parent_of, depth, with_child}
 use Rattle.strat_base.specs.declared.descriptors.LevelDesc.{LevelDesc}
 use Rattle.strat_base.specs.declared.descriptors.ArrayDesc.{ArrayDesc}
 use Rattle.strat_cursor.specs.Cursors.{retired_all}
@@ -20,23 +20,26 @@ use Rattle.def_state.specs.Setting.{set_entry}
 use Rattle.def_meaning.specs.StateTable.{table_of}
 use Rattle.def_state.specs.State.{State}
 use Rattle.strat_cursor.specs.Looking.{arrays_asked}
-use Rattle.strat_base.specs.Marks.{none_dropped}
+use Rattle.strat_base.specs.Marks.{Marks, has_living_child}
+use Rattle.def_state.specs.Sound.{is_there}
 
--- a sealed level 0: its entries in their order, and how many versions there were, and how many updates and changes had
--- been accepted, when it was sealed
+-- a sealed level 0: its entries in their order, and how many versions there were, which of them were dropped, and how many
+-- updates and changes had been accepted, when it was sealed
 pub record SealedLevel : Type 0 where
   pub entries : List Entry
   pub versions : ℕ
+  pub marks : Marks
   pub updates : ℕ
   pub changes : ℕ
 
--- the limits of a store, its versions, what it accepted, the entries of level 0 in their order, the sealed level 0 behind
+-- the limits of a store, its versions, which of them were dropped, what it accepted, the entries of level 0 in their order, the sealed level 0 behind
 -- it, where there is one, for how many more updates level 0 has room, for how many the next level 0 has, where one stands
 -- ready, and the open cursors
 pub record Memory : Type 0 where
   pub changes_max : ℕ
   pub versions_max : ℕ
   pub parents : Parents
+  pub marks : Marks
   pub updates : ℕ
   pub changes : ℕ
   pub entries : List Entry
@@ -66,6 +69,10 @@ oldest_versions m = option_map_or (λ z. z.versions) m.sealed (length m.parents)
 abbrev pub oldest_parents : Memory → Parents
 oldest_parents m = take (oldest_versions m) m.parents
 
+-- which of them were dropped then
+abbrev pub oldest_marks : Memory → Marks
+oldest_marks m = option_map_or (λ z. z.marks) m.sealed m.marks
+
 abbrev pub oldest_updates : Memory → ℕ
 oldest_updates m = option_map_or (λ z. z.updates) m.sealed m.updates
 
@@ -75,23 +82,31 @@ oldest_changes m = option_map_or (λ z. z.changes) m.sealed m.changes
 -- why an update at a version is refused, if it is
 abbrev pub refusal_of_update : Memory → ℕ → Option Refusal
 refusal_of_update m v =
-    if not (is_known m.parents v) then Some why.UnknownVersion else
-    if has_child m.parents v then Some why.Frozen else
+    if not (is_there m.parents m.marks v) then Some why.UnknownVersion else
+    if has_living_child m.parents m.marks v then Some why.Frozen else
     if m.changes == m.changes_max then Some why.ChangeLimit else None
 
 -- why a clone of a version is refused, if it is
 abbrev pub refusal_of_clone : Memory → ℕ → Option Refusal
 refusal_of_clone m v =
-    if not (is_known m.parents v) then Some why.UnknownVersion else
+    if not (is_there m.parents m.marks v) then Some why.UnknownVersion else
     if length m.parents == m.versions_max then Some why.VersionLimit else
     if m.changes == m.changes_max then Some why.ChangeLimit else None
 
--- why a change is refused, if it is; each drop is
+-- why a drop of a version is refused, if it is
+abbrev pub refusal_of_drop : Memory → ℕ → Option Refusal
+refusal_of_drop m v =
+    if not (is_there m.parents m.marks v) then Some why.UnknownVersion else
+    if v == 0 then Some why.Root else
+    if has_living_child m.parents m.marks v then Some why.Frozen else
+    if m.changes == m.changes_max then Some why.ChangeLimit else None
+
+-- why a change is refused, if it is
 abbrev pub refusal_of_change : Memory → Change → Option Refusal
 refusal_of_change m (Put version key value) = refusal_of_update m version
 refusal_of_change m (Delete version key) = refusal_of_update m version
 refusal_of_change m (Clone version) = refusal_of_clone m version
-refusal_of_change m (DropVersion version) = Some why.UnknownVersion
+refusal_of_change m (DropVersion version) = refusal_of_drop m version
 
 -- memory after an update that is accepted
 abbrev pub with_update : Memory → Entry → Memory
@@ -108,11 +123,15 @@ memory_after m (Put version key value) =
     with_update m (record { key = key; version = version; value = Some value })
 memory_after m (Delete version key) =
     with_update m (record { key = key; version = version; value = None })
-memory_after m (Clone version) =
-    record m { parents = with_child m.parents version; changes = m.changes + 1 }
-memory_after m (DropVersion version) = m
+memory_after m (Clone version) = record m {
+  parents = with_child m.parents version;
+  marks = m.marks ++ false ∷ [];
+  changes = m.changes + 1;
+}
+memory_after m (DropVersion version) =
+    record m { marks = slice_set m.marks version true; changes = m.changes + 1 }
 
--- level 0 has room for what a change sets; a clone sets nothing
+-- level 0 has room for what a change sets; a clone and a drop set nothing
 abbrev pub HasRoomFor : Memory → Change → Type 0
 HasRoomFor m (Put version key value) = 1 ≤ m.spare
 HasRoomFor m (Delete version key) = 1 ≤ m.spare
@@ -126,7 +145,8 @@ reply_to m change = reply.Done
 
 -- what is told of a version, and of the whole store
 abbrev pub info_told : Memory → ℕ → Reply
-info_told m v = reply.Info (parent_of m.parents v) (depth m.parents v) (has_child m.parents v)
+info_told m v =
+    reply.Info (parent_of m.parents v) (depth m.parents v) (has_living_child m.parents m.marks v)
 
 abbrev pub stat_told : Memory → Reply
 stat_told m = reply.Stat (length m.parents) m.updates m.changes (length m.cursors.opened)
@@ -136,6 +156,7 @@ abbrev pub sealed_now : Memory → SealedLevel
 sealed_now m = record {
   entries = m.entries;
   versions = length m.parents;
+  marks = m.marks;
   updates = m.updates;
   changes = m.changes;
 }
@@ -172,6 +193,7 @@ fresh_memory mem changes_max versions_max = record {
   changes_max = changes_max;
   versions_max = versions_max;
   parents = None ∷ [];
+  marks = false ∷ [];
   updates = 0;
   changes = 0;
   entries = [];
@@ -211,9 +233,10 @@ table_with s rows n = record (table_of s) { cursors = rows; next_cursor = n }
 abbrev pub head_full : Head → Head
 head_full h = record h { journal = take h.sb.mem h.journal }
 
--- a sealed level 0 has the counts of a head as it was then
+-- a sealed level 0 has the counts and the marks of a head as it was then
 pub record CountsSealed (h : Head) (z : SealedLevel) : Type 0 where
   pub versions : z.versions ≡ length (head_versions (head_full h))
+  pub marks : z.marks ≡ head_marks (head_full h)
   pub updates : z.updates ≡ head_updates (head_full h)
   pub changes : z.changes ≡ head_changes (head_full h)
 
@@ -223,8 +246,7 @@ pub record IsMemoryOf (h : Head) (m : Memory) : Type 0 where
   pub changes_max : m.changes_max ≡ h.sb.changes_max
   pub versions_max : m.versions_max ≡ h.sb.versions_max
   pub parents : m.parents ≡ head_versions h
-  -- memory knows of no version that was dropped
-  pub undropped : IsTrue (none_dropped (head_marks h))
+  pub marks : m.marks ≡ head_marks h
   pub updates : m.updates ≡ head_updates h
   pub changes : m.changes ≡ head_changes h
   pub lists : HoldLists h.sb.mem h.journal m.entries (sealed_entries m) m.spare

@@ -13,13 +13,14 @@ use Rattle.def_meaning.specs.TableOver.{are_known}
 use Rattle.strat_memory.specs.Memory.{Memory, SealedLevel}
 use Rattle.strat_memory.specs.declared.memory.Memory.TheInside.{Inside}
 use Rattle.strat_memory.specs.declared.memory.Sealed.{Sealed}
-use Rattle.strat_base.specs.Marks.{none_dropped}
+use Rattle.strat_manifest.specs.ManifestView.{marks_listed}
 
 -- a sealed level 0 whose keys and values a pool has
 abbrev pub sealed_seen : List PoolEntry → Sealed → SealedLevel
 sealed_seen pool z = record {
   entries = entries_held pool z.zero.list;
   versions = z.versions;
+  marks = marks_listed z.marks;
   updates = z.updates;
   changes = z.changes;
 }
@@ -30,6 +31,7 @@ memory_held a = record {
   changes_max = a.changes_max;
   versions_max = a.versions_max;
   parents = a.tree.parents;
+  marks = a.tree.marks;
   updates = a.updates;
   changes = a.changes;
   entries = entries_held a.pool a.zero.list;
@@ -68,7 +70,7 @@ pub record IsSealedBelow (pool : List PoolEntry) (parents : Parents) (z : Sealed
   pub versions : z.versions ≤ length parents
 
 -- the fields are those of a store's memory: level 0 and all that stands beside it is in the pool, the next one without items,
--- the entries are at versions of the tree, none of which was dropped, and what was accepted is within the limits
+-- the entries are at versions of the tree, and what was accepted is within the limits
 pub record IsInMemory (a : Inside) : Type 0 where
   pub stand : StandInPool a.pool a.tree.parents a.zero (lists_beside a.sealed a.next)
       a.cursors.opened
@@ -78,4 +80,3 @@ pub record IsInMemory (a : Inside) : Type 0 where
   pub changes : a.changes ≤ a.changes_max
   pub updates : a.updates ≤ a.changes
   pub versions : a.tree.versions_max ≡ a.versions_max
-  pub undropped : IsTrue (none_dropped a.tree.marks)

@@ -25,7 +25,7 @@ use strat_base::{Extents, LevelDesc, NoMemory};
 use strat_extent::Space;
 use strat_gate::SuperBlock;
 use strat_level::{Level, LevelFault, Levels};
-use strat_manifest::{LevelList, Manifest, none_is_dropped};
+use strat_manifest::{LevelList, Manifest};
 
 /// What the last checkpoint of a store left, as it is kept in memory: the manifest, the blocks of its chain, and its
 /// levels, each in the place of its number and with the index of its versions.
@@ -125,9 +125,6 @@ fn space_if_manifest_fits(
         → belongs (super_of sb.now)
         (record { manifest = manifest_of manifest.now; blocks = blocks_of chain.now }) ≡ false)) }
 {
-    if !none_is_dropped(manifest.marks.as_slice()) {
-        return Ok(None);
-    }
     if !counts_are_plausible(sb, manifest) {
         return Ok(None);
     }

@@ -9,7 +9,7 @@ ghost use Rattle.strat_base.specs.Change.{is_lawful};
 ghost use Rattle.strat_base.specs.ChangeView.{change_of};
 ghost use Rattle.strat_base.specs.EntryBytes.{fits_fields};
 ghost use Rattle.strat_base.specs.EntryView.{val_of};
-ghost use Rattle.strat_base.specs.Tree.{is_known, with_child, IsTree};
+ghost use Rattle.strat_base.specs.Tree.{with_child, IsTree};
 ghost use Rattle.strat_base.specs.declared.limits.TheConstants.{PAIRS_MAX, VERSIONS_MAX};
 ghost use Rattle.strat_base.specs.declared.limits.TheConstants.{CURSORS_MAX as the_most};
 ghost use Rattle.def_crash.specs.Faults.{HasCause};
@@ -27,27 +27,30 @@ ghost use Rattle.strat_model.specs.Pairs.{Pairs};
 ghost use Rattle.def_meaning.specs.TableOver.{are_known};
 ghost use Rattle.def_state.specs.LookUp.{first_live};
 ghost use Rattle.def_state.specs.Reading.{live_of};
-ghost use Rattle.strat_memory.specs.Memory.{SealedLevel, refusal_of_update, refusal_of_clone, refusal_of_change, with_update, memory_after, HasRoomFor, reply_to, info_told, stat_told, fresh_memory, KeepsRows, cursor_from, with_cursor, lists_in_memory, oldest_changes, oldest_entries, oldest_updates, oldest_versions, sealed_entries, sealed_off, unsealed};
-ghost use Rattle.strat_base.specs.Marks.{is_dropped};
+ghost use Rattle.strat_memory.specs.Memory.{SealedLevel, refusal_of_update, refusal_of_clone, refusal_of_drop, refusal_of_change, with_update, memory_after, HasRoomFor, reply_to, info_told, stat_told, fresh_memory, KeepsRows, cursor_from, with_cursor, lists_in_memory, oldest_changes, oldest_entries, oldest_marks, oldest_updates, oldest_versions, sealed_entries, sealed_off, unsealed};
+ghost use Rattle.strat_base.specs.Marks.{is_dropped, are_pruned};
+ghost use Rattle.def_state.specs.Sound.{is_there};
+ghost use Rattle.strat_manifest.specs.ManifestView.{marks_listed};
 
 use std::alloc::Global;
 use std::marker::Model;
 use std::mem;
 use strat_arena::ArenaPool;
 use strat_array::{Cache, Seen};
-use strat_base::{ArrayDesc, Change, NoMemory, PairBuf, Val, Version};
+use strat_base::{ArrayDesc, Change, NoMemory, PairBuf, Val, Version, Versions};
 use strat_cursor::{CursorFault, Cursors, NextFault, ScanBuffers};
 use strat_disk::Disk;
 use strat_level::{Levels, Zero, ZeroView};
 use strat_model::{Refusal, Reply};
 use strat_tree::Tree;
 
-/// A level 0 that takes no more updates, and how many versions there were, and how many updates and changes had been
-/// accepted, when it was sealed.
+/// A level 0 that takes no more updates, and how many versions there were, which of them were dropped, and how many
+/// updates and changes had been accepted, when it was sealed.
 #[derive(Drop)]
 pub struct Sealed {
     zero: Zero,
     versions: u32,
+    marks: Versions,
     updates: u32,
     changes: u32,
 }
@@ -95,6 +98,44 @@ fn grow(tree: &mut Tree, parents: &[u32])
         tree.add_child(*p);
     }
     tree.number();
+}
+
+/// Drops each version whose mark is 1, the youngest first, so that none has a living child then.
+fn prune(tree: &mut Tree, marks: &[u32])
+    requires fits { IsTrue (are_pruned tree.old.parents (marks_listed marks.now)) }
+    requires kept { (v : ℕ) → is_dropped tree.old.marks v ≡ false }
+    ensures ok { tree.new ≡ record tree.old { marks = marks_listed marks.now } }
+{
+    let mut v = tree.count();
+    while v > 1 {
+        v -= 1;
+        if marks[v as usize] == 1 {
+            tree.mark_dead(v);
+        }
+    }
+}
+
+/// Equal marks.
+fn copy_of(alloc: Global, marks: &Versions) -> Result<Versions, NoMemory>
+    ensures ok { IfOk result (λ copy. copy ≡ marks.now) }
+{
+    let mut copy = Versions::new(alloc);
+    copy.extend(marks.as_slice())?;
+    Ok(copy)
+}
+
+/// The marks of all versions of a tree: 1 if it was dropped, else 0.
+fn marks_of(alloc: Global, tree: &Tree) -> Result<Versions, NoMemory>
+    ensures ok { IfOk result (λ marks. marks_listed marks ≡ tree.now.marks) }
+{
+    let mut marks = Versions::new(alloc);
+    for v in 0..tree.count() {
+        let mark = if tree.is_dead(v) { 1 } else { 0 };
+        if let Err((failed, _)) = marks.push(mark) {
+            return Err(failed);
+        }
+    }
+    Ok(marks)
 }
 
 /// A sealed level 0, if there is one.
@@ -178,31 +219,34 @@ impl Memory {
         })
     }
 
-    /// Takes the versions and the counts of a manifest into new memory, where `parents` are those of
-    /// the versions from 1 on. O(versions log versions_max).
-    #[tactic(auto, using(strat_base::proofs::MarkLemmas::living_at))]
-    pub fn load(&mut self, parents: &[u32], updates: u32, changes: u32)
-        requires fits { IsTrue (are_older 1 parents.now) }
+    /// Takes the versions, their marks and the counts of a manifest into new memory, where `parents` are those of the
+    /// versions from 1 on, and `marks` have 1 for each version that was dropped. O(versions log versions_max).
+    pub fn load(&mut self, parents: &[u32], marks: &[u32], updates: u32, changes: u32)
+        requires fits { IsTrue (are_older 1 parents.now)
+            × IsTrue (are_pruned (None ∷ map (λ p. Some p) parents.now) (marks_listed marks.now)) }
         requires room { 1 + length parents.now ≤ self.old.versions_max }
         requires none { (self.old.parents ≡ None ∷ []) × (self.old.entries ≡ [])
             × (self.old.sealed ≡ None) × (self.old.cursors.opened ≡ []) }
+        requires living { self.old.marks ≡ false ∷ [] }
         requires kept { (updates ≤ changes) × (changes ≤ self.old.changes_max) }
         ensures ok { self.new ≡ record self.old {
           parents = None ∷ map (λ p. Some p) parents.now;
+          marks = marks_listed marks.now;
           updates = updates;
           changes = changes;
         } }
     {
         grow(&mut self.tree, parents);
+        prune(&mut self.tree, marks);
         self.updates = updates;
         self.changes = changes;
     }
 
-    /// Whether there is such a version. O(1).
+    /// Whether there is such a version, which was not dropped. O(1).
     pub fn has(&self, version: Version) -> bool
-        ensures ok { result ≡ is_known self.now.parents version }
+        ensures ok { result ≡ is_there self.now.parents self.now.marks version }
     {
-        version < self.tree.count()
+        version < self.tree.count() && !self.tree.is_dead(version)
     }
 
     fn update_refusal(&self, version: Version) -> Option<Refusal>
@@ -210,7 +254,7 @@ impl Memory {
     {
         if !self.has(version) {
             Some(Refusal::UnknownVersion)
-        } else if self.tree.has_child(version) {
+        } else if self.tree.has_living_child(version) {
             Some(Refusal::Frozen)
         } else if self.changes == self.changes_max {
             Some(Refusal::ChangeLimit)
@@ -233,7 +277,23 @@ impl Memory {
         }
     }
 
-    /// Why a change is refused, if it is. A drop is, since no build takes one yet. O(1).
+    fn drop_refusal(&self, version: Version) -> Option<Refusal>
+        ensures ok { result ≡ refusal_of_drop self.now version }
+    {
+        if !self.has(version) {
+            Some(Refusal::UnknownVersion)
+        } else if version == 0 {
+            Some(Refusal::Root)
+        } else if self.tree.has_living_child(version) {
+            Some(Refusal::Frozen)
+        } else if self.changes == self.changes_max {
+            Some(Refusal::ChangeLimit)
+        } else {
+            None
+        }
+    }
+
+    /// Why a change is refused, if it is. O(1).
     pub fn refusal(&self, change: &Change<'_>) -> Option<Refusal>
         ensures ok { result ≡ refusal_of_change self.now (change_of change.now) }
     {
@@ -241,7 +301,7 @@ impl Memory {
             Change::Put { version, .. } => self.update_refusal(version),
             Change::Delete { version, .. } => self.update_refusal(version),
             Change::Clone { version } => self.clone_refusal(version),
-            Change::DropVersion { .. } => Some(Refusal::UnknownVersion),
+            Change::DropVersion { version } => self.drop_refusal(version),
         }
     }
 
@@ -271,6 +331,7 @@ impl Memory {
         requires none { refusal_of_clone self.old version ≡ None }
         ensures ok { self.new ≡ record self.old {
           parents = with_child self.old.parents version;
+          marks = self.old.marks ++ false ∷ [];
           changes = self.old.changes + 1;
         } }
         ensures found { result ≡ length self.old.parents }
@@ -282,8 +343,21 @@ impl Memory {
         self.tree.add_child(version)
     }
 
+    /// Drops a version.
+    fn mark_dead(&mut self, version: Version)
+        requires none { refusal_of_drop self.old version ≡ None }
+        ensures ok { self.new ≡ record self.old {
+          marks = slice_set self.old.marks version true;
+          changes = self.old.changes + 1;
+        } }
+        ensures kept { KeepsRows self.old self.new }
+    {
+        self.changes += 1;
+        self.tree.mark_dead(version);
+    }
+
     /// Carries out a change that is not refused, and answers what is told of it. It takes no memory.
-    /// An update costs one insertion into level 0, a clone O(log versions_max).
+    /// An update costs one insertion into level 0, a clone O(log versions_max), a drop O(1).
     pub fn take(&mut self, change: &Change<'_>) -> Reply
         requires none { refusal_of_change self.old (change_of change.now) ≡ None }
         requires fits { IsTrue (is_lawful (change_of change.now)) }
@@ -308,20 +382,22 @@ impl Memory {
             Change::Clone { version } => Reply::Made {
                 version: self.add_child(version),
             },
-            // Not reached: every drop was refused before.
-            Change::DropVersion { .. } => Reply::Done,
+            Change::DropVersion { version } => {
+                self.mark_dead(version);
+                Reply::Done
+            }
         }
     }
 
     /// What is told of a version that is there. O(1).
     pub fn info(&self, version: Version) -> Reply
-        requires found { IsTrue (is_known self.now.parents version) }
+        requires found { IsTrue (is_there self.now.parents self.now.marks version) }
         ensures ok { result ≡ info_told self.now version }
     {
         Reply::Info {
             parent: self.tree.parent(version),
             depth: self.tree.depth(version),
-            frozen: self.tree.has_child(version),
+            frozen: self.tree.has_living_child(version),
         }
     }
 
@@ -423,6 +499,24 @@ impl Memory {
         }
     }
 
+    /// The marks of all versions: 1 for one that was dropped, else 0. O(versions).
+    pub fn marks(&self, alloc: Global) -> Result<Versions, NoMemory>
+        ensures ok { IfOk result (λ marks. marks_listed marks ≡ self.now.marks) }
+    {
+        marks_of(alloc, &self.tree)
+    }
+
+    /// The marks of the versions that there were when level 0 was sealed, or of those that there are now where nothing is
+    /// sealed. O(versions).
+    pub fn sealed_marks(&self, alloc: Global) -> Result<Versions, NoMemory>
+        ensures ok { IfOk result (λ marks. marks_listed marks ≡ oldest_marks self.now) }
+    {
+        match &self.sealed {
+            Some(sealed) => copy_of(alloc, &sealed.marks),
+            None => self.marks(alloc),
+        }
+    }
+
     /// Whether a level 0 is sealed. O(1).
     pub fn is_sealed(&self) -> bool
         ensures ok { result ≡ is_some self.now.sealed }
@@ -462,9 +556,10 @@ impl Memory {
         Ok(())
     }
 
-    /// Seals level 0: it takes no more updates, and the next one, which stands ready, takes its place. It takes no memory
-    /// and cannot fail. O(1).
-    pub fn seal(&mut self)
+    /// Seals level 0: it takes no more updates, and the next one, which stands ready, takes its place. `marks` are those of
+    /// now. It takes no memory and cannot fail. O(1).
+    pub fn seal(&mut self, marks: Versions)
+        requires fits { marks_listed marks ≡ self.old.marks }
         requires none { self.old.sealed ≡ None }
         requires found { IsTrue (is_some self.old.ready) }
         ensures ok { (n : ℕ) → self.old.ready ≡ Some n → self.new ≡ sealed_off n self.old }
@@ -474,6 +569,7 @@ impl Memory {
             self.sealed = Some(Sealed {
                 zero,
                 versions: self.tree.count(),
+                marks,
                 updates: self.updates,
                 changes: self.changes,
             });

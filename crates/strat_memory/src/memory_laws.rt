@@ -3,7 +3,6 @@
 
 ghost use Rattle.std.specs.Prelude.{◌≡◌, ◌<◌, ◌≤◌, ℕ, List, [], ◌∷◌, ◌++◌, length, take, drop, filter_map, Some, None, IsTrue, false, is_some, not};
 ghost use Rattle.strat_base.specs.Change.{Change};
-ghost use Rattle.strat_base.specs.Tree.{is_known};
 ghost use Rattle.def_crash.specs.Image.{Image};
 ghost use Rattle.strat_model.specs.Answer.{plain};
 ghost use Rattle.strat_model.specs.Request.{Get, Info, Stat};
@@ -20,10 +19,9 @@ ghost use Rattle.def_meaning.specs.StateTable.{table_of, request_for};
 ghost use Rattle.def_slice.specs.Lists.{entries_left};
 ghost use Rattle.def_state.specs.Reading.{live_of, level_zero};
 ghost use Rattle.def_state.specs.Setting.{set_all};
-ghost use Rattle.def_state.specs.Sound.{is_accepted, accepts_change, journal_max, IsSound};
+ghost use Rattle.def_state.specs.Sound.{is_there, is_accepted, accepts_change, journal_max, IsSound};
 ghost use Rattle.def_state.specs.State.{State, update_of};
-ghost use Rattle.strat_memory.specs.Memory.{Memory, refusal_of_change, memory_after, HasRoomFor, reply_to, info_told, stat_told, fresh_memory, head_full, lists_in_memory, oldest_changes, oldest_entries, oldest_parents, oldest_updates, oldest_versions, sealed_off, unsealed, table_with, IsMemoryOf};
-ghost use Rattle.strat_base.specs.Marks.{Marks, none_dropped};
+ghost use Rattle.strat_memory.specs.Memory.{Memory, refusal_of_change, memory_after, HasRoomFor, reply_to, info_told, stat_told, fresh_memory, head_full, lists_in_memory, oldest_changes, oldest_entries, oldest_marks, oldest_parents, oldest_updates, oldest_versions, sealed_off, unsealed, table_with, IsMemoryOf};
 
 /// Memory refuses a change just where the table does, and for the same reason; of any other it tells
 /// what the table answers, wherever the change then goes and whatever cursors there are.
@@ -41,10 +39,10 @@ pub fn memory_answers_changes_as_the_table()
         → IsTrue (accepts_change s change) }
 {}
 
-/// Memory refuses just the changes that its limits, versions and counts do not accept, where no version was dropped.
+/// Memory refuses just the changes that its limits, versions, marks and counts do not accept.
 pub fn memory_refuses_what_is_not_accepted()
-    ensures ok { (m : Memory) (marks : Marks) (change : Change) → IsTrue (none_dropped marks)
-        → is_accepted m.changes_max m.versions_max m.parents marks m.changes change
+    ensures ok { (m : Memory) (change : Change)
+        → is_accepted m.changes_max m.versions_max m.parents m.marks m.changes change
         ≡ not (is_some (refusal_of_change m change)) }
 {}
 
@@ -52,17 +50,17 @@ pub fn memory_refuses_what_is_not_accepted()
 /// the versions that the table has.
 pub fn memory_tells_of_versions_as_the_table()
     ensures found { (f : Image) (h : Head) (s : State) (m : Memory) (rows : List Cursor) (n v : ℕ)
-        → state_of f h ≡ Some s → IsMemoryOf h m → IsTrue (is_known m.parents v)
+        → state_of f h ≡ Some s → IsMemoryOf h m → IsTrue (is_there m.parents m.marks v)
         → (step (table_with s rows n) (Info v)).answer ≡ plain (info_told m v) }
     ensures ok { (f : Image) (h : Head) (s : State) (m : Memory) (rows : List Cursor) (n : ℕ)
         → state_of f h ≡ Some s → IsMemoryOf h m → length rows ≡ length m.cursors.opened
         → (step (table_with s rows n) Stat).answer ≡ plain (stat_told m) }
     ensures none { (f : Image) (h : Head) (s : State) (m : Memory) (rows : List Cursor) (n v : ℕ)
-        → state_of f h ≡ Some s → IsMemoryOf h m → is_known m.parents v ≡ false
+        → state_of f h ≡ Some s → IsMemoryOf h m → is_there m.parents m.marks v ≡ false
         → step (table_with s rows n) (Info v) ≡ refuses (table_with s rows n) why.UnknownVersion }
     ensures err { (f : Image) (h : Head) (s : State) (m : Memory) (rows : List Cursor) (n v : ℕ)
         (key : List ℕ)
-        → state_of f h ≡ Some s → IsMemoryOf h m → is_known m.parents v ≡ false
+        → state_of f h ≡ Some s → IsMemoryOf h m → is_there m.parents m.marks v ≡ false
         → step (table_with s rows n) (Get v key)
         ≡ refuses (table_with s rows n) why.UnknownVersion }
 {}
@@ -77,7 +75,7 @@ pub fn memory_finds_what_level_zero_says()
 /// A key is looked up in level 0, in the sealed one where there is one, and then in the levels, as the table has it.
 pub fn memory_is_asked_as_the_table()
     ensures ok { (f : Image) (h : Head) (s : State) (m : Memory) (v : ℕ) (key : List ℕ)
-        → state_of f h ≡ Some s → IsMemoryOf h m → IsSound s → IsTrue (is_known m.parents v)
+        → state_of f h ≡ Some s → IsMemoryOf h m → IsSound s → IsTrue (is_there m.parents m.marks v)
         → asked f m.parents (lists_in_memory m) h.manifest.levels v key
         ≡ value_of (pairs_at (table_of s) v) key }
 {}
@@ -109,8 +107,8 @@ pub fn memory_may_be_sealed()
         → m.sealed ≡ None }
 {}
 
-/// What a promotion takes is what the front of the journal says that fills the active region. The counts at the seal are
-/// those of the head then, and the versions then are the first ones.
+/// What a promotion takes is what the front of the journal says that fills the active region. The counts and the marks at the
+/// seal are those of the head then, and the versions then are the first ones.
 pub fn a_seal_has_what_fills_the_region()
     ensures ok { (h : Head) (m : Memory) → IsMemoryOf h m
         → oldest_entries m ≡ entries_left (take h.sb.mem h.journal) }
@@ -119,28 +117,29 @@ pub fn a_seal_has_what_fills_the_region()
         × (oldest_updates m ≡ head_updates (head_full h))
         × (oldest_changes m ≡ head_changes (head_full h)) }
     ensures found { (h : Head) (m : Memory) → IsMemoryOf h m
-        → oldest_parents m ≡ head_versions (head_full h) }
+        → (oldest_parents m ≡ head_versions (head_full h))
+        × (oldest_marks m ≡ head_marks (head_full h)) }
 {}
 
-/// Memory that let go of what was sealed is that of a head with the same limits, versions and counts, whose journal has what
-/// came since.
+/// Memory that let go of what was sealed is that of a head with the same limits, versions, marks and counts, whose journal
+/// has what came since.
 pub fn unsealed_memory_follows_a_publication()
     ensures ok { (h new : Head) (m : Memory) → IsMemoryOf h m → IsTrue (is_some m.sealed)
         → new.journal ≡ drop h.sb.mem h.journal → length new.journal ≤ new.sb.mem
         → new.sb.mem ≡ h.sb.mem
         → new.sb.changes_max ≡ h.sb.changes_max → new.sb.versions_max ≡ h.sb.versions_max
         → head_versions new ≡ head_versions h → head_updates new ≡ head_updates h
-        → head_changes new ≡ head_changes h → IsTrue (none_dropped (head_marks new))
+        → head_changes new ≡ head_changes h → head_marks new ≡ head_marks h
         → IsMemoryOf new (unsealed m) }
 {}
 
-/// New memory that took the versions and the counts of a manifest is that of the manifest's head with
-/// no change in its journal.
+/// New memory that took the versions, the marks and the counts of a manifest is that of the manifest's head with no change
+/// in its journal.
 pub fn loaded_memory_is_that_of_a_manifest()
-    ensures ok { (h : Head) → h.journal ≡ [] → IsTrue (none_dropped h.manifest.marks)
-        → IsMemoryOf h
+    ensures ok { (h : Head) → h.journal ≡ [] → IsMemoryOf h
         (record (fresh_memory h.sb.mem h.sb.changes_max h.sb.versions_max) {
           parents = parents_in h.manifest;
+          marks = h.manifest.marks;
           updates = h.manifest.updates;
           changes = h.manifest.changes;
         }) }
