@@ -29,7 +29,6 @@ use Rattle.strat_memory.specs.Belonging.{UsesJust}
 use Rattle.strat_memory.specs.Held.{ArePlaced}
 use Rattle.strat_memory.specs.Admitting.{MayBePlaced, counts_belong, count_tests, chained_of, IsAdmitted}
 use Rattle.strat_memory.specs.declared.admitting.Published.{Published}
-use Rattle.strat_base.specs.Marks.{none_dropped}
 use Rattle.def_crash.specs.Image.{Image}
 use Rattle.def_bytes.specs.Chain.{chain_length}
 use Rattle.def_bytes.specs.Damage.{put_first}
@@ -37,12 +36,11 @@ use Rattle.def_bytes.proofs.DamageLemmas.{and_then_ok, passed_ok, found_ok, put_
 
 -- the tests that a manifest belongs, one by one
 module _ (sb : Super) (y : Chained) where
-  pub belongs_from : has_own_blocks sb y.blocks y.manifest ≡ true → has_own_ids y.manifest ≡ true → counts_belong sb y.manifest ≡ true → list_all has_own_versions y.manifest.levels ≡ true → none_dropped y.manifest.marks ≡ true → belongs sb y ≡ true
-  belongs_from blocks ids counts versions undropped =
+  pub belongs_from : has_own_blocks sb y.blocks y.manifest ≡ true → has_own_ids y.manifest ≡ true → counts_belong sb y.manifest ≡ true → list_all has_own_versions y.manifest.levels ≡ true → belongs sb y ≡ true
+  belongs_from blocks ids counts versions =
       let at : (k : ℕ) → get_or (count_tests sb y.manifest) k true ≡ true = λ k. pass_at (count_tests sb y.manifest) k counts in
       pass_more _ _ blocks (pass_more _ _ ids (pass_more _ _ versions
-      (pass_more _ _ (at 0) (pass_more _ _ (at 1) (pass_more _ _ (at 2) (pass_more _ _ (at 3) (pass_more _ _ (at 4)
-      (pass_more _ _ undropped pass_none))))))))
+      (pass_more _ _ (at 0) (pass_more _ _ (at 1) (pass_more _ _ (at 2) (pass_more _ _ (at 3) (pass_more _ _ (at 4) pass_none)))))))
 
   fails : (k : ℕ) → get_or (belonging_tests sb y) k true ≡ false → belongs sb y ≡ false
   fails k no' = false_from_ne_true (belongs sb y) (λ all. true≢false (sym (pass_at (belonging_tests sb y) k all) ∙ no'))
@@ -55,9 +53,6 @@ module _ (sb : Super) (y : Chained) where
 
   pub versions_fail : list_all has_own_versions y.manifest.levels ≡ false → belongs sb y ≡ false
   versions_fail = fails 2
-
-  pub marks_fail : none_dropped y.manifest.marks ≡ false → belongs sb y ≡ false
-  marks_fail = fails 8
 
   pub counts_fail : counts_belong sb y.manifest ≡ false → belongs sb y ≡ false
   counts_fail no' = false_from_ne_true (belongs sb y) (λ all.
@@ -124,13 +119,13 @@ module _ {E : Type 0} (sb : Super) (m : Manifest) (chain : List Extent) (levels 
   pub space_kept : (r : Result (Option SpaceView) E)
       → IfOk r (λ own. IfSome own (λ space. (x : Contents) → x.sb.mem ≡ sb.mem → x.chained.blocks ≡ blocks_of chain → x.chained.manifest.levels ≡ levels
       → IsSpaceOf space x [] × UsesJust space (first_free x.sb.mem) (named_blocks x)))
-      → has_own_ids m ≡ true → counts_belong sb m ≡ true → none_dropped m.marks ≡ true
+      → has_own_ids m ≡ true → counts_belong sb m ≡ true
       → IfOk r (λ own. IfSome own (λ space. list_all has_own_versions m.levels ≡ true → belongs sb (record { manifest = m; blocks = blocks_of chain }) ≡ true))
-  space_kept (Ok (Some space)) is ids counts undropped = λ versions.
+  space_kept (Ok (Some space)) is ids counts = λ versions.
       belongs_from sb (record { manifest = m; blocks = blocks_of chain })
-      (OccupiedLemmas.own_blocks space (contents_of sb m chain) [] (is (contents_of sb m chain) refl refl (sym same)).0) ids counts versions undropped
-  space_kept (Ok None) is ids counts undropped = tt
-  space_kept (Err e) is ids counts undropped = tt
+      (OccupiedLemmas.own_blocks space (contents_of sb m chain) [] (is (contents_of sb m chain) refl refl (sym same)).0) ids counts versions
+  space_kept (Ok None) is ids counts = tt
+  space_kept (Err e) is ids counts = tt
 
   pub space_none : (r : Result (Option SpaceView) E)
       → IfOk r (λ own. IfNone own ((s : Super) (n : Manifest) → s.mem ≡ sb.mem → n.levels ≡ levels → list_all (λ b. ltb b 4294967295) (blocks_of chain) ≡ true

@@ -1,11 +1,11 @@
 -- What a store has in memory, as its calls change and read it.
-use Rattle.std.proofs.Common.{◌≡◌, ◌<◌, ◌≤◌, ℕ, zero, suc, ◌+◌, true, false, eqb, ltb, leb, inl, inr, List, [], ◌∷◌, length, map, take, Some, None, sym, ap, ◌∙◌, get_or, arith, length-append, not, refl}
+use Rattle.std.proofs.Common.{◌≡◌, ◌<◌, ◌≤◌, ℕ, zero, suc, ◌+◌, true, false, eqb, ltb, leb, inl, inr, List, [], ◌∷◌, length, map, take, Some, None, sym, ap, ◌∙◌, get_or, arith, length-append}
 use Rattle.std.specs.Ordering.{match_ordering}
 use Rattle.std.specs.declared.cmp.Ordering.{Ordering}
 use Rattle.std.specs.declared.cmp.Ordering.TheVariants.{Less, Equal, Greater}
 use Rattle.std.specs.Prelude.{slice_index_or, fold}
 use Rattle.std.specs.List.{list_all, slice_get}
-use Rattle.std.proofs.lemmas.Bool.{and_parts, leb-true, ltb-true, lt-ltb, and_from, not_from_false}
+use Rattle.std.proofs.lemmas.Bool.{and_parts, leb-true, ltb-true, lt-ltb}
 use Rattle.std.proofs.lemmas.List.{length-map, length-take-le}
 use Rattle.std.proofs.lemmas.Option.{slice_get-get_or}
 use Rattle.strat_arena.specs.Items.{entry_of_item}
@@ -17,7 +17,7 @@ use Rattle.strat_base.specs.EntryBytes.{is_markable, fits_fields}
 use Rattle.strat_base.specs.PairBuf.{IsPair}
 use Rattle.strat_base.specs.Sizes.{is_key}
 use Rattle.strat_base.specs.Order.{entry_cmp}
-use Rattle.strat_base.specs.Tree.{Parents, is_known, has_child, with_child}
+use Rattle.strat_base.specs.Tree.{Parents, is_known, with_child}
 use Rattle.strat_base.proofs.EntryLemmas.{bytes_same}
 use Rattle.strat_base.proofs.ListFacts.{all_at, all_from, find_some, get_among}
 use Rattle.def_bytes.specs.Manifest.{are_older}
@@ -27,9 +27,10 @@ use Rattle.def_state.specs.Reading.{live_of}
 use Rattle.def_state.specs.Setting.{set_entry, set_all}
 use Rattle.def_state.proofs.SettingLemmas.{set_among}
 use Rattle.strat_model.specs.declared.replies.Refusal.TheVariants as why
-use Rattle.strat_memory.specs.Memory.{Memory, refusal_of_update, refusal_of_clone}
-use Rattle.strat_memory.proofs.ThreeTests.{three_none}
-use Rattle.strat_base.specs.Marks.{Marks, is_dropped, none_dropped}
+use Rattle.strat_memory.specs.Memory.{Memory, refusal_of_update, refusal_of_clone, refusal_of_drop}
+use Rattle.strat_memory.proofs.ThreeTests.{three_none, four_none}
+use Rattle.strat_base.specs.Marks.{has_living_child}
+use Rattle.def_state.specs.Sound.{is_there}
 
 -- a parent is older than its version
 pub older_at : (v i d : ℕ) (ps : List ℕ) → are_older v ps ≡ true → i < length ps → get_or ps i d < v + i
@@ -58,12 +59,18 @@ pub known_same : (parents : Parents) (old new : List Entry) → new ≡ old → 
 known_same parents old new same known = ap (are_known parents) same ∙ known
 
 -- what an update and a clone that are not refused find
-pub update_taken : (m : Memory) (v : ℕ) → refusal_of_update m v ≡ None → (is_known m.parents v ≡ true) × (has_child m.parents v ≡ false) × (eqb m.changes m.changes_max ≡ false)
-update_taken m v none = three_none (is_known m.parents v) (has_child m.parents v) (eqb m.changes m.changes_max) why.UnknownVersion why.Frozen why.ChangeLimit none
+pub update_taken : (m : Memory) (v : ℕ) → refusal_of_update m v ≡ None → (is_there m.parents m.marks v ≡ true) × (has_living_child m.parents m.marks v ≡ false) × (eqb m.changes m.changes_max ≡ false)
+update_taken m v none = three_none (is_there m.parents m.marks v) (has_living_child m.parents m.marks v) (eqb m.changes m.changes_max) why.UnknownVersion why.Frozen why.ChangeLimit none
 
 pub clone_taken : (m : Memory) (v : ℕ) → refusal_of_clone m v ≡ None
-    → (is_known m.parents v ≡ true) × (eqb (length m.parents) m.versions_max ≡ false) × (eqb m.changes m.changes_max ≡ false)
-clone_taken m v none = three_none (is_known m.parents v) (eqb (length m.parents) m.versions_max) (eqb m.changes m.changes_max) why.UnknownVersion why.VersionLimit why.ChangeLimit none
+    → (is_there m.parents m.marks v ≡ true) × (eqb (length m.parents) m.versions_max ≡ false) × (eqb m.changes m.changes_max ≡ false)
+clone_taken m v none = three_none (is_there m.parents m.marks v) (eqb (length m.parents) m.versions_max) (eqb m.changes m.changes_max) why.UnknownVersion why.VersionLimit why.ChangeLimit none
+
+-- and a drop
+pub drop_taken : (m : Memory) (v : ℕ) → refusal_of_drop m v ≡ None
+    → (is_there m.parents m.marks v ≡ true) × (eqb v 0 ≡ false) × (has_living_child m.parents m.marks v ≡ false) × (eqb m.changes m.changes_max ≡ false)
+drop_taken m v none =
+    four_none (is_there m.parents m.marks v) (eqb v 0) (has_living_child m.parents m.marks v) (eqb m.changes m.changes_max) why.UnknownVersion why.Root why.Frozen why.ChangeLimit none
 
 -- after an update at a version that is there
 pub known_set : (parents : Parents) (e : Entry) (old new : List Entry) → new ≡ set_entry e old → is_known parents e.version ≡ true → are_known parents old ≡ true → are_known parents new ≡ true
@@ -121,8 +128,3 @@ pair_found parents entries v key value i d lawful within at is =
 pub said_found : (parents : Parents) (entries : List Entry) (v : ℕ) (key : List ℕ) (i : ℕ) (d : Entry) → i < length entries
     → slice_get entries i ≡ live_of parents entries v key → live_of parents entries v key ≡ Some (slice_index_or entries i d)
 said_found parents entries v key i d within at = sym at ∙ slice_get-get_or entries i d within
-
--- where each version lives none was dropped
-pub clear_from : (marks : Marks) → ((v : ℕ) → is_dropped marks v ≡ false) → none_dropped marks ≡ true
-clear_from [] each = refl
-clear_from (m ∷ marks) each = and_from (not m) (none_dropped marks) (not_from_false m (each 0)) (clear_from marks (λ v. each (suc v)))

@@ -7,20 +7,22 @@ use Rattle.strat_level.specs.Memtable.{entries_held}
 use Rattle.strat_tree.specs.TreeView.{TreeView}
 use Rattle.strat_memory.specs.Memory.{Memory, refusal_of_clone}
 use Rattle.strat_memory.specs.MemoryFields.{lists_beside, memory_held, StandInPool}
-use Rattle.strat_memory.proofs.MemoryLemmas.{known_grown, clone_taken, clear_from}
+use Rattle.strat_memory.proofs.MemoryLemmas.{known_grown, clone_taken}
 use Rattle.strat_memory.proofs.PageLemmas.{held_known}
 use Rattle.strat_memory.proofs.PoolLemmas.{grown_stands, same_reads, sealed_below}
 use Rattle.strat_memory.proofs.memory.Memory.add_child.Goals as goal
 use Rattle.strat_memory.proofs.memory.Memory.add_child.Goals.{After-add_child}
-use Rattle.strat_base.proofs.MarkLemmas.{living_at}
+use Rattle.def_state.proofs.MarkLemmas.{there_known, there_living}
 
 within : (c : After-add_child) → c.args.version < length c.self.inside.tree.parents
 within c =
     let taken = clone_taken (memory_held c.self.inside) c.args.version (subst (λ (m : Memory). refusal_of_clone m c.args.version ≡ None) (sym c.self.view_is) c.requires.none) in
-    ltb-true c.args.version (length c.self.inside.tree.parents) taken.0
+    there_known c.self.inside.tree.parents c.self.inside.tree.marks c.args.version taken.0
 
 pub add_child-requires-clause-kept : goal.add_child-requires-clause-kept
-add_child-requires-clause-kept c = living_at c.self.inside.tree.marks c.self.invariant.undropped c.args.version
+add_child-requires-clause-kept c =
+    let taken = clone_taken (memory_held c.self.inside) c.args.version (subst (λ (m : Memory). refusal_of_clone m c.args.version ≡ None) (sym c.self.view_is) c.requires.none) in
+    there_living c.self.inside.tree.parents c.self.inside.tree.marks c.args.version taken.0
 
 pub invariant_of-self : goal.invariant_of-self
 invariant_of-self c =
@@ -38,7 +40,6 @@ invariant_of-self c =
       changes = omega (arith, c.self.invariant.changes, apart);
       updates = omega (arith, c.self.invariant.updates);
       versions = ap (λ (t : TreeView). t.versions_max) c.add_child.ensures.ok ∙ c.self.invariant.versions;
-      undropped = clear_from c.add_child.new.self.marks (λ v. c.add_child.ensures.same v ∙ living_at c.self.inside.tree.marks c.self.invariant.undropped v);
     }
 
 pub returns-clause-kept : goal.returns-clause-kept

@@ -44,7 +44,6 @@ invariant_of-self c =
       changes = c.self.invariant.changes;
       updates = c.self.invariant.updates;
       versions = c.self.invariant.versions;
-      undropped = c.self.invariant.undropped;
     }
 
 pub returns-in-Some : goal.returns-in-Some

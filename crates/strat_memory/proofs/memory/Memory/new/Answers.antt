@@ -2,7 +2,6 @@ use Rattle.std.proofs.Common.{List, [], sym, ap, subst, arith}
 use Rattle.strat_arena.specs.PoolView.{SameBeside}
 use Rattle.strat_arena.specs.declared.pool.PoolEntry.{PoolEntry}
 use Rattle.strat_base.specs.Entries.{Entry}
-use Rattle.strat_base.specs.Marks.{none_dropped}
 use Rattle.strat_cursor.specs.Cursors.{CursorsView, OpenCursor}
 use Rattle.def_meaning.specs.TableOver.{are_known}
 use Rattle.strat_tree.specs.TreeView.{TreeView}
@@ -21,5 +20,4 @@ invariant_of-result c = record {
   changes = omega arith;
   updates = omega arith;
   versions = ap (λ (t : TreeView). t.versions_max) c.in_ok-tree.ensures.ok;
-  undropped = ap (λ (t : TreeView). none_dropped t.marks) c.in_ok-tree.ensures.ok;
 }

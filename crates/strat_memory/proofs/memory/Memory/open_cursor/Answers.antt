@@ -64,7 +64,6 @@ invariant_of-self c = record {
   changes = c.self.invariant.changes;
   updates = c.self.invariant.updates;
   versions = c.self.invariant.versions;
-  undropped = c.self.invariant.undropped;
 }
 
 pub returns-clause-ok : goal.returns-clause-ok

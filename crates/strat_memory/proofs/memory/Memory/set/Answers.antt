@@ -1,5 +1,6 @@
-use Rattle.std.proofs.Common.{◌≡◌, ◌+◌, ◌-◌, None, sym, subst, arith}
-use Rattle.std.proofs.lemmas.Bool.{eqb-false}
+use Rattle.std.proofs.Common.{◌≡◌, ◌+◌, ◌-◌, None, length, sym, subst, arith}
+use Rattle.std.proofs.lemmas.Bool.{eqb-false, lt-ltb}
+use Rattle.def_state.proofs.MarkLemmas.{there_known}
 use Rattle.strat_base.specs.EntryView.{val_of}
 use Rattle.strat_level.specs.Memtable.{entries_held}
 use Rattle.strat_memory.specs.Memory.{Memory, refusal_of_update}
@@ -16,7 +17,7 @@ invariant_of-self c =
       stand = put_stands c.self.inside.pool c.put.new.pool c.self.inside.tree.parents c.self.inside.zero c.put.new.self (lists_beside c.self.inside.sealed c.self.inside.next) c.self.inside.cursors.opened
           c.self.invariant.stand c.put.ensures.kept c.put.ensures.found c.put.ensures.same;
       known = known_set c.self.inside.tree.parents (record { key = c.args.key.now; version = c.args.version; value = val_of c.args.val })
-          (entries_held c.self.inside.pool c.self.inside.zero.list) (entries_held c.put.new.pool c.put.new.self.list) c.put.ensures.ok taken.0 c.self.invariant.known;
+          (entries_held c.self.inside.pool c.self.inside.zero.list) (entries_held c.put.new.pool c.put.new.self.list) c.put.ensures.ok (lt-ltb c.args.version (length c.self.inside.tree.parents) (there_known c.self.inside.tree.parents c.self.inside.tree.marks c.args.version taken.0)) c.self.invariant.known;
       sealed = sealed_below c.self.inside.pool c.put.new.pool c.self.inside.tree.parents c.self.inside.tree.parents c.self.inside.sealed c.self.inside.next (omega arith)
           (put_reads c.self.inside.pool c.put.new.pool c.self.inside.tree.parents c.self.inside.zero c.put.new.self (lists_beside c.self.inside.sealed c.self.inside.next) c.self.inside.cursors.opened
           c.self.invariant.stand c.put.ensures.kept c.put.ensures.found c.put.ensures.same)
@@ -25,7 +26,6 @@ invariant_of-self c =
       changes = omega (arith, c.self.invariant.changes, apart);
       updates = omega (arith, c.self.invariant.updates);
       versions = c.self.invariant.versions;
-      undropped = c.self.invariant.undropped;
     }
 
 pub returns-clause-ok : goal.returns-clause-ok
