@@ -12,7 +12,8 @@ use Rattle.def_state.specs.Reading.{read_at}
 use Rattle.def_state.specs.Sound.{is_there, takes_updates, accepts_change, IsSound, Takes}
 use Rattle.def_state.proofs.MapLemmas.{value_in-lookup}
 use Rattle.def_state.proofs.SoundLemmas.{sound_tree, sound_pruned, ordered, read_decides}
-use Rattle.def_state.proofs.MarkLemmas.{there_known, open_there, open_childless, clone_marks}
+use Rattle.def_state.proofs.MarkLemmas.{there_known, open_there, open_childless}
+use Rattle.strat_base.proofs.PrunedLemmas.{mark_kept}
 use Rattle.def_state.specs.Maps.{map_over}
 use Rattle.def_state.proofs.StepLemmas.{versions-appended, marks-appended, updates-appended}
 use Rattle.def_state.proofs.ValueLemmas.{map_value}
@@ -161,7 +162,7 @@ module _ (s : State) where
         let old : Parents = versions_of s in
         let orderly = ordered s takes.sound in
         let marks : marks_of new ≡ marks_of s ++ false ∷ [] = marks-appended s (change.Clone p) in
-        let kept : (u : ℕ) → is_dropped (marks_of s ++ false ∷ []) u ≡ is_dropped (marks_of s) u = clone_marks (marks_of s) in
+        let kept : (u : ℕ) → is_dropped (marks_of s ++ false ∷ []) u ≡ is_dropped (marks_of s) u = mark_kept (marks_of s) in
         let size = (sound_pruned s takes.sound.formed).len in
         let last : false ≡ is_dropped (marks_of s ++ false ∷ []) (0 + length old) = sym (kept (0 + length old) ∙ past_end (marks_of s) (0 + length old) (omega (arith, size))) in
         let copy : map_at s p ≡ map_at new (0 + length old) = sym (clone_map_new s orderly p takes.accepted takes.room) ∙ ap (map_at new) (omega arith) in

@@ -5,7 +5,8 @@ use Rattle.std.specs.Option.{option_map_or}
 use Rattle.std.proofs.lemmas.Bool.{leb-true, le-leb, and_parts, and_from, not-true, not_from_false, false_from_ne_true}
 use Rattle.strat_base.specs.Tree.{Parents, parent_of, path, with_child, IsTree}
 use Rattle.strat_base.specs.Marks.{Marks, is_dropped, has_living_child}
-use Rattle.def_state.proofs.MarkLemmas.{dropped_stays, parent_there}
+use Rattle.def_state.proofs.MarkLemmas.{dropped_stays}
+use Rattle.strat_base.proofs.PrunedLemmas.{parent_there}
 use Rattle.strat_base.specs.Entries.{Entry, is_of, are_same}
 use Rattle.strat_base.specs.Change.{Change, Put, Delete, Clone, DropVersion}
 use Rattle.def_state.specs.Live.{live}

@@ -1,22 +1,16 @@
 -- Marks of dropped versions, in a tree and while changes come.
-use Rattle.std.proofs.Common.{◌≡◌, ◌<◌, ℕ, zero, suc, Bool, true, false, eqb, not, ◌&&◌, ◌||◌, inl, inr, List, [], ◌∷◌, ◌++◌, length, set, get_or, Option, Some, None, refl, sym, ap, ◌∙◌, arith, true≢false, length-append}
+use Rattle.std.proofs.Common.{◌≡◌, ◌<◌, ℕ, zero, suc, Bool, true, false, eqb, not, ◌&&◌, ◌||◌, inl, inr, List, [], ◌∷◌, ◌++◌, length, set, get_or, Option, Some, None, refl, sym, ap, ◌∙◌, arith, true≢false}
 use Rattle.std.specs.List.{list_all, fold, range_with_len}
 use Rattle.std.specs.Option.{option_map_or}
-use Rattle.std.proofs.lemmas.Bool.{cases_Bool, cases_eq, eqb-true, eq-eqb, ltb-true, and_parts, and_from, or_cases, or_left, or_right, not-true, not_from_false, false_from_ne_true}
-use Rattle.std.proofs.lemmas.List.{length-set, get_or-set_other}
-use Rattle.strat_base.specs.Tree.{Parents, parent_of, path, is_known, with_child, IsTree}
+use Rattle.std.proofs.lemmas.Bool.{cases_Bool, cases_eq, eqb-true, eqb-false, eq-eqb, ltb-true, and_parts, and_from, or_cases, or_left, or_right, not-true, not_from_false, false_from_ne_true}
+use Rattle.strat_base.specs.Tree.{Parents, parent_of, path, is_known, IsTree}
 use Rattle.strat_base.specs.Marks.{Marks, is_dropped, has_living_child, are_pruned, ArePruned}
 use Rattle.strat_base.specs.Change.{Change, Put, Delete, Clone, DropVersion}
 use Rattle.strat_base.proofs.ListFacts.{Among, all_at, all_from, any_from, among_range}
-use Rattle.strat_base.proofs.TreeLemmas.{along_path, on_root, on_path, parent_kept, child_on_path}
+use Rattle.strat_base.proofs.PrunedLemmas.{mark_kept, parent_there, pruned_grown, pruned_dropped}
+use Rattle.strat_base.proofs.TreeLemmas.{along_path, on_root, on_path, child_on_path}
 use Rattle.def_state.specs.State.{tree_after, marks_after}
 use Rattle.def_state.specs.Sound.{is_there, takes_updates, is_droppable, is_accepted}
-
--- a version with a parent is there
-pub parent_there : (parents : Parents) (v p : ℕ) → parent_of parents v ≡ Some p → v < length parents
-parent_there [] v p is = absurd (cc)
-parent_there (q ∷ parents) zero p is = omega arith
-parent_there (q ∷ parents) (suc v) p is = let rest = parent_there parents v p is in omega (arith, rest)
 
 pub pruned_from_test : (parents : Parents) (marks : Marks) → are_pruned parents marks ≡ true → ArePruned parents marks
 pruned_from_test parents marks h =
@@ -67,13 +61,6 @@ module _ (parents : Parents) (tree : IsTree parents) (marks : Marks) (pruned : A
             (not_from_false (is_dropped marks child.0) lives))) ∙ none))
       ]
 
--- one more mark that is clear
-get_pushed : (marks : Marks) (v : ℕ) → get_or (marks ++ false ∷ []) v false ≡ get_or marks v false
-get_pushed [] zero = refl
-get_pushed [] (suc v) = refl
-get_pushed (m ∷ marks) zero = refl
-get_pushed (m ∷ marks) (suc v) = get_pushed marks v
-
 -- one more mark that is set
 get_set : (marks : Marks) (v u : ℕ) → get_or marks u false ≡ true → get_or (set marks v true) u false ≡ true
 get_set [] v u is = is
@@ -86,7 +73,7 @@ get_set (m ∷ marks) (suc v) (suc u) is = get_set marks v u is
 pub dropped_stays : (marks : Marks) (c : Change) (v : ℕ) → is_dropped marks v ≡ true → is_dropped (marks_after marks c) v ≡ true
 dropped_stays marks (Put w key value) v is = is
 dropped_stays marks (Delete w key) v is = is
-dropped_stays marks (Clone w) v is = get_pushed marks v ∙ is
+dropped_stays marks (Clone w) v is = mark_kept marks v ∙ is
 dropped_stays marks (DropVersion w) v is = get_set marks w v is
 
 pub dropped_stay : (journal : List Change) (marks : Marks) (v : ℕ) → is_dropped marks v ≡ true → is_dropped (fold marks_after marks journal) v ≡ true
@@ -95,9 +82,6 @@ dropped_stay (c ∷ journal) marks v is = dropped_stay journal (marks_after mark
 
 pub living_was : (journal : List Change) (marks : Marks) (v : ℕ) → is_dropped (fold marks_after marks journal) v ≡ false → is_dropped marks v ≡ false
 living_was journal marks v living = false_from_ne_true (is_dropped marks v) (λ dropped. true≢false (sym (dropped_stay journal marks v dropped) ∙ living))
-
-pub clone_marks : (marks : Marks) (v : ℕ) → is_dropped (marks ++ false ∷ []) v ≡ is_dropped marks v
-clone_marks marks v = get_pushed marks v
 
 pub there_known : (parents : Parents) (marks : Marks) (v : ℕ) → is_there parents marks v ≡ true → v < length parents
 there_known parents marks v h = ltb-true v (length parents) (and_parts (is_known parents v) (not (is_dropped marks v)) h).0
@@ -135,46 +119,12 @@ module _ (changes_max versions_max : ℕ) where
   pruned_after parents marks n (Put v key value) tree pruned h = pruned
   pruned_after parents marks n (Delete v key) tree pruned h = pruned
   pruned_after parents marks n (Clone w) tree pruned h =
-      let there = clone_there changes_max versions_max parents marks n w h in
-      record {
-        len = let size = pruned.len in omega (arith, size, length-append marks (false ∷ []), length-append parents (Some w ∷ []));
-        root = get_pushed marks 0 ∙ pruned.root;
-        down = λ v p some dropped.
-            let was : is_dropped marks p ≡ true = sym (get_pushed marks p) ∙ dropped in
-            elim (Rattle.std.proofs.lemmas.Bool.cases_lt v (length parents)) [
-              | inl lt ↦ get_pushed marks v ∙ pruned.down v p (sym (parent_kept parents tree w (there_known parents marks w there) v lt) ∙ some) was
-              | inr ge ↦
-                  let low = parent_there (with_child parents w) v p some in
-                  let at : v ≡ length parents = omega (arith, low, ge, length-append parents (Some w ∷ [])) in
-                  let same : p ≡ w = pushed_parent parents w p (ap (parent_of (with_child parents w)) (sym at) ∙ some) in
-                  absurd (true≢false (sym was ∙ ap (is_dropped marks) same ∙ there_living parents marks w there))
-            ];
-      }
-    where
-      pushed_parent : (ps : Parents) (w p : ℕ) → parent_of (ps ++ Some w ∷ []) (length ps) ≡ Some p → p ≡ w
-      pushed_parent [] w p is = cc
-      pushed_parent (q ∷ ps) w p is = pushed_parent ps w p is
+      let here = clone_there changes_max versions_max parents marks n w h in
+      pruned_grown parents tree marks pruned w (there_known parents marks w here) (there_living parents marks w here)
   pruned_after parents marks n (DropVersion w) tree pruned h =
-      let open' = droppable_open changes_max versions_max parents marks n w h in
-      record {
-        len = let size = pruned.len in omega (arith, size, length-set marks w true);
-        root = get_or-set_other marks w 0 true false (λ same. true≢false (sym (eq-eqb w 0 (sym same)) ∙ open'.1)) ∙ pruned.root;
-        down = λ v p some dropped.
-            elim (cases_eq p w) [
-              | inl here ↦
-                  elim (cases_Bool (is_dropped marks v)) [
-                    | inl gone ↦ get_set marks w v gone
-                    | inr lives ↦
-                        let low = parent_there parents v p some in
-                        absurd (true≢false (sym (any_from (λ c. option_map_or (λ q. eqb q w) (parent_of parents c) false && not (is_dropped marks c)) v (range_with_len 0 (length parents))
-                        (among_range 0 (length parents) v (omega arith) (omega (arith, low)))
-                        (and_from (option_map_or (λ q. eqb q w) (parent_of parents v) false) (not (is_dropped marks v))
-                        (ap (λ (o : Option ℕ). option_map_or (λ q. eqb q w) o false) some ∙ eq-eqb p w here)
-                        (not_from_false (is_dropped marks v) lives))) ∙ open_childless parents marks w open'.0))
-                  ]
-              | inr apart ↦ get_set marks w v (pruned.down v p some (sym (get_or-set_other marks w p true false apart) ∙ dropped))
-            ];
-      }
+      let at = droppable_open changes_max versions_max parents marks n w h in
+      let apart = eqb-false w 0 at.1 in
+      pruned_dropped parents tree marks pruned w (omega (arith, apart)) (there_known parents marks w (open_there parents marks w at.0)) (open_childless parents marks w at.0)
 
 -- a pruned tree passes the test
 pub pruned_test : (parents : Parents) (marks : Marks) → ArePruned parents marks → are_pruned parents marks ≡ true

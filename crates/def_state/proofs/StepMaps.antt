@@ -8,7 +8,8 @@ use Rattle.std.proofs.lemmas.Bool.{cases_Bool, cases_eq, eqb-true, eq-eqb, ne_eq
 use Rattle.std.proofs.lemmas.List.{get_or-set_same, get_or-set_other}
 use Rattle.strat_base.specs.Marks.{Marks, is_dropped, has_living_child}
 use Rattle.def_state.proofs.MapLemmas.{Pairs}
-use Rattle.def_state.proofs.MarkLemmas.{there_known, there_living, open_there, open_childless, open_apart, put_open, delete_open, clone_there, droppable_open, clone_marks}
+use Rattle.def_state.proofs.MarkLemmas.{there_known, there_living, open_there, open_childless, open_apart, put_open, delete_open, clone_there, droppable_open}
+use Rattle.strat_base.proofs.PrunedLemmas.{mark_kept}
 use Rattle.strat_base.specs.Order.{key_cmp}
 use Rattle.strat_base.specs.Tree.{Parents, parent_of, path, with_child}
 use Rattle.strat_base.specs.Entries.{Entry}
@@ -186,7 +187,7 @@ module _ (s : State) (sound : IsOrdered s) (p : ℕ) (accepted : accepts_change 
   clone_over u = λ i. map_over (clone_versions i) (clone_sources i) u
 
   clone_dropped : (u : ℕ) → is_dropped (marks_of (appended s (Clone p))) u ≡ is_dropped (marks_of s) u
-  clone_dropped u = ap (λ (m : Marks). is_dropped m u) (marks-appended s (Clone p)) ∙ clone_marks (marks_of s) u
+  clone_dropped u = ap (λ (m : Marks). is_dropped m u) (marks-appended s (Clone p)) ∙ mark_kept (marks_of s) u
 
   pub clone_map : (u : ℕ) → u < length (versions_of s) → map_at (appended s (Clone p)) u ≡ map_at s u
   clone_map u lt = (λ i. cond (not (clone_dropped u i)) ((clone_over u ∙ map_kept (versions_of s) (sound_tree s sound.formed) p clone_parent (sources s) u lt) i) [])

@@ -13,3 +13,4 @@ pub mod FoundLemmas
 pub mod EntryFieldLemmas
 pub mod EntryBytesLemmas
 pub mod MarkLemmas
+pub mod PrunedLemmas

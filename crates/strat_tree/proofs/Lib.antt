@@ -1,6 +1,5 @@
 pub mod AncestorLemmas
 pub mod GrownLemmas
-pub mod PrunedLemmas
 pub mod LivingLemmas
 pub mod PreorderLemmas
 pub mod PassLemmas

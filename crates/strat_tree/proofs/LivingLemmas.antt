@@ -11,7 +11,7 @@ use Rattle.strat_base.specs.Marks.{Marks, is_dropped, has_living_child}
 use Rattle.strat_base.proofs.ListFacts.{Among, range_among}
 use Rattle.strat_base.proofs.TreeLemmas.{parent_kept, parent_older}
 use Rattle.strat_tree.specs.Living.{is_living_child, living_children, AreLivingCounts}
-use Rattle.strat_tree.proofs.PrunedLemmas.{mark_kept}
+use Rattle.strat_base.proofs.PrunedLemmas.{mark_kept}
 
 -- a count of a list by its first element
 count_cons : (p : ℕ → Bool) (x : ℕ) (xs : List ℕ) → count_by p (x ∷ xs) ≡ cond (p x) 1 0 + count_by p xs

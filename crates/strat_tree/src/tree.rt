@@ -60,7 +60,7 @@ impl Model for Tree {
 impl Tree {
     /// A tree of version 0 alone. Takes memory for all versions that there may be, about 83 bytes
     /// each, and no other call takes any. Where memory is short, none stays taken.
-    #[tactic(auto, using(crate::proofs::PrunedLemmas::none_dropped))]
+    #[tactic(auto, using(strat_base::proofs::PrunedLemmas::none_dropped))]
     pub fn new(alloc: Global, versions_max: u32) -> Result<Tree, NoMemory>
         requires { (1 ≤ versions_max) × (versions_max ≤ 16384) }
         ensures ok { IfOk result (λ t. t ≡ record {
@@ -243,7 +243,7 @@ impl Tree {
 
     /// Adds a version, a child of p, which was not dropped, and answers its number. It takes no memory and cannot fail.
     /// O(log versions_max): 14 jumps are filled.
-    #[tactic(auto, using(crate::proofs::PrunedLemmas::mark_kept))]
+    #[tactic(auto, using(strat_base::proofs::PrunedLemmas::mark_kept))]
     pub fn add_child(&mut self, p: Version) -> Version
         requires fits { p < length self.old.parents }
         requires room { length self.old.parents < self.old.versions_max }

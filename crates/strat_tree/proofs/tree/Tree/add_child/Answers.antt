@@ -7,7 +7,7 @@ use Rattle.strat_tree.specs.TreeView.{TreeView}
 use Rattle.strat_tree.specs.Jumps.{IsChildRow}
 use Rattle.strat_tree.proofs.GrownLemmas.{index_grown, depth_fits}
 use Rattle.strat_tree.proofs.OrderLemmas.{order_grown}
-use Rattle.strat_tree.proofs.PrunedLemmas.{pruned_grown}
+use Rattle.strat_base.proofs.PrunedLemmas.{pruned_grown}
 use Rattle.strat_tree.proofs.LivingLemmas.{living_few, counted_grown}
 use Rattle.strat_tree.proofs.tree.Tree.add_child.Goals as goal
 

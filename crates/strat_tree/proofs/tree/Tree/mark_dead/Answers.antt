@@ -3,7 +3,7 @@ use Rattle.std.proofs.lemmas.List.{get_or_read}
 use Rattle.strat_base.specs.Tree.{parent_of}
 use Rattle.strat_base.specs.Marks.{is_dropped, has_living_child}
 use Rattle.strat_base.proofs.TreeLemmas.{parent_older}
-use Rattle.strat_tree.proofs.PrunedLemmas.{pruned_dropped}
+use Rattle.strat_base.proofs.PrunedLemmas.{pruned_dropped}
 use Rattle.strat_tree.proofs.LivingLemmas.{counted_some, counted_dropped}
 use Rattle.strat_tree.proofs.tree.Tree.mark_dead.Goals as goal
 

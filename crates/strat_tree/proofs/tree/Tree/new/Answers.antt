@@ -1,6 +1,6 @@
 use Rattle.std.proofs.Common.{rules, arith}
 use Rattle.strat_tree.proofs.GrownLemmas.{tree_root, index_root}
-use Rattle.strat_tree.proofs.PrunedLemmas.{pruned_root}
+use Rattle.strat_base.proofs.PrunedLemmas.{pruned_root}
 use Rattle.strat_tree.proofs.LivingLemmas.{counted_root}
 use Rattle.strat_tree.proofs.tree.Tree.new.Goals as goal
 

@@ -31,8 +31,8 @@ parent_past : (parents : Parents) (v : ℕ) → length parents ≤ v → parent_
 parent_past parents v past = ap (λ (o : Option (Option ℕ)). option_and_then (λ parent. parent) o) (slice_get_past parents v past)
 
 -- a version with a parent is there
-there : (parents : Parents) (v p : ℕ) → parent_of parents v ≡ Some p → v < length parents
-there parents v p above =
+pub parent_there : (parents : Parents) (v p : ℕ) → parent_of parents v ≡ Some p → v < length parents
+parent_there parents v p above =
     elim (cases_lt v (length parents)) [
       | inl lt ↦ lt
       | inr past ↦ let none : None ≡ Some p = sym (parent_past parents v past) ∙ above in absurd (cc)
@@ -49,7 +49,7 @@ module _ (parents : Parents) (tree : IsTree parents) (marks : Marks) (pruned : A
         elim (cases_lt v (length parents)) [
           | inl old ↦ mark_kept marks v ∙ pruned.down v u (sym (parent_kept parents tree p known v old) ∙ above) was
           | inr past ↦
-              let within = there (with_child parents p) v u above in
+              let within = parent_there (with_child parents p) v u above in
               let last : v ≡ length parents = omega (arith, past, within, length_push parents (Some p)) in
               let made : parent_of (with_child parents p) v ≡ Some p =
               ap (λ (o : Option (Option ℕ)). option_and_then (λ parent. parent) o)
@@ -64,7 +64,7 @@ module _ (parents : Parents) (tree : IsTree parents) (marks : Marks) (pruned : A
   child_dead : (v w : ℕ) → has_living_child parents marks v ≡ false → parent_of parents w ≡ Some v → is_dropped marks w ≡ true
   child_dead v w none above =
       let test : ℕ → Bool = λ c. option_map_or (λ p. eqb p v) (parent_of parents c) false && not (is_dropped marks c) in
-      let within = there parents w v above in
+      let within = parent_there parents w v above in
       let fails : test w ≡ false = none_at test w (range_with_len 0 (length parents)) none (among_range 0 (length parents) w (omega arith) (omega (arith, within))) in
       let parted : not (is_dropped marks w) ≡ false =
       sym (ap (λ (o : Option ℕ). option_map_or (λ p. eqb p v) o false && not (is_dropped marks w)) above ∙ ap (λ b. b && not (is_dropped marks w)) (eq-eqb v v refl)) ∙ fails in
