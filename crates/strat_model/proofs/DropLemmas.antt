@@ -5,14 +5,13 @@ use Rattle.std.specs.Option.{option_map_or}
 use Rattle.std.proofs.lemmas.Bool.{ltb-true, and_parts, cases_eq, ne_eqb}
 use Rattle.std.proofs.lemmas.List.{length-map, length-set, get_or-set_same, get_or-set_other}
 use Rattle.std.proofs.lemmas.List.Folds.{list_any_none}
-use Rattle.strat_base.specs.Tree.{Parents, parent_of, has_child}
+use Rattle.strat_base.specs.Tree.{Parents, parent_of}
 use Rattle.strat_base.specs.Marks.{is_dropped}
 use Rattle.strat_model.specs.Answer.{accepts}
 use Rattle.strat_model.specs.Table.{Row, Table, parents_of, marks_in}
 use Rattle.strat_model.specs.Step.{Outcome, no_row, has_row, is_frozen, pairs_at, with_dropped, drop_version}
 use Rattle.strat_model.specs.Plain.{is_living_row_under}
-use Rattle.strat_model.specs.Kept.{AreLiving}
-use Rattle.strat_model.proofs.TableLemmas.{chosen, true_from_not, living_in}
+use Rattle.strat_model.proofs.TableLemmas.{chosen, true_from_not, mark_at, row_below, same_tree}
 
 -- a test and what always passes
 and_true : (b : Bool) → (b && true) ≡ b
@@ -41,12 +40,6 @@ parent_at [] v = refl
 parent_at (row ∷ rows) zero = refl
 parent_at (row ∷ rows) (suc v) = parent_at rows v
 
--- the mark of a version is that of its row
-pub mark_at : (rows : List Row) (v : ℕ) → is_dropped (map {A = Row} (λ row. row.dropped) rows) v ≡ (get_or rows v no_row).dropped
-mark_at [] v = refl
-mark_at (row ∷ rows) zero = refl
-mark_at (row ∷ rows) (suc v) = mark_at rows v
-
 -- a version is frozen where some row is that of a living child
 pub frozen_by_rows : (t : Table) (v : ℕ) → is_frozen t v ≡ list_any (is_living_row_under v) t.rows
 frozen_by_rows t v =
@@ -54,27 +47,6 @@ frozen_by_rows t v =
     ap (λ (n : ℕ). list_any test (range_with_len 0 n)) (length-map t.rows (λ (row : Row). row.parent))
     ∙ any_by_place test (is_living_row_under v) no_row t.rows 0
     (λ i. let at : 0 + i ≡ i = omega arith in ap test at ∙ (λ j. option_map_or (λ p. p == v) (parent_at t.rows i j) false && not (mark_at t.rows i j)))
-
--- where no row was dropped, a row is of a living child where it is of a child
-any_child : (rows : List Row) (v : ℕ) → AreLiving rows → list_any (is_living_row_under v) rows ≡ has_child (map {A = Row} (λ row. row.parent) rows) v
-any_child [] v living = refl
-any_child (row ∷ rows) v living =
-    let here : is_living_row_under v row ≡ option_map_or (λ p. p == v) row.parent false =
-    ap (λ b. option_map_or (λ p. p == v) row.parent false && not b) (living 0 no_row (omega arith)) ∙ and_true (option_map_or (λ p. p == v) row.parent false) in
-    let rest = any_child rows v (λ i d lt. living (suc i) d (omega arith)) in
-    λ j. here j || rest j
-
--- where no version was dropped, those with a child are frozen
-pub living_frozen : (t : Table) (v : ℕ) → AreLiving t.rows → is_frozen t v ≡ has_child (parents_of t) v
-living_frozen t v living = frozen_by_rows t v ∙ any_child t.rows v living
-
--- where no version was dropped, the versions are those below the number of rows
-pub living_found : (t : Table) (v : ℕ) → AreLiving t.rows → has_row t v ≡ nat_lt v (length t.rows)
-living_found t v living = ap (λ b. nat_lt v (length t.rows) && not b) (mark_at t.rows v ∙ living_in t.rows v living) ∙ and_true (nat_lt v (length t.rows))
-
--- a version that has a row is below the number of rows
-row_below : (t : Table) (v : ℕ) → has_row t v ≡ true → v < length t.rows
-row_below t v known = ltb-true v (length t.rows) (and_parts (nat_lt v (length t.rows)) (not (is_dropped (marks_in t) v)) known).0
 
 -- an outcome of a drop: it is accepted, of a version that was there; or refused, and the table is as it was
 abbrev IsDrop : Table → ℕ → Outcome → Type 0
@@ -126,12 +98,6 @@ drop_leaves t v w apart =
           let size : length after ≡ length t.rows = ap (λ (rows : List Row). length rows) done.2 ∙ length-set t.rows v _ in
           ((λ j. nat_lt w (size j) && not (marked j)), ap (λ (r : Row). r.pairs) row)
     ]
-
--- a dropped row has the parent that it had
-same_tree : (rows : List Row) (v : ℕ) → map {A = Row} (λ row. row.parent) (with_dropped rows v) ≡ map {A = Row} (λ row. row.parent) rows
-same_tree [] v = refl
-same_tree (row ∷ rows) zero = refl
-same_tree (row ∷ rows) (suc v) = ap (λ (ps : Parents). row.parent ∷ ps) (same_tree rows v)
 
 -- the tree stays
 pub drop_keeps_tree : (t : Table) (v : ℕ) → parents_of (drop_version t v).table ≡ parents_of t

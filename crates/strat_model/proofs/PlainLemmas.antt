@@ -1,5 +1,5 @@
 -- One step of a pass over a plain table's pairs, cursors or versions.
-use Rattle.std.proofs.Common.{◌≡◌, ℕ, zero, suc, ◌+◌, ◌-◌, ◌==◌, Bool, true, false, not, if◌then◌else◌, Option, Some, None, refl, ◌<◌, ◌≤◌, List, [], ◌∷◌, ◌++◌, length, get_or, take, drop, map, sym, ap, ◌∙◌, add-one, arith}
+use Rattle.std.proofs.Common.{◌≡◌, ℕ, zero, suc, ◌+◌, ◌-◌, ◌==◌, Bool, true, false, not, ◌&&◌, if◌then◌else◌, Option, Some, None, refl, ◌<◌, ◌≤◌, List, [], ◌∷◌, ◌++◌, length, get_or, take, drop, map, sym, ap, ◌∙◌, add-one, arith}
 use Rattle.std.proofs.Math.ListN.{set as list_set}
 use Rattle.std.proofs.lemmas.List.{at_drop_more, set_split, get_or_read, get_or_at, set_at, drop_more, map_more, length-map, length-take-le, append_assoc}
 use Rattle.std.specs.Ordering.{match_ordering}
@@ -15,8 +15,8 @@ use Rattle.strat_model.specs.declared.replies.Refusal.TheVariants as why
 use Rattle.strat_model.specs.Pairs.{Pair, Pairs, set, unset}
 use Rattle.strat_model.specs.Request.{Request, Put, Delete, Get, Clone, Scan, Info, OpenCursor, NextPairs, CloseCursor, Stat, DropVersion}
 use Rattle.strat_model.specs.Table.{Table, Cursor}
-use Rattle.strat_model.specs.Step.{Outcome, step, update, has_row, is_frozen, pairs_at, page, refuses, advanced}
-use Rattle.strat_model.specs.Plain.{update_refusal}
+use Rattle.strat_model.specs.Step.{Outcome, step, update, drop_version, has_row, is_frozen, pairs_at, page, refuses, advanced}
+use Rattle.strat_model.specs.Plain.{update_refusal, drop_refusal}
 
 -- a key's pair keeps its place when it gets another value
 pub set_here : (key value : List ℕ) (pairs : Pairs) (i : ℕ) (pair : Pair) → i < length pairs → pair ≡ get_or pairs i pair
@@ -81,6 +81,27 @@ refused_so false false false t done r is = absurd (cc)
 pub update_refused : (t : Table) (v : ℕ) (pairs : Pairs) (r : Refusal) → update_refusal t v ≡ Some r → update t v pairs ≡ refuses t r
 update_refused t v pairs r is = refused_so (not (has_row t v)) (is_frozen t v) (t.changes == t.changes_max) t _ r is
 
+-- a drop is refused like an update, but for version 0
+pub drop_refused_so : (known first frozen full : Bool)
+    → (if known && first then Some why.Root else if not known then Some why.UnknownVersion else if frozen then Some why.Frozen else if full then Some why.ChangeLimit else None)
+    ≡ (if not known then Some why.UnknownVersion else if first then Some why.Root else if frozen then Some why.Frozen else if full then Some why.ChangeLimit else None)
+drop_refused_so false first frozen full = refl
+drop_refused_so true true frozen full = refl
+drop_refused_so true false frozen full = refl
+
+-- of four reasons the first that is there is given
+four_refused : (unknown first frozen full : Bool) (t : Table) (done : Outcome) (r : Refusal)
+    → (if unknown then Some why.UnknownVersion else if first then Some why.Root else if frozen then Some why.Frozen else if full then Some why.ChangeLimit else None) ≡ Some r
+    → (if unknown then refuses t why.UnknownVersion else if first then refuses t why.Root else if frozen then refuses t why.Frozen else if full then refuses t why.ChangeLimit else done)
+    ≡ refuses t r
+four_refused true first frozen full t done r is = let same : why.UnknownVersion ≡ r = cc in ap (refuses t) same
+four_refused false true frozen full t done r is = let same : why.Root ≡ r = cc in ap (refuses t) same
+four_refused false false frozen full t done r is = refused_so false frozen full t done r is
+
+-- a drop that is refused is no more than the refusal
+pub drop_refused : (t : Table) (v : ℕ) (r : Refusal) → drop_refusal t v ≡ Some r → drop_version t v ≡ refuses t r
+drop_refused t v r is = four_refused (not (has_row t v)) (v == 0) (is_frozen t v) (t.changes == t.changes_max) t _ r is
+
 -- what holds of both sides holds of the one that is chosen
 either : {A : Type 0} (P : A → Type 0) (b : Bool) (x y : A) → P x → P y → P (if b then x else y)
 either P true x y at_x at_y = at_x
@@ -117,4 +138,7 @@ next_cursor_after t (OpenCursor v lo hi) =
 next_cursor_after t (NextPairs n limit) = opens_by_next t n limit (find (λ c. c.number == n) t.cursors)
 next_cursor_after t (CloseCursor n) = either (OpensOne t) (list_any (λ c. c.number == n) t.cursors) _ _ (omega arith) (omega arith)
 next_cursor_after t Stat = omega arith
-next_cursor_after t (DropVersion v) = omega arith
+next_cursor_after t (DropVersion v) =
+    either (OpensOne t) (not (has_row t v)) _ _ (omega arith)
+    (either (OpensOne t) (v == 0) _ _ (omega arith)
+    (either (OpensOne t) (is_frozen t v) _ _ (omega arith) (either (OpensOne t) (t.changes == t.changes_max) _ _ (omega arith) (omega arith))))

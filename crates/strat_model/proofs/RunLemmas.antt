@@ -57,7 +57,9 @@ step_ample t (OpenCursor v lo hi) = three (not (has_row t v)) (eqb (length t.cur
 step_ample t (NextPairs n limit) = next_ample t n limit (find (λ c. c.number == n) t.cursors)
 step_ample t (CloseCursor n) = chosen IsAmple (list_any (λ c. c.number == n) t.cursors) _ _ (λ _. refl) (λ _. refl)
 step_ample t Stat = refl
-step_ample t (DropVersion v) = refl
+step_ample t (DropVersion v) =
+    chosen IsAmple (not (has_row t v)) _ _ (λ _. refl) (λ _.
+    three (eqb v 0) (is_frozen t v) (eqb t.changes t.changes_max) t why.Root why.Frozen why.ChangeLimit _ refl refl refl refl)
 
 -- the answer that memory ran out is none other
 not_short : (a : Answer) → a ≡ refusal why.NoMemory → is_short a.reply ≡ false → ⊥

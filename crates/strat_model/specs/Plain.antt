@@ -49,6 +49,14 @@ update_refusal t v =
     if is_frozen t v then Some why.Frozen else
     if t.changes == t.changes_max then Some why.ChangeLimit else None
 
+-- why a drop of a version is refused, if it is
+abbrev pub drop_refusal : Table → ℕ → Option Refusal
+drop_refusal t v =
+    if not (has_row t v) then Some why.UnknownVersion else
+    if v == 0 then Some why.Root else
+    if is_frozen t v then Some why.Frozen else
+    if t.changes == t.changes_max then Some why.ChangeLimit else None
+
 -- why a clone of a version is refused, if it is
 abbrev pub clone_refusal : Table → ℕ → Option Refusal
 clone_refusal t v =

@@ -1,16 +1,16 @@
 //! Examples that the definitions compute, and laws that they have. Each is a call that does nothing, and
 //! its clause is what it says.
 
-ghost use Rattle.std.specs.Prelude.{◌≡◌, ◌≢◌, ◌<◌, ◌≤◌, ◌↔◌, ℕ, ◌+◌, List, [], length, nat_lt, take, Some, None, true, false};
+ghost use Rattle.std.specs.Prelude.{◌≡◌, ◌≢◌, ◌<◌, ◌≤◌, ◌↔◌, ℕ, ◌+◌, List, [], length, take, Some, None, true, false};
 ghost use Rattle.strat_base.specs.declared.limits.TheConstants.{CHANGES_MAX, VERSIONS_MAX};
-ghost use Rattle.strat_base.specs.Tree.{parent_of, has_child};
+ghost use Rattle.strat_base.specs.Tree.{parent_of};
 ghost use Rattle.strat_base.specs.Marks.{is_dropped};
 ghost use Rattle.strat_model.specs.Pairs.{Pairs, value_of, set, unset};
 ghost use Rattle.strat_model.specs.Request.{Request, Clone};
 ghost use Rattle.strat_model.specs.Table.{Table, fresh, parents_of, marks_in};
 ghost use Rattle.strat_model.specs.Answer.{accepts, refusal};
 ghost use Rattle.strat_model.specs.Step.{step, drop_version, pairs_at, has_row, is_frozen};
-ghost use Rattle.strat_model.specs.Kept.{IsMap, IsTable, AreLiving, updated};
+ghost use Rattle.strat_model.specs.Kept.{IsMap, IsTable, updated};
 ghost use Rattle.strat_model.specs.Run.{Position, Response, Answers, AnswersFault, MayFill, fill_after, IsAfter, EmptiesAtOnce, Exchange, Transcript, tables_of, takes_memory, reaches_disk};
 ghost use Rattle.strat_model.specs.Batch.{Continuation, tables_continued};
 ghost use Rattle.strat_model.specs.Spelling.{has_lawful_sizes, size_refusal, HasForm, Spells, IsRefusedAs};
@@ -50,11 +50,12 @@ pub fn clones_change_apart()
     ensures ok { answers (fresh 100000 100) staging ≡ staged }
 {}
 
-/// A drop is refused for an unknown version first, then for one with a child, then for too many changes. After it the
-/// version is unknown, its parent takes updates again, and it still counts.
+/// A drop is refused for an unknown version first, then for version 0, then for one with a living child, then for too many
+/// changes. After it the version is unknown, its parent takes updates again, and it still counts.
 #[tactic(auto, unfolding(strat_base::specs::Tree::climb))]
 pub fn drops_are_told()
     ensures err { ((drop_version (chained 2) 3).answer ≡ refusal why.UnknownVersion)
+        × ((drop_version (chained 2) 0).answer ≡ refusal why.Root)
         × ((drop_version (chained 2) 1).answer ≡ refusal why.Frozen)
         × ((drop_version (chained 2) 2).answer ≡ refusal why.ChangeLimit) }
     ensures ok { ((drop_version (chained 9) 2).answer ≡ done)
@@ -83,7 +84,8 @@ pub fn maps_are_their_look_ups()
         → ((key : List ℕ) → value_of a key ≡ value_of b key) → a ≡ b }
 {}
 
-/// A new table keeps maps, a tree and limits, and has no version that was dropped; so does the table after any step.
+/// A new table keeps maps, a tree in which all below a dropped version are dropped, and limits, and each dropped version has
+/// the empty map; so does the table after any step.
 pub fn tables_keep_maps_and_tree()
     ensures ok { (changes_max versions_max : ℕ) → changes_max ≤ CHANGES_MAX → 1 ≤ versions_max
         → versions_max ≤ VERSIONS_MAX → IsTable (fresh changes_max versions_max) }
@@ -96,15 +98,6 @@ pub fn versions_change_alone()
         → updated request ≢ Some w → pairs_at (step t request).table w ≡ pairs_at t w }
     ensures kept { (t : Table) (request : Request) (w : ℕ) → w < length t.rows
         → is_frozen t w ≡ true → pairs_at (step t request).table w ≡ pairs_at t w }
-{}
-
-/// Where no version was dropped, as in each table that commands make, the versions are those below the number of rows, and
-/// those with a child are frozen.
-pub fn living_tables_have_every_version()
-    ensures found { (t : Table) (v : ℕ) → AreLiving t.rows
-        → has_row t v ≡ nat_lt v (length t.rows) }
-    ensures frozen { (t : Table) (v : ℕ) → AreLiving t.rows
-        → is_frozen t v ≡ has_child (parents_of t) v }
 {}
 
 /// A version that is dropped is unknown, and its map is empty. The tree stays, and so do the maps of all other versions. The

@@ -107,6 +107,13 @@ impl PlainPairs {
         }
     }
 
+    /// Takes all pairs away.
+    pub(crate) fn clear(&mut self)
+        ensures ok { self.new ≡ [] }
+    {
+        self.pairs = Vec::new(*self.pairs.allocator());
+    }
+
     /// The number of pairs.
     pub(crate) fn len(&self) -> usize
         ensures ok { result ≡ length self.now }

@@ -1,6 +1,6 @@
 //! The versions and the cursors of a plain table.
 
-ghost use Rattle.std.specs.Prelude.{◌≡◌, ◌≤◌, ◌==◌, not, if◌then◌else◌, [], false, length, filter, nat_lt, take, drop, Some, None, IfOk, OnOk, OnErr};
+ghost use Rattle.std.specs.Prelude.{◌≡◌, ◌≤◌, ◌==◌, not, if◌then◌else◌, [], true, false, length, filter, nat_lt, take, drop, Some, None, IfOk, OnOk, OnErr};
 ghost use Rattle.std.specs.List.{list_any};
 ghost use Rattle.strat_base.specs.declared.limits.TheConstants.{PAIRS_MAX};
 ghost use Rattle.strat_base.specs.PairBuf.{IsPair};
@@ -80,6 +80,14 @@ impl PlainRow {
         ensures ok { result.now ≡ self.now.pairs }
     {
         &self.pairs
+    }
+
+    /// Drops the version: its map is empty then.
+    pub(crate) fn drop_version(&mut self)
+        ensures ok { self.new ≡ record self.old { dropped = true; pairs = [] } }
+    {
+        self.dropped = true;
+        self.pairs.clear();
     }
 
     /// Gives a key a value.

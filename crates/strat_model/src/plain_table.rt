@@ -6,12 +6,12 @@ ghost use Rattle.strat_base.specs.declared.limits.TheConstants.{CHANGES_MAX, VER
 ghost use Rattle.strat_base.specs.Tree.{parent_of, depth};
 ghost use Rattle.strat_model.specs.Command.{request_of};
 ghost use Rattle.strat_model.specs.declared.replies.Reply.TheVariants as reply;
-ghost use Rattle.strat_model.specs.Request.{Put, Delete, Get, Clone, Scan, Info, OpenCursor, NextPairs, CloseCursor, Stat};
+ghost use Rattle.strat_model.specs.Request.{Put, Delete, Get, Clone, Scan, Info, OpenCursor, NextPairs, CloseCursor, Stat, DropVersion};
 ghost use Rattle.strat_model.specs.Pairs.{range};
 ghost use Rattle.strat_model.specs.Table.{fresh, parents_of};
 ghost use Rattle.strat_model.specs.Step.{has_row, is_frozen, pairs_at};
 ghost use Rattle.strat_model.specs.Spelling.{has_lawful_sizes};
-ghost use Rattle.strat_model.specs.Plain.{IsStep, IsStepOrShort, grows, update_refusal, clone_refusal, cursor_refusal};
+ghost use Rattle.strat_model.specs.Plain.{IsStep, IsStepOrShort, grows, update_refusal, clone_refusal, cursor_refusal, drop_refusal};
 
 use crate::commands::Command;
 use crate::plain_rows::{PlainCursor, PlainRow, advance, close, has_cursor, has_living_child};
@@ -92,6 +92,7 @@ impl PlainTable {
             Command::Delete { version, key } => self.delete(version, key),
             Command::Get { version, key } => self.get(version, key, out),
             Command::Clone { version } => self.clone_version(version),
+            Command::DropVersion { version } => self.drop_version(version),
             Command::Scan {
                 version,
                 lo,
@@ -106,7 +107,7 @@ impl PlainTable {
         }
     }
 
-    #[tactic(auto, using(crate::proofs::DropLemmas::mark_at))]
+    #[tactic(auto, using(crate::proofs::TableLemmas::mark_at))]
     fn has_row(&self, version: Version) -> bool
         ensures ok { result ≡ has_row self.now version }
     {
@@ -214,6 +215,27 @@ impl PlainTable {
         }
         self.changes += 1;
         Reply::Made { version: made }
+    }
+
+    fn drop_refusal(&self, version: Version) -> Option<Refusal>
+        ensures ok { result ≡ drop_refusal self.now version }
+    {
+        if self.has_row(version) && version == 0 {
+            Some(Refusal::Root)
+        } else {
+            self.update_refusal(version)
+        }
+    }
+
+    fn drop_version(&mut self, version: Version) -> Reply
+        ensures ok { IsStep self.old (DropVersion version) result [] self.new }
+    {
+        if let Some(refusal) = self.drop_refusal(version) {
+            return Reply::Refused(refusal);
+        }
+        self.rows[version as usize].drop_version();
+        self.changes += 1;
+        Reply::Done
     }
 
     fn scan(&self, version: Version, lo: &[u8], hi: &[u8], limit: u16, out: &mut PairBuf) -> Reply
