@@ -1,5 +1,5 @@
 -- A journal's changes carried out on what is in memory where they go on behind a full region.
-use Rattle.std.proofs.Common.{◌≡◌, ◌<◌, ◌≤◌, ◌+◌, ◌*◌, ◌-◌, ℕ, suc, true, false, Bool, cond, List, [], ◌∷◌, ◌++◌, length, map, take, drop, Option, Some, None, Result, Ok, Err, refl, sym, ap, ◌∙◌, subst, arith}
+use Rattle.std.proofs.Common.{◌≡◌, ◌<◌, ◌≤◌, ◌+◌, ◌*◌, ◌-◌, ℕ, suc, true, false, Bool, cond, List, [], ◌∷◌, ◌++◌, length, map, take, drop, None, Ok, Err, refl, sym, ap, ◌∙◌, subst, arith}
 use Rattle.std.specs.Prelude.{fold}
 use Rattle.std.specs.List.{list_all}
 use Rattle.std.proofs.lemmas.Bool.{and_from}
@@ -9,7 +9,7 @@ use Rattle.strat_base.specs.Change.{Change, is_lawful}
 use Rattle.strat_base.specs.Marks.{Marks}
 use Rattle.strat_base.specs.Tree.{Parents}
 use Rattle.def_bytes.proofs.DamageLemmas.{put_first_ok}
-use Rattle.def_bytes.specs.Damage.{Read, and_then, put_first}
+use Rattle.def_bytes.specs.Damage.{Read, put_first}
 use Rattle.def_bytes.specs.Manifest.{Manifest}
 use Rattle.def_bytes.specs.Records.{Logged}
 use Rattle.def_bytes.specs.SuperBlock.{Super}

@@ -1,14 +1,12 @@
 //! Laws of a store whose version is read whole. Each is the contract of a function that does nothing.
 
-ghost use Rattle.std.specs.Prelude.{◌≡◌, ℕ, true, Option, Some};
-ghost use Rattle.strat_base.specs.declared.descriptors.ArrayDesc.{ArrayDesc};
+ghost use Rattle.std.specs.Prelude.{◌≡◌, ℕ, true, Option};
 ghost use Rattle.def_crash.specs.Image.{Image};
 ghost use Rattle.def_crash.specs.Moments.{Exposes};
 ghost use Rattle.def_meaning.specs.StateTable.{table_of};
 ghost use Rattle.def_publish.specs.Contents.{Contents, contents_state};
-ghost use Rattle.def_recovery.specs.Bad.{IsBad};
-ghost use Rattle.strat_cursor.specs.Looking.{NamesNoBlock, arrays_asked, arrays_there};
-ghost use Rattle.strat_memory.specs.Held.{Held, IsConsistent, StandsWith, arrays_held};
+ghost use Rattle.strat_cursor.specs.Looking.{NamesNoBlock, arrays_asked};
+ghost use Rattle.strat_memory.specs.Held.{Held, IsConsistent, StandsWith};
 ghost use Rattle.strat_model.specs.Step.{pairs_at};
 ghost use Rattle.strat_publish.specs.Outcomes.{IsDamagedIn};
 ghost use Rattle.strat_store.specs.Exporting.{IsReadWhole};
