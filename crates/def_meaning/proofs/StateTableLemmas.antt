@@ -3,7 +3,7 @@ use Rattle.std.proofs.Common.{◌≡◌, ◌<◌, ◌+◌, ℕ, Bool, true, fals
 use Rattle.std.proofs.lemmas.Bool.{cases_lt, eq-eqb, ne_eqb, and_parts, not-true, cond-true, cond-false}
 use Rattle.std.proofs.lemmas.List.{get_or_past, get_or-set_same, get_or-set_other}
 use Rattle.strat_base.specs.Tree.{Parents}
-use Rattle.strat_base.specs.Marks.{is_dropped, has_living_child}
+use Rattle.strat_base.specs.Marks.{Marks, is_dropped, has_living_child}
 use Rattle.strat_base.specs.Change.{Change}
 use Rattle.strat_base.specs.Change as change
 use Rattle.strat_base.specs.Entries.{Entry}

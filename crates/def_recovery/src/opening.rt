@@ -11,7 +11,7 @@ ghost use Rattle.def_bytes.specs.SuperBlock.{body};
 ghost use Rattle.def_state.specs.Worked.{chain};
 ghost use Rattle.def_recovery.specs.Bad.{IsBad};
 ghost use Rattle.def_recovery.specs.Disks.{formatted, old_formatted, first_block, old_first_block, manifest_block, old_manifest_block, new_super, old_super, new_head, chain_super, chain_manifest, with_horizon, published_over, published_by, published, last_dropped, doubly_open};
-ghost use Rattle.def_recovery.specs.Head.{Head, head_versions, head_updates, head_changes, descriptors};
+ghost use Rattle.def_recovery.specs.Head.{Head, head_of, head_versions, head_updates, head_changes, descriptors};
 ghost use Rattle.def_recovery.specs.Opening.{recover, reads_as, state_of};
 ghost use Rattle.def_recovery.specs.Passed.{PassesOpening};
 

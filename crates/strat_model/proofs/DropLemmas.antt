@@ -2,10 +2,10 @@
 use Rattle.std.proofs.Common.{◌≡◌, ◌≢◌, ◌<◌, ℕ, zero, suc, ◌+◌, ◌==◌, nat_lt, Bool, true, false, not, ◌&&◌, ◌||◌, ◌⊎◌, inl, inr, List, [], ◌∷◌, Option, Some, None, length, map, get_or, refl, sym, ap, ◌∙◌, arith, true≢false}
 use Rattle.std.specs.List.{list_any, range_with_len}
 use Rattle.std.specs.Option.{option_map_or}
-use Rattle.std.proofs.lemmas.Bool.{cases_eq, ne_eqb}
+use Rattle.std.proofs.lemmas.Bool.{ltb-true, and_parts, cases_eq, ne_eqb}
 use Rattle.std.proofs.lemmas.List.{length-map, length-set, get_or-set_same, get_or-set_other}
 use Rattle.std.proofs.lemmas.List.Folds.{list_any_none}
-use Rattle.strat_base.specs.Tree.{parent_of}
+use Rattle.strat_base.specs.Tree.{Parents, parent_of}
 use Rattle.strat_base.specs.Marks.{is_dropped}
 use Rattle.strat_model.specs.Answer.{accepts}
 use Rattle.strat_model.specs.Table.{Row, Table, parents_of, marks_in}

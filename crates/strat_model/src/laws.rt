@@ -11,7 +11,7 @@ ghost use Rattle.strat_model.specs.Table.{Table, fresh, parents_of, marks_in};
 ghost use Rattle.strat_model.specs.Answer.{accepts, refusal};
 ghost use Rattle.strat_model.specs.Step.{step, drop_version, pairs_at, has_row, is_frozen};
 ghost use Rattle.strat_model.specs.Kept.{IsMap, IsTable, updated};
-ghost use Rattle.strat_model.specs.Run.{Position, Response, Answers, AnswersFault, MayFill, fill_after, IsAfter, EmptiesAtOnce, Transcript, tables_of, takes_memory, reaches_disk};
+ghost use Rattle.strat_model.specs.Run.{Position, Response, Answers, AnswersFault, MayFill, fill_after, IsAfter, EmptiesAtOnce, Exchange, Transcript, tables_of, takes_memory, reaches_disk};
 ghost use Rattle.strat_model.specs.Batch.{Continuation, tables_continued};
 ghost use Rattle.strat_model.specs.Spelling.{has_lawful_sizes, size_refusal, HasForm, Spells, IsRefusedAs};
 ghost use Rattle.strat_model.specs.Stream.{Splits};

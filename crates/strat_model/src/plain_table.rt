@@ -1,14 +1,15 @@
 //! A plain table: each version has a map of its own, and a clone copies it.
 
-ghost use Rattle.std.specs.Prelude.{◌≡◌, ◌<◌, ◌≤◌, ◌^◌, ◌+◌, ◌==◌, ◌∷◌, ◌++◌, [], true, false, find, Some, IfOk};
+ghost use Rattle.std.specs.Prelude.{◌≡◌, ◌<◌, ◌≤◌, ◌^◌, ◌+◌, ◌==◌, ◌∷◌, ◌++◌, [], length, true, false, find, Some, IfOk, OnOk, OnErr};
 ghost use Rattle.std.specs.Option.{option_copied};
 ghost use Rattle.strat_base.specs.declared.limits.TheConstants.{CHANGES_MAX, VERSIONS_MAX, CURSORS_MAX};
 ghost use Rattle.strat_base.specs.Tree.{parent_of, depth};
 ghost use Rattle.strat_model.specs.Command.{request_of};
 ghost use Rattle.strat_model.specs.declared.replies.Reply.TheVariants as reply;
 ghost use Rattle.strat_model.specs.Request.{Put, Delete, Get, Clone, Scan, Info, OpenCursor, NextPairs, CloseCursor, Stat, DropVersion};
+ghost use Rattle.strat_model.specs.Pairs.{range};
 ghost use Rattle.strat_model.specs.Table.{fresh, parents_of};
-ghost use Rattle.strat_model.specs.Step.{has_row, is_frozen};
+ghost use Rattle.strat_model.specs.Step.{has_row, is_frozen, pairs_at};
 ghost use Rattle.strat_model.specs.Spelling.{has_lawful_sizes};
 ghost use Rattle.strat_model.specs.Plain.{IsStep, IsStepOrShort, grows, update_refusal, clone_refusal, cursor_refusal, drop_refusal};
 
