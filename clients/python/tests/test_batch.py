@@ -25,6 +25,7 @@ class Versions:
         self.versions_max = versions_max
         self.pairs: List[Dict[bytes, bytes]] = [{}]
         self.parents: List[Optional[int]] = [None]
+        self.dropped: Set[int] = set()
         self.updates = self.changes = 0
         self.cursors = 0
 
@@ -32,7 +33,11 @@ class Versions:
         depth, at = 0, self.parents[version]
         while at is not None:
             depth, at = depth + 1, self.parents[at]
-        return Info(self.parents[version], depth, version in self.parents)
+        return Info(self.parents[version], depth, self.is_frozen(version))
+
+    def is_frozen(self, version: int) -> bool:
+        """Whether a version has a child that was not dropped."""
+        return any(parent == version and child not in self.dropped for child, parent in enumerate(self.parents))
 
     def range(self, version: int, lower: bytes, upper: bytes) -> List[Pair]:
         """The pairs of a range."""
@@ -44,6 +49,8 @@ class Versions:
             return Stat(len(self.pairs), self.updates, self.changes, self.cursors)
         if version >= len(self.pairs):
             return errors.UnknownVersion
+        if version in self.dropped:
+            return errors.Dropped
         if command == "page":
             found = self.range(version, *words)
             return Page(found[:PIECE], len(found) > PIECE)
@@ -58,10 +65,16 @@ class Versions:
             self.parents.append(version)
             self.changes += 1
             return len(self.pairs) - 1
-        if version in self.parents:
+        if command == "drop" and not version:
+            return errors.Root
+        if self.is_frozen(version):
             return errors.Frozen
-        self.updates += 1
         self.changes += 1
+        if command == "drop":
+            self.dropped.add(version)
+            self.pairs[version] = {}
+            return None
+        self.updates += 1
         if command == "put":
             self.pairs[version][words[0]] = words[1]
         else:
@@ -71,7 +84,7 @@ class Versions:
 
 def drawn(chance: random.Random, versions: int) -> Tuple[str, int, Tuple[bytes, ...]]:
     """A command, a version that may be there, and the command's words."""
-    command = chance.choices(("put", "delete", "get", "clone", "info", "stat"), (30, 10, 50, 1, 5, 4))[0]
+    command = chance.choices(("put", "delete", "get", "clone", "drop", "info", "stat"), (30, 10, 50, 2, 1, 5, 4))[0]
     version = chance.randrange(max(0, versions - 6), versions + 1)
     key = b"key/%d" % chance.randrange(60)
     words = {"put": (key, chance.randbytes(chance.choice((0, 3, 60, 1024)))), "delete": (key,), "get": (key,)}
@@ -118,8 +131,8 @@ def kinds(results: List[object]) -> List[object]:
 
 class BatchTest(StoreCase):
     def test_ten_thousand_commands_give_what_a_dictionary_of_versions_does(self) -> None:
-        chance, plain, want = random.Random(22), Versions(60), []
-        store = self.made(256, 100000, 60)
+        chance, plain, want = random.Random(22), Versions(150), []
+        store = self.made(256, 100000, 150)
         with store.batch(return_exceptions=True) as batch:
             for _ in range(10000):
                 command, version, words = drawn(chance, len(plain.pairs))
@@ -128,15 +141,20 @@ class BatchTest(StoreCase):
         got = kinds(list(batch.results))
         self.assertEqual(len(got), 10000)
         for number, (one, other) in enumerate(zip(got, want)):
-            self.assertEqual(one, other, f"command {number}")
+            # what was asked of a version before it was made is told as it is at the end
+            before = one is errors.Dropped and other is errors.UnknownVersion
+            self.assertEqual(one, errors.Dropped if before else other, f"command {number}")
         seen = {kind for kind in want if isinstance(kind, type)}
-        self.assertEqual(seen, {errors.UnknownVersion, errors.Frozen, errors.VersionLimit})
+        self.assertEqual(seen, {errors.UnknownVersion, errors.Dropped, errors.Root, errors.Frozen, errors.VersionLimit})
         store.close()
-        again = self.opened().batch()
-        for version, pairs in enumerate(plain.pairs):
+        store = self.opened()
+        again = store.batch()
+        living = [version for version in range(len(plain.pairs)) if version not in plain.dropped]
+        self.assertEqual([version for version, info in enumerate(store.versions()) if info is not None], living)
+        for version in living:
             for number in range(60):
                 again.get(version, b"key/%d" % number)
-        self.assertEqual(again.finish(), [pairs.get(b"key/%d" % number) for pairs in plain.pairs for number in range(60)])
+        self.assertEqual(again.finish(), [plain.pairs[version].get(b"key/%d" % number) for version in living for number in range(60)])
 
     def test_full_pipes_block_nobody(self) -> None:
         store = self.made()
@@ -320,7 +338,7 @@ class ReadingTest(StoreCase):
     in_memory = True
 
     def test_scans_amid_commands_give_what_a_dictionary_of_versions_does(self) -> None:
-        chance, plain, store = random.Random(29), Versions(40), self.made(8, 100000, 40)
+        chance, plain, store = random.Random(29), Versions(60), self.made(8, 100000, 60)
         keys = [b"key/%03d" % number for number in range(700)]
         readings: List[Reading] = []
         want: List[object] = []
@@ -332,10 +350,11 @@ class ReadingTest(StoreCase):
         batch = store.batch(return_exceptions=True)
         for number in range(3000):
             version, key = chance.randrange(max(0, len(plain.pairs) - 4), len(plain.pairs) + (chance.random() < 0.02)), chance.choice(keys)
-            draw = chance.choices(("change", "clone", "page", "stat", "open", "read", "end"), (45, 1, 3, 5, 16, 22, 6))[0]
+            draw = chance.choices(("change", "clone", "drop", "page", "stat", "open", "read", "end"), (44, 2, 1, 3, 5, 16, 22, 6))[0]
             if draw == "open":
                 lower, upper = chance.choice((b"", b"", key, key + b"\0")), chance.choice((b"", b"", b"", chance.choice(keys)))
-                fails = errors.UnknownVersion if version >= len(plain.pairs) else errors.CursorLimit if plain.cursors == 64 else None
+                fails = (errors.UnknownVersion if version >= len(plain.pairs) else errors.Dropped if version in plain.dropped
+                         else errors.CursorLimit if plain.cursors == 64 else None)
                 try:
                     readings.append(Reading(store.scan(version, lower, upper), plain, plain.range(version, lower, upper)))
                     self.assertIsNone(fails)
@@ -360,8 +379,9 @@ class ReadingTest(StoreCase):
                 getattr(batch, command)(*(() if command == "stat" else (version, *words)))
                 want.append(plain.answer(command, version, *words))
         for number, (one, other) in enumerate(zip(kinds(batch.finish()), want)):
-            self.assertEqual(one, other, f"command {number}")
-        self.assertEqual((len(batch.results), seen), (len(want), {None, errors.UnknownVersion, errors.CursorLimit}))
+            before = one is errors.Dropped and other is errors.UnknownVersion  # what is told at the end is what is so then
+            self.assertEqual(one, errors.Dropped if before else other, f"command {number}")
+        self.assertEqual((len(batch.results), seen), (len(want), {None, errors.UnknownVersion, errors.Dropped, errors.CursorLimit}))
         for reading in readings:
             self.assertEqual(*reading.take(1000))
         self.assertEqual((store.stat().cursors, plain.cursors), (0, 0))

@@ -49,16 +49,19 @@ class SalvageCase(StoreCase):
         left = [name for name in os.listdir(self.folder) if not name.startswith("a.store") and not name.endswith(".lock")]
         self.assertEqual(sorted(left), sorted(others))
 
-    def contents(self, path: str) -> Tuple[List[Optional[int]], List[Dict[bytes, bytes]]]:
-        """The parents and the pairs of each version."""
+    def contents(self, path: str) -> Tuple[List[Optional[int]], List[Optional[Dict[bytes, bytes]]]]:
+        """The parents and the pairs of each version; None for those of a dropped one."""
         with Store(path) as store:
-            parents = [info.parent for info in store.versions()]
-            return parents, [dict(store.scan(version)) for version in range(len(parents))]
+            infos, dropped = store.versions(), store.dropped()
+            parents = [dropped[version] if info is None else info.parent for version, info in enumerate(infos)]
+            return parents, [None if info is None else dict(store.scan(version)) for version, info in enumerate(infos)]
 
     def expect_true(self, found: Salvage, whole: Whole) -> int:
         """What was salvaged is of this store, and what is missing is told. How many pairs there are."""
-        parents, tables = self.contents(self.to)
+        parents, made = self.contents(self.to)
         self.assertEqual(parents, whole.parents)
+        self.assertEqual([version for version, table in enumerate(made) if table is None], sorted(whole.dropped))
+        tables = [table or {} for table in made]
         for version, (table, before) in enumerate(itertools.zip_longest(tables, whole.tables)):
             for key, value in table.items():
                 self.assertEqual(before.get(key), value, (version, key))
@@ -67,7 +70,8 @@ class SalvageCase(StoreCase):
         for lost in found.lost:
             there = sum(is_in(found._replace(lost=(lost,)), version, key) for version, table in enumerate(tables) for key in table)
             self.assertEqual(there, lost.found, lost)
-        self.assertEqual(found.versions, len(parents))
+            self.assertFalse(set(lost.versions) & whole.dropped, lost)
+        self.assertEqual((found.versions, found.dropped), (len(parents), len(whole.dropped)))
         return sum(map(len, tables))
 
 
@@ -114,9 +118,10 @@ class DamageTest(SalvageCase):
     def test_a_store_without_damage_is_salvaged_whole(self) -> None:
         for store in damaged.stores(SEED + 2):
             found = self.salvaged(store.data)
-            self.assertEqual(found[2:], ((), (), None))
+            self.assertEqual(found[2:], ((), (), None, len(store.dropped)))
             self.assertTrue(found.is_whole)
-            self.assertEqual(self.contents(self.to), (store.parents, store.tables))
+            tables = [None if version in store.dropped else table for version, table in enumerate(store.tables)]
+            self.assertEqual(self.contents(self.to), (store.parents, tables))
 
     def test_a_middle_block_does_not_keep_the_others_from_being_read(self) -> None:
         entries = [formats.Entry(b"%03d" % number, 0, b"%d" % number) for number in range(90)]
