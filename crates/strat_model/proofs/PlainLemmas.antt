@@ -1,5 +1,5 @@
 -- One step of a pass over a plain table's pairs, cursors or versions.
-use Rattle.std.proofs.Common.{◌≡◌, ℕ, zero, suc, ◌+◌, ◌-◌, ◌==◌, Bool, true, false, not, ◌&&◌, if◌then◌else◌, Option, Some, None, refl, ◌<◌, ◌≤◌, List, [], ◌∷◌, ◌++◌, length, get_or, take, drop, map, sym, ap, ◌∙◌, add-one, arith}
+use Rattle.std.proofs.Common.{◌≡◌, ℕ, zero, suc, ◌+◌, ◌-◌, ◌==◌, Bool, true, false, not, if◌then◌else◌, Option, Some, None, refl, ◌<◌, ◌≤◌, List, [], ◌∷◌, ◌++◌, length, get_or, take, drop, map, sym, ap, ◌∙◌, add-one, arith}
 use Rattle.std.proofs.Math.ListN.{set as list_set}
 use Rattle.std.proofs.lemmas.List.{at_drop_more, set_split, get_or_read, get_or_at, set_at, drop_more, map_more, length-map, length-take-le, append_assoc}
 use Rattle.std.specs.Ordering.{match_ordering}
@@ -80,14 +80,6 @@ refused_so false false false t done r is = absurd (cc)
 -- an update that is refused is no more than the refusal
 pub update_refused : (t : Table) (v : ℕ) (pairs : Pairs) (r : Refusal) → update_refusal t v ≡ Some r → update t v pairs ≡ refuses t r
 update_refused t v pairs r is = refused_so (not (has_row t v)) (is_frozen t v) (t.changes == t.changes_max) t _ r is
-
--- a drop is refused like an update, but for version 0
-pub drop_refused_so : (known first frozen full : Bool)
-    → (if known && first then Some why.Root else if not known then Some why.UnknownVersion else if frozen then Some why.Frozen else if full then Some why.ChangeLimit else None)
-    ≡ (if not known then Some why.UnknownVersion else if first then Some why.Root else if frozen then Some why.Frozen else if full then Some why.ChangeLimit else None)
-drop_refused_so false first frozen full = refl
-drop_refused_so true true frozen full = refl
-drop_refused_so true false frozen full = refl
 
 -- of four reasons the first that is there is given
 four_refused : (unknown first frozen full : Bool) (t : Table) (done : Outcome) (r : Refusal)
