@@ -225,8 +225,8 @@ impl Memory {
             × IsTrue (are_pruned (None ∷ map (λ p. Some p) parents.now) (marks_listed marks.now)) }
         requires room { 1 + length parents.now ≤ self.old.versions_max }
         requires none { (self.old.parents ≡ None ∷ []) × (self.old.entries ≡ [])
-            × (self.old.sealed ≡ None) × (self.old.cursors.opened ≡ []) }
-        requires living { self.old.marks ≡ false ∷ [] }
+            × (self.old.sealed ≡ None) × (self.old.cursors.opened ≡ [])
+            × (self.old.marks ≡ false ∷ []) }
         requires kept { (updates ≤ changes) × (changes ≤ self.old.changes_max) }
         ensures ok { self.new ≡ record self.old {
           parents = None ∷ map (λ p. Some p) parents.now;
@@ -443,6 +443,7 @@ impl Memory {
             × IsTrue (are_known self.now.parents (entries_held result.2.now z))) }
         ensures fits { IsTrue (are_known self.now.parents self.now.entries) }
         ensures found { (result.3.now.parents ≡ self.now.parents) × IsTree result.3.now.parents }
+        ensures same { result.3.now.marks ≡ self.now.marks }
     {
         // For the proof: the parents are a tree.
         let _ = self.tree.count();
@@ -462,6 +463,7 @@ impl Memory {
         ensures len { length result.0.now.list.items ≡ length self.now.entries }
         ensures fits { IsTrue (are_known self.now.parents self.now.entries) }
         ensures found { (result.2.now.parents ≡ self.now.parents) × IsTree result.2.now.parents }
+        ensures same { result.2.now.marks ≡ self.now.marks }
     {
         // For the proof: the parents are a tree.
         let _ = self.tree.count();
