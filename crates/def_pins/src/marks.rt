@@ -3,7 +3,7 @@
 
 #![tactic(auto, unfolding(strat_base::specs::Tree::climb))]
 
-ghost use Rattle.std.specs.Prelude.{◌≡◌, ℕ, List, [], ◌∷◌, ◌&&◌, suc, true, false, None, Some};
+ghost use Rattle.std.specs.Prelude.{◌≡◌, List, [], ◌∷◌, ◌&&◌, true, false, None, Some};
 ghost use Rattle.std.specs.List.{list_all};
 ghost use Rattle.strat_base.specs.Change.{Change, Put, Delete, Clone, DropVersion};
 ghost use Rattle.strat_base.specs.Marks.{Marks, is_dropped, has_living_child, are_pruned, none_dropped};
