@@ -1,6 +1,7 @@
 -- A state with one more change means the table after that change.
-use Rattle.std.proofs.Common.{◌≡◌, ◌<◌, ◌+◌, ℕ, Bool, true, false, if◌then◌else◌, cond, eqb, not, ◌&&◌, true≢false, List, [], ◌∷◌, ◌++◌, length, Option, Some, None, refl, sym, ap, ◌∙◌, arith, length-append}
-use Rattle.std.proofs.lemmas.Bool.{eq-eqb, ne_eqb, and_parts, not-true, cond-true, cond-false}
+use Rattle.std.proofs.Common.{◌≡◌, ◌<◌, ◌+◌, ℕ, Bool, true, false, if◌then◌else◌, cond, eqb, not, ◌&&◌, inl, inr, set, List, [], ◌∷◌, ◌++◌, length, Option, Some, None, refl, sym, ap, ◌∙◌, arith, length-append}
+use Rattle.std.proofs.lemmas.Bool.{cases_lt, eq-eqb, ne_eqb, and_parts, not-true, cond-true, cond-false}
+use Rattle.std.proofs.lemmas.List.{get_or_past, get_or-set_same, get_or-set_other}
 use Rattle.strat_base.specs.Tree.{Parents}
 use Rattle.strat_base.specs.Marks.{Marks, is_dropped, has_living_child}
 use Rattle.strat_base.specs.Change.{Change}
@@ -12,12 +13,12 @@ use Rattle.def_state.specs.Reading.{read_at}
 use Rattle.def_state.specs.Sound.{is_there, takes_updates, accepts_change, IsSound, Takes}
 use Rattle.def_state.proofs.MapLemmas.{value_in-lookup}
 use Rattle.def_state.proofs.SoundLemmas.{sound_tree, sound_pruned, ordered, read_decides}
-use Rattle.def_state.proofs.MarkLemmas.{there_known, open_there, open_childless}
+use Rattle.def_state.proofs.MarkLemmas.{there_known, open_there, open_childless, droppable_open}
 use Rattle.strat_base.proofs.PrunedLemmas.{mark_kept}
 use Rattle.def_state.specs.Maps.{map_over}
 use Rattle.def_state.proofs.StepLemmas.{versions-appended, marks-appended, updates-appended}
 use Rattle.def_state.proofs.ValueLemmas.{map_value}
-use Rattle.def_state.proofs.StepMaps.{past_end, put_map, delete_map, clone_versions, clone_map, clone_map_new, taken_sound}
+use Rattle.def_state.proofs.StepMaps.{past_end, put_map, delete_map, clone_versions, clone_map, clone_map_new, drop_versions, drop_map, taken_sound}
 use Rattle.strat_model.specs.Pairs.{Pairs, value_of}
 use Rattle.strat_model.specs.Pairs as pairs
 use Rattle.strat_model.specs.Table.{Row, Table, bare}
@@ -25,20 +26,20 @@ use Rattle.strat_model.specs.declared.replies.Reply.TheVariants as reply
 use Rattle.strat_model.specs.declared.replies.Refusal.TheVariants as why
 use Rattle.strat_model.specs.declared.replies.Refusal.{Refusal}
 use Rattle.strat_model.specs.Answer.{plain, accepts}
-use Rattle.strat_model.specs.Request.{Put, Delete, Clone}
-use Rattle.strat_model.specs.Step.{Outcome, refuses, step, update, clone, has_row, is_frozen, pairs_at, with_pairs}
+use Rattle.strat_model.specs.Request.{Put, Delete, Clone, DropVersion}
+use Rattle.strat_model.specs.Step.{Outcome, refuses, step, update, clone, drop_version, no_row, has_row, is_frozen, pairs_at, with_pairs, with_dropped}
 use Rattle.def_meaning.specs.TableOver.{rows_from}
 use Rattle.def_meaning.specs.StateTable.{table_of, request_for, answer_for}
-use Rattle.def_meaning.proofs.RowLemmas.{rows_many, rows_known, rows_frozen, row_at, rows_same, rows_set, rows_push}
+use Rattle.def_meaning.proofs.RowLemmas.{rows_many, rows_known, rows_frozen, row_at, rows_same, rows_set, rows_drop, rows_push}
 
 module _ (s : State) where
   pub length-rows_from : length (table_of s).rows ≡ length (versions_of s)
   length-rows_from = rows_many (map_at s) (marks_of s) (versions_of s) (table_of s) refl
 
-  known_same : (v : ℕ) → has_row (table_of s) v ≡ is_there (versions_of s) (marks_of s) v
+  pub known_same : (v : ℕ) → has_row (table_of s) v ≡ is_there (versions_of s) (marks_of s) v
   known_same = rows_known (map_at s) (marks_of s) (versions_of s) (table_of s) refl
 
-  frozen_same : (v : ℕ) → is_frozen (table_of s) v ≡ has_living_child (versions_of s) (marks_of s) v
+  pub frozen_same : (v : ℕ) → is_frozen (table_of s) v ≡ has_living_child (versions_of s) (marks_of s) v
   frozen_same = rows_frozen (map_at s) (marks_of s) (versions_of s) (table_of s) refl
 
   pub pairs_same : (v : ℕ) → v < length (versions_of s) → pairs_at (table_of s) v ≡ map_at s v
@@ -64,6 +65,16 @@ module _ (t : Table) (v : ℕ) where
       record { answer = plain (reply.Made (length t.rows)); table = record t { rows = t.rows ++ record { parent = Some v; dropped = false; pairs = pairs_at t v } ∷ []; changes = t.changes + 1 } } in
       λ i. choose (known i) (few i) (some i)
 
+-- a drop that is accepted
+module _ (t : Table) (v : ℕ) where
+  drop_made : has_row t v ≡ true → eqb v 0 ≡ false → is_frozen t v ≡ false → eqb t.changes t.changes_max ≡ false
+      → drop_version t v ≡ record { answer = plain reply.Done; table = record t { rows = with_dropped t.rows v; changes = t.changes + 1 } }
+  drop_made known apart free some =
+      let choose : Bool → Bool → Bool → Bool → Outcome = λ k r f l.
+      if not k then refuses t why.UnknownVersion else if r then refuses t why.Root else if f then refuses t why.Frozen else if l then refuses t why.ChangeLimit else
+      record { answer = plain reply.Done; table = record t { rows = with_dropped t.rows v; changes = t.changes + 1 } } in
+      λ i. choose (known i) (apart i) (free i) (some i)
+
 -- of three tests that refuse in turn, none refuses exactly where all pass
 three_taken : (k f l : Bool) (t : Table) (a b c : Refusal) (made : Outcome) → accepts made.answer.reply ≡ true
     → accepts (if not k then refuses t a else if f then refuses t b else if l then refuses t c else made).answer.reply ≡ ((k && not f) && not l)
@@ -81,6 +92,21 @@ clone_taken : (t : Table) (v : ℕ) → accepts (clone t v).answer.reply ≡ ((h
 clone_taken t v =
     three_taken (has_row t v) (eqb (length t.rows) t.versions_max) (eqb t.changes t.changes_max) t why.UnknownVersion why.VersionLimit why.ChangeLimit
     (record { answer = plain (reply.Made (length t.rows)); table = record t { rows = t.rows ++ record { parent = Some v; dropped = false; pairs = pairs_at t v } ∷ []; changes = t.changes + 1 } }) refl
+
+-- and of four
+four_taken : (k r f l : Bool) (t : Table) (a b c d : Refusal) (made : Outcome) → accepts made.answer.reply ≡ true
+    → accepts (if not k then refuses t a else if r then refuses t b else if f then refuses t c else if l then refuses t d else made).answer.reply ≡ (((k && not f) && not r) && not l)
+four_taken false r f l t a b c d made takes = refl
+four_taken true true true l t a b c d made takes = refl
+four_taken true true false l t a b c d made takes = refl
+four_taken true false true l t a b c d made takes = refl
+four_taken true false false true t a b c d made takes = refl
+four_taken true false false false t a b c d made takes = takes
+
+drop_taken : (t : Table) (v : ℕ) → accepts (drop_version t v).answer.reply ≡ (((has_row t v && not (is_frozen t v)) && not (eqb v 0)) && not (eqb t.changes t.changes_max))
+drop_taken t v =
+    four_taken (has_row t v) (eqb v 0) (is_frozen t v) (eqb t.changes t.changes_max) t why.UnknownVersion why.Root why.Frozen why.ChangeLimit
+    (record { answer = plain reply.Done; table = record t { rows = with_dropped t.rows v; changes = t.changes + 1 } }) refl
 
 module _ (s : State) where
   -- a table with these rows and counts, and else that of a state
@@ -179,6 +205,37 @@ module _ (s : State) where
         clone_made (table_of s) p (known_same s p ∙ clone_parts.0) (ap (λ (n : ℕ). eqb n s.versions_max) (length-rows_from s) ∙ clone_parts.1) clone_parts.2
         ∙ (λ i. record { answer = plain (reply.Made (length-rows_from s i)); table = table_with (clone_now i) (updates i) (sym (counts_push (change.Clone p)) i) })
 
+  module _ (v : ℕ) (takes : Takes s (change.DropVersion v)) where
+    drop_parts : (is_there (versions_of s) (marks_of s) v ≡ true) × (eqb v 0 ≡ false) × (has_living_child (versions_of s) (marks_of s) v ≡ false) × (eqb (changes_of s) s.changes_max ≡ false)
+    drop_parts =
+        let full = and_parts (takes_updates (versions_of s) (marks_of s) v && not (eqb v 0)) (not (eqb (changes_of s) s.changes_max)) takes.accepted in
+        let at = droppable_open s.changes_max s.versions_max (versions_of s) (marks_of s) (changes_of s) v takes.accepted in
+        (open_there (versions_of s) (marks_of s) v at.0, at.1, open_childless (versions_of s) (marks_of s) v at.0, not-true (eqb (changes_of s) s.changes_max) full.1)
+
+    drop_now : with_dropped rows_now v ≡ (table_of (appended s (change.DropVersion v))).rows
+    unfolding drop_parts rows_now
+    drop_now =
+        let new : State = appended s (change.DropVersion v) in
+        let old : Parents = versions_of s in
+        let marks : marks_of new ≡ set (marks_of s) v true = marks-appended s (change.DropVersion v) in
+        let known = there_known old (marks_of s) v drop_parts.0 in
+        let size = (sound_pruned s takes.sound.formed).len in
+        let changed : (u : ℕ) → map_at new u ≡ cond (eqb u v) [] (map_at s u) = drop_map s v (ordered s takes.sound) takes.accepted in
+        rows_drop (map_at s) (map_at new) (marks_of s) (set (marks_of s) v true) 0 v old known
+        (ap (map_at new) (omega arith) ∙ changed v ∙ cond-true (eqb v v) [] (map_at s v) (eq-eqb v v refl))
+        (ap (is_dropped (set (marks_of s) v true)) (omega arith) ∙ get_or-set_same (marks_of s) v true false (omega (arith, known, size)))
+        (λ u apart. changed u ∙ cond-false (eqb u v) [] (map_at s u) (ne_eqb u v (λ e. apart (omega arith))))
+        (λ u apart. get_or-set_other (marks_of s) v u true false (λ e. apart (omega arith)))
+        ∙ sym (λ i. rows_from (map_at new) (marks i) 0 (drop_versions s v i))
+
+    pub drop_steps : step (table_of s) (DropVersion v) ≡ record { answer = plain reply.Done; table = table_of (appended s (change.DropVersion v)) }
+    unfolding drop_parts rows_now table_with
+    drop_steps =
+        let new : State = appended s (change.DropVersion v) in
+        let updates : updates_of s ≡ updates_of new = omega (arith, ap (λ (x : List Entry). length x) (updates-appended s (change.DropVersion v)), length-append (journal_updates s) []) in
+        drop_made (table_of s) v (known_same s v ∙ drop_parts.0) drop_parts.1 (frozen_same s v ∙ drop_parts.2) drop_parts.3
+        ∙ (λ i. record { answer = plain reply.Done; table = table_with (drop_now i) (updates i) (sym (counts_push (change.DropVersion v)) i) })
+
   -- the step takes a change exactly where the state accepts it
   pub accepts_same : (c : Change) → accepts (step (table_of s) (request_for c)).answer.reply ≡ accepts_change s c
   accepts_same (change.Put v key value) =
@@ -187,22 +244,22 @@ module _ (s : State) where
       update_taken (table_of s) v (pairs.unset key (pairs_at (table_of s) v)) ∙ (λ i. (known_same s v i && not (frozen_same s v i)) && not (eqb (changes_of s) s.changes_max))
   accepts_same (change.Clone p) =
       clone_taken (table_of s) p ∙ (λ i. (known_same s p i && not (eqb (length-rows_from s i) s.versions_max)) && not (eqb (changes_of s) s.changes_max))
-  -- no build that takes no drops does so
-  accepts_same (change.DropVersion v) = refl
+  accepts_same (change.DropVersion v) =
+      drop_taken (table_of s) v ∙ (λ i. ((known_same s v i && not (frozen_same s v i)) && not (eqb v 0)) && not (eqb (changes_of s) s.changes_max))
 
 -- every change that a sound state takes is a step of its table
 pub steps_to : (s : State) (c : Change) → Takes s c → (step (table_of s) (request_for c)).table ≡ table_of (appended s c)
 steps_to s (change.Put v key value) takes = ap (λ (o : Outcome). o.table) (put_steps s v key value takes)
 steps_to s (change.Delete v key) takes = ap (λ (o : Outcome). o.table) (delete_steps s v key takes)
 steps_to s (change.Clone p) takes = ap (λ (o : Outcome). o.table) (clone_steps s p takes)
-steps_to s (change.DropVersion v) takes = absurd (true≢false (sym takes.accepted))
+steps_to s (change.DropVersion v) takes = ap (λ (o : Outcome). o.table) (drop_steps s v takes)
 
 -- and is answered so
 pub answers_as : (s : State) (c : Change) → Takes s c → (step (table_of s) (request_for c)).answer ≡ answer_for s c
 answers_as s (change.Put v key value) takes = ap (λ (o : Outcome). o.answer) (put_steps s v key value takes)
 answers_as s (change.Delete v key) takes = ap (λ (o : Outcome). o.answer) (delete_steps s v key takes)
 answers_as s (change.Clone p) takes = ap (λ (o : Outcome). o.answer) (clone_steps s p takes)
-answers_as s (change.DropVersion v) takes = absurd (true≢false (sym takes.accepted))
+answers_as s (change.DropVersion v) takes = ap (λ (o : Outcome). o.answer) (drop_steps s v takes)
 
 -- of three tests that refuse in turn, each leaves the cursors aside
 three_bare : (k f l : Bool) (t : Table) (a b c : Refusal) (made other : Outcome) → bare made.table ≡ other.table → made.answer ≡ other.answer
@@ -229,13 +286,32 @@ clone_bare t v =
     (record { answer = plain (reply.Made (length t.rows)); table = record (bare t) { rows = t.rows ++ record { parent = Some v; dropped = false; pairs = pairs_at t v } ∷ []; changes = t.changes + 1 } })
     refl refl
 
+-- of four tests that refuse in turn, each leaves the cursors aside
+four_bare : (k r f l : Bool) (t : Table) (a b c d : Refusal) (made other : Outcome) → bare made.table ≡ other.table → made.answer ≡ other.answer
+    → (bare (if not k then refuses t a else if r then refuses t b else if f then refuses t c else if l then refuses t d else made).table
+    ≡ (if not k then refuses (bare t) a else if r then refuses (bare t) b else if f then refuses (bare t) c else if l then refuses (bare t) d else other).table)
+    × ((if not k then refuses t a else if r then refuses t b else if f then refuses t c else if l then refuses t d else made).answer
+    ≡ (if not k then refuses (bare t) a else if r then refuses (bare t) b else if f then refuses (bare t) c else if l then refuses (bare t) d else other).answer)
+four_bare false r f l t a b c d made other table answer = (refl, refl)
+four_bare true true f l t a b c d made other table answer = (refl, refl)
+four_bare true false true l t a b c d made other table answer = (refl, refl)
+four_bare true false false true t a b c d made other table answer = (refl, refl)
+four_bare true false false false t a b c d made other table answer = (table, answer)
+
+drop_bare : (t : Table) (v : ℕ) → (bare (drop_version t v).table ≡ (drop_version (bare t) v).table) × ((drop_version t v).answer ≡ (drop_version (bare t) v).answer)
+drop_bare t v =
+    four_bare (has_row t v) (eqb v 0) (is_frozen t v) (eqb t.changes t.changes_max) t why.UnknownVersion why.Root why.Frozen why.ChangeLimit
+    (record { answer = plain reply.Done; table = record t { rows = with_dropped t.rows v; changes = t.changes + 1 } })
+    (record { answer = plain reply.Done; table = record (bare t) { rows = with_dropped t.rows v; changes = t.changes + 1 } })
+    refl refl
+
 -- a change leaves the cursors aside, and they it
 pub change_bare : (t : Table) (c : Change)
     → (bare (step t (request_for c)).table ≡ (step (bare t) (request_for c)).table) × ((step t (request_for c)).answer ≡ (step (bare t) (request_for c)).answer)
 change_bare t (change.Put v key value) = update_bare t v (pairs.set key value (pairs_at t v))
 change_bare t (change.Delete v key) = update_bare t v (pairs.unset key (pairs_at t v))
 change_bare t (change.Clone p) = clone_bare t p
-change_bare t (change.DropVersion v) = (refl, refl)
+change_bare t (change.DropVersion v) = drop_bare t v
 
 pub steps_bare : (t : Table) (s : State) (c : Change) → Takes s c → bare t ≡ table_of s → bare (step t (request_for c)).table ≡ table_of (appended s c)
 steps_bare t s c takes means = (change_bare t c).0 ∙ ap (λ (x : Table). (step x (request_for c)).table) means ∙ steps_to s c takes
@@ -252,3 +328,11 @@ read_same s v key sound known living =
     ap (λ (m : Pairs). value_of m key) (pairs_same s v known ∙ ap (λ (b : Bool). if b then map_over (versions_of s) (sources s) v else []) living)
     ∙ value_in-lookup key (map_over (versions_of s) (sources s) v) ∙ map_value (versions_of s) (sources s) v (sound_tree s sound.formed) key
     ∙ sym (ap (λ (o : Option Entry). option_and_then (λ e. e.value) o) (read_decides s sound key v known (not-true (is_dropped (marks_of s) v) living)))
+
+-- a version that was dropped has no pairs
+pub pairs_dropped : (s : State) (v : ℕ) → is_dropped (marks_of s) v ≡ true → pairs_at (table_of s) v ≡ []
+pairs_dropped s v dropped =
+    elim (cases_lt v (length (versions_of s))) [
+      | inl lt ↦ pairs_same s v lt ∙ ap (λ (b : Bool). if not b then map_over (versions_of s) (sources s) v else []) dropped
+      | inr past ↦ ap (λ (row : Row). row.pairs) (get_or_past (table_of s).rows v no_row (let many = length-rows_from s in omega (arith, many, past)))
+    ]

@@ -1,6 +1,7 @@
 -- Disks written out, for a journal of four changes, 100 changes and 10 versions in all.
-use Rattle.std.specs.Prelude.{ℕ, false, List, [], ◌∷◌, ◌++◌, replicate}
+use Rattle.std.specs.Prelude.{ℕ, true, false, List, [], ◌∷◌, ◌++◌, replicate}
 use Rattle.def_crash.specs.Image.{Image, patch}
+use Rattle.strat_base.specs.Marks.{Marks}
 use Rattle.strat_base.specs.EntryBytes.{entry_bytes}
 use Rattle.strat_base.specs.Numbers.{be}
 use Rattle.strat_base.specs.Change.{Put, change_bytes}
@@ -121,6 +122,10 @@ published_by sb m = published_over formatted sb m
 -- the disk after that publication
 abbrev pub published : Image
 published = published_by chain_super chain_manifest
+
+-- the marks of four versions, of which the last was dropped
+abbrev pub last_dropped : Marks
+last_dropped = false ∷ false ∷ false ∷ true ∷ []
 
 -- the chain's level with another horizon
 abbrev pub with_horizon : ℕ → LevelDesc → LevelDesc

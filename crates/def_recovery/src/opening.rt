@@ -1,7 +1,7 @@
 //! Laws of what recovery finds in bytes. Each is the contract of a function that does nothing.
 
-ghost use Rattle.std.specs.Prelude.{◌≡◌, ℕ, [], ◌∷◌, ◌++◌, length, map, take, Some, None, Ok, Err};
-ghost use Rattle.strat_base.specs.Change.{Put};
+ghost use Rattle.std.specs.Prelude.{◌≡◌, ℕ, true, false, [], ◌∷◌, ◌++◌, length, map, take, Some, None, Ok, Err};
+ghost use Rattle.strat_base.specs.Change.{Put, Clone, DropVersion, change_bytes};
 ghost use Rattle.def_crash.specs.Image.{Image, patch};
 ghost use Rattle.def_bytes.specs.Manifest.{manifest_bytes, new_manifest};
 ghost use Rattle.strat_base.specs.Numbers.{be};
@@ -10,7 +10,7 @@ ghost use Rattle.def_state.specs.State.{State, fresh_state, versions_of, updates
 ghost use Rattle.def_bytes.specs.SuperBlock.{body};
 ghost use Rattle.def_state.specs.Worked.{chain};
 ghost use Rattle.def_recovery.specs.Bad.{IsBad};
-ghost use Rattle.def_recovery.specs.Disks.{formatted, old_formatted, first_block, old_first_block, manifest_block, old_manifest_block, new_super, old_super, new_head, chain_super, chain_manifest, with_horizon, published_over, published_by, published, doubly_open};
+ghost use Rattle.def_recovery.specs.Disks.{formatted, old_formatted, first_block, old_first_block, manifest_block, old_manifest_block, new_super, old_super, new_head, chain_super, chain_manifest, with_horizon, published_over, published_by, published, last_dropped, doubly_open};
 ghost use Rattle.def_recovery.specs.Head.{Head, head_of, head_versions, head_updates, head_changes, descriptors};
 ghost use Rattle.def_recovery.specs.Opening.{recover, reads_as, state_of};
 ghost use Rattle.def_recovery.specs.Passed.{PassesOpening};
@@ -31,19 +31,34 @@ pub fn old_disks_open()
     ensures manifest { old_manifest_block ≡ be 4 0 ++ manifest_bytes 1 new_manifest }
 {}
 
-/// A record in the journal's active region is read: a put of `a` with the value `1` at version 0.
+/// A record in the journal's active region is read: a put of `a` with the value `1` at version 0; and a
+/// clone of version 0, a drop of that clone, and then a put at version 0 again.
 pub fn records_are_found()
-    ensures { reads_as (patch formatted 8192
+    ensures ok { reads_as (patch formatted 8192
         (0xa7 ∷ 1 ∷ 0 ∷ 0 ∷ 0 ∷ 0 ∷ 1 ∷ 0x61 ∷ 0 ∷ 1 ∷ 0x31 ∷ 0 ∷ []))
         ≡ Some (record (fresh_state 4 100 10) { journal = Put 0 (0x61 ∷ []) (0x31 ∷ []) ∷ [] }) }
+    ensures drop { reads_as (patch formatted 8192
+        (0xa7 ∷ 3 ∷ 0 ∷ 0 ∷ 0 ∷ 0 ∷ 0xa7 ∷ 4 ∷ 0 ∷ 0 ∷ 0 ∷ 1
+        ∷ 0xa7 ∷ 1 ∷ 0 ∷ 0 ∷ 0 ∷ 0 ∷ 1 ∷ 0x61 ∷ 0 ∷ 1 ∷ 0x31 ∷ 0 ∷ []))
+        ≡ Some (record (fresh_state 4 100 10) {
+          journal = Clone 0 ∷ DropVersion 1 ∷ Put 0 (0x61 ∷ []) (0x31 ∷ []) ∷ [];
+        }) }
 {}
 
 /// After a checkpoint the newer superblock leads to the array, and the journal goes on in the
 /// region that it made active: the state is that of a chain of clones. Where that region has room, what
-/// stands in the other one is not looked at.
+/// stands in the other one is not looked at. A manifest may say that the last of the chain was dropped, and
+/// then its parent takes an update.
 pub fn published_disks_open()
     ensures ok { reads_as published ≡ Some chain }
     ensures other { reads_as (patch published 8192 (0xa7 ∷ [])) ≡ Some chain }
+    ensures dropped { reads_as (patch
+        (published_by chain_super (record chain_manifest { marks = last_dropped })) 16384
+        (0xa7 ∷ change_bytes (Put 2 (98 ∷ []) (49 ∷ []))))
+        ≡ Some (record chain {
+          marks = last_dropped;
+          journal = Put 2 (98 ∷ []) (49 ∷ []) ∷ [];
+        }) }
 {}
 
 /// A store of format 1 reads as the same state after a checkpoint in either format.
@@ -56,8 +71,9 @@ pub fn old_disks_move_on()
 
 /// What recovery refuses: a superblock out of its ranges, a chain that goes on after its last
 /// block or back to its first, bytes after the manifest that are no zeros, an open gate with no change
-/// after it, a change that the table refuses, a drop of a version, and an open gate in the other region where the active one is
-/// full. A disk of zeros is no store.
+/// after it, a change that the table refuses, and an open gate in the other region where the active one is
+/// full. A disk of zeros is no store. The table refuses a put at a version that was not made, or was
+/// dropped, and a drop of version 0, of a version with a living child, and of one that was dropped.
 pub fn damage_is_named()
     ensures none { recover (λ i. 0) ≡ Ok None }
     ensures region { recover (patch formatted 27 (2 ∷ [])) ≡ Err 0 }
@@ -67,14 +83,24 @@ pub fn damage_is_named()
     ensures gate { recover (patch formatted 8192 (0xa7 ∷ [])) ≡ Err 2 }
     ensures refused { recover (patch formatted 8192
         (0xa7 ∷ 1 ∷ 0 ∷ 0 ∷ 0 ∷ 5 ∷ 1 ∷ 0x61 ∷ 0 ∷ 1 ∷ 0x31 ∷ 0 ∷ [])) ≡ Err 2 }
-    ensures drop { recover (patch formatted 8192
-        (0xa7 ∷ 3 ∷ 0 ∷ 0 ∷ 0 ∷ 0 ∷ 0xa7 ∷ 4 ∷ 0 ∷ 0 ∷ 0 ∷ 1 ∷ 0 ∷ [])) ≡ Err 2 }
+    ensures dropped { recover (patch formatted 8192
+        (0xa7 ∷ 3 ∷ 0 ∷ 0 ∷ 0 ∷ 0 ∷ 0xa7 ∷ 4 ∷ 0 ∷ 0 ∷ 0 ∷ 1
+        ∷ 0xa7 ∷ 1 ∷ 0 ∷ 0 ∷ 0 ∷ 1 ∷ 1 ∷ 0x61 ∷ 0 ∷ 1 ∷ 0x31 ∷ 0 ∷ [])) ≡ Err 2 }
+    ensures root { recover (patch formatted 8192 (0xa7 ∷ 4 ∷ 0 ∷ 0 ∷ 0 ∷ 0 ∷ 0 ∷ [])) ≡ Err 2 }
+    ensures frozen { recover (patch formatted 8192
+        (0xa7 ∷ 3 ∷ 0 ∷ 0 ∷ 0 ∷ 0 ∷ 0xa7 ∷ 3 ∷ 0 ∷ 0 ∷ 0 ∷ 1
+        ∷ 0xa7 ∷ 4 ∷ 0 ∷ 0 ∷ 0 ∷ 1 ∷ 0 ∷ [])) ≡ Err 2 }
+    ensures twice { recover (patch formatted 8192
+        (0xa7 ∷ 3 ∷ 0 ∷ 0 ∷ 0 ∷ 0 ∷ 0xa7 ∷ 4 ∷ 0 ∷ 0 ∷ 0 ∷ 1
+        ∷ 0xa7 ∷ 4 ∷ 0 ∷ 0 ∷ 0 ∷ 1 ∷ 0 ∷ [])) ≡ Err 2 }
+    ensures marked { recover (published_by
+        chain_super (record chain_manifest { marks = last_dropped })) ≡ Err 4 }
     ensures full { recover doubly_open ≡ Err 4 }
 {}
 
 /// A manifest that no store with its superblock has is blamed on its first block: one with a version that
 /// is not below the horizon, with more versions than the store takes, with more leads than updates, with
-/// fewer changes than checkpoints.
+/// fewer changes than checkpoints, with a living version below a dropped one.
 pub fn strange_manifests_are_refused()
     ensures horizon { recover (published_by chain_super
         (record chain_manifest { levels = map (with_horizon 3) chain_manifest.levels })) ≡ Err 8 }
@@ -84,6 +110,8 @@ pub fn strange_manifests_are_refused()
         chain_super (record chain_manifest { updates = 0 })) ≡ Err 8 }
     ensures generation { recover (published_by
         (record chain_super { generation = 6 }) chain_manifest) ≡ Err 8 }
+    ensures marks { recover (published_by chain_super
+        (record chain_manifest { marks = false ∷ false ∷ true ∷ false ∷ [] })) ≡ Err 8 }
 {}
 
 /// What the bytes of a disk read as is a well formed state.

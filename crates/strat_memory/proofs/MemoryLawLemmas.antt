@@ -37,7 +37,7 @@ use Rattle.def_state.specs.Sound.{is_there, is_accepted, accepts_change, journal
 use Rattle.def_state.specs.State.{State, versions_of, journal_updates, updates_of, changes_of, tree_after, update_of, marks_of, marks_after, map_at, is_living}
 use Rattle.def_state.proofs.SoundLemmas.{sound_tree}
 use Rattle.def_state.proofs.UpdateLemmas.{all_lives}
-use Rattle.strat_memory.specs.Memory.{Memory, SealedLevel, refusal_of_update, refusal_of_clone, refusal_of_drop, refusal_of_change, with_update, memory_after, HasRoomFor, reply_to, info_told, stat_told, fresh_memory, head_full, lists_in_memory, oldest_changes, oldest_entries, oldest_marks, oldest_parents, oldest_updates, oldest_versions, sealed_entries, sealed_off, unsealed, table_with, CountsSealed, IsMemoryOf}
+use Rattle.strat_memory.specs.Memory.{Memory, SealedLevel, refusal_of_update, refusal_of_clone, refusal_of_drop, refusal_of_change, with_update, memory_after, HasRoomFor, reply_to, info_told, stat_told, fresh_memory, head_full, lists_in_memory, oldest_changes, oldest_entries, oldest_marks, oldest_parents, oldest_updates, oldest_versions, sealed_entries, sealed_off, unsealed, table_with, CountsSealed, IsMemoryOf, has_version}
 use Rattle.def_promote.proofs.PaidLemmas.{updates_few}
 use Rattle.strat_memory.proofs.MemoryLemmas.{left_few}
 use Rattle.strat_memory.proofs.ThreeTests.{three_none, three_pass, three_refuse, four_pass, four_refuse}
@@ -63,13 +63,13 @@ four_pass_all true false false false a b c d = refl
 
 pub accepted_same : (m : Memory) (c : Change) → is_accepted m.changes_max m.versions_max m.parents m.marks m.changes c ≡ not (is_some (refusal_of_change m c))
 accepted_same m (change.Put v key value) =
-    three_pass_all (is_there m.parents m.marks v) (has_living_child m.parents m.marks v) (eqb m.changes m.changes_max) why.UnknownVersion why.Frozen why.ChangeLimit
+    three_pass_all (has_version m v) (has_living_child m.parents m.marks v) (eqb m.changes m.changes_max) why.UnknownVersion why.Frozen why.ChangeLimit
 accepted_same m (change.Delete v key) =
-    three_pass_all (is_there m.parents m.marks v) (has_living_child m.parents m.marks v) (eqb m.changes m.changes_max) why.UnknownVersion why.Frozen why.ChangeLimit
+    three_pass_all (has_version m v) (has_living_child m.parents m.marks v) (eqb m.changes m.changes_max) why.UnknownVersion why.Frozen why.ChangeLimit
 accepted_same m (change.Clone v) =
-    three_pass_all (is_there m.parents m.marks v) (eqb (length m.parents) m.versions_max) (eqb m.changes m.changes_max) why.UnknownVersion why.VersionLimit why.ChangeLimit
+    three_pass_all (has_version m v) (eqb (length m.parents) m.versions_max) (eqb m.changes m.changes_max) why.UnknownVersion why.VersionLimit why.ChangeLimit
 accepted_same m (change.DropVersion v) =
-    four_pass_all (is_there m.parents m.marks v) (eqb v 0) (has_living_child m.parents m.marks v) (eqb m.changes m.changes_max) why.UnknownVersion why.Root why.Frozen why.ChangeLimit
+    four_pass_all (has_version m v) (eqb v 0) (has_living_child m.parents m.marks v) (eqb m.changes m.changes_max) why.UnknownVersion why.Root why.Frozen why.ChangeLimit
 
 -- memory is that of a state
 record Mirrors (s : State) (m : Memory) : Type 0 where
@@ -165,7 +165,7 @@ module _ (s : State) (m : Memory) (of : Mirrors s m) (cursors : List Cursor) (n 
   tree : m.parents ≡ parents_of (table_with s cursors n)
   tree = of.parents ∙ sym (parents_are (map_at s) (marks_of s) (versions_of s) (table_with s cursors n) refl)
 
-  known : (v : ℕ) → is_there m.parents m.marks v ≡ has_row (table_with s cursors n) v
+  known : (v : ℕ) → has_version m v ≡ has_row (table_with s cursors n) v
   known v = (λ i. is_there (of.parents i) (of.marks i) v) ∙ sym (rows_known (map_at s) (marks_of s) (versions_of s) (table_with s cursors n) refl v)
 
   frozen : (v : ℕ) → has_living_child m.parents m.marks v ≡ is_frozen (table_with s cursors n) v
@@ -216,7 +216,7 @@ module _ (s : State) (m : Memory) (of : Mirrors s m) (cursors : List Cursor) (n 
       let t : Table = table_with s cursors n in
       ap (λ (o : Outcome). o.answer) (four_pass (has_row t v) (eqb v 0) (is_frozen t v) (eqb t.changes t.changes_max) t why.UnknownVersion why.Root why.Frozen why.ChangeLimit _ (sym (drops_refused v) ∙ e))
 
-  informed : (v : ℕ) → is_there m.parents m.marks v ≡ true → (step (table_with s cursors n) (Info v)).answer ≡ plain (info_told m v)
+  informed : (v : ℕ) → has_version m v ≡ true → (step (table_with s cursors n) (Info v)).answer ≡ plain (info_told m v)
   informed v here =
       let t : Table = table_with s cursors n in
       ap (λ (b : Bool). (if b then replies_with t (plain (reply.Info (parent_of (parents_of t) v) (depth (parents_of t) v) (is_frozen t v))) else refuses t why.UnknownVersion).answer) (sym (known v) ∙ here)
@@ -225,12 +225,12 @@ module _ (s : State) (m : Memory) (of : Mirrors s m) (cursors : List Cursor) (n 
   counted : length cursors ≡ length m.cursors.opened → (step (table_with s cursors n) Stat).answer ≡ plain (stat_told m)
   counted same = λ i. plain (reply.Stat (sym many i) (sym of.updates i) (sym of.changes i) (same i))
 
-  uninformed : (v : ℕ) → is_there m.parents m.marks v ≡ false → step (table_with s cursors n) (Info v) ≡ refuses (table_with s cursors n) why.UnknownVersion
+  uninformed : (v : ℕ) → has_version m v ≡ false → step (table_with s cursors n) (Info v) ≡ refuses (table_with s cursors n) why.UnknownVersion
   uninformed v off =
       let t : Table = table_with s cursors n in
       ap (λ (b : Bool). if b then replies_with t (plain (reply.Info (parent_of (parents_of t) v) (depth (parents_of t) v) (is_frozen t v))) else refuses t why.UnknownVersion) (sym (known v) ∙ off)
 
-  unfound : (v : ℕ) (key : List ℕ) → is_there m.parents m.marks v ≡ false → step (table_with s cursors n) (Get v key) ≡ refuses (table_with s cursors n) why.UnknownVersion
+  unfound : (v : ℕ) (key : List ℕ) → has_version m v ≡ false → step (table_with s cursors n) (Get v key) ≡ refuses (table_with s cursors n) why.UnknownVersion
   unfound v key off =
       let t : Table = table_with s cursors n in
       ap (λ (b : Bool). if b then replies_with t (found key (value_of (pairs_at t v) key)) else refuses t why.UnknownVersion) (sym (known v) ∙ off)
@@ -256,10 +256,10 @@ module _ (f : Image) (h : Head) (s : State) (m : Memory) (read : state_of f h �
   the : Mirrors s m
   the = mirrors f h s m read of
 
-  pub living_of : (v : ℕ) → is_there m.parents m.marks v ≡ true → is_living s v ≡ true
+  pub living_of : (v : ℕ) → has_version m v ≡ true → is_living s v ≡ true
   living_of v here = not_from_false (is_dropped (marks_of s) v) (ap (λ (ms : Marks). is_dropped ms v) (sym the.marks) ∙ there_living m.parents m.marks v here)
 
-  pub known_of : (v : ℕ) → is_there m.parents m.marks v ≡ has_row (table_of s) v
+  pub known_of : (v : ℕ) → has_version m v ≡ has_row (table_of s) v
   known_of = known s m the [] 1
 
   pub frozen_of : (v : ℕ) → has_living_child m.parents m.marks v ≡ is_frozen (table_of s) v
@@ -272,16 +272,16 @@ module _ (f : Image) (h : Head) (s : State) (m : Memory) (read : state_of f h �
     pub change_answered_with : (c : Change) → refusal_of_change m c ≡ None → (step (table_with s rows n) (request_for c)).answer ≡ plain (reply_to m c)
     change_answered_with = answered s m the rows n
 
-    pub version_told_with : (v : ℕ) → is_there m.parents m.marks v ≡ true → (step (table_with s rows n) (Info v)).answer ≡ plain (info_told m v)
+    pub version_told_with : (v : ℕ) → has_version m v ≡ true → (step (table_with s rows n) (Info v)).answer ≡ plain (info_told m v)
     version_told_with = informed s m the rows n
 
     pub store_told_with : length rows ≡ length m.cursors.opened → (step (table_with s rows n) Stat).answer ≡ plain (stat_told m)
     store_told_with = counted s m the rows n
 
-    pub version_unknown_with : (v : ℕ) → is_there m.parents m.marks v ≡ false → step (table_with s rows n) (Info v) ≡ refuses (table_with s rows n) why.UnknownVersion
+    pub version_unknown_with : (v : ℕ) → has_version m v ≡ false → step (table_with s rows n) (Info v) ≡ refuses (table_with s rows n) why.UnknownVersion
     version_unknown_with = uninformed s m the rows n
 
-    pub key_unknown_with : (v : ℕ) (key : List ℕ) → is_there m.parents m.marks v ≡ false → step (table_with s rows n) (Get v key) ≡ refuses (table_with s rows n) why.UnknownVersion
+    pub key_unknown_with : (v : ℕ) (key : List ℕ) → has_version m v ≡ false → step (table_with s rows n) (Get v key) ≡ refuses (table_with s rows n) why.UnknownVersion
     key_unknown_with = unfound s m the rows n
 
   pub change_refused : (c : Change) (r : Refusal) → refusal_of_change m c ≡ Some r → step (table_of s) (request_for c) ≡ refuses (table_of s) r
@@ -293,20 +293,20 @@ module _ (f : Image) (h : Head) (s : State) (m : Memory) (read : state_of f h �
   pub change_taken : (c : Change) → refusal_of_change m c ≡ None → accepts_change s c ≡ true
   change_taken = taken s m the
 
-  pub version_told : (v : ℕ) → is_there m.parents m.marks v ≡ true → (step (table_of s) (Info v)).answer ≡ plain (info_told m v)
+  pub version_told : (v : ℕ) → has_version m v ≡ true → (step (table_of s) (Info v)).answer ≡ plain (info_told m v)
   version_told = informed s m the [] 1
 
-  pub version_unknown : (v : ℕ) → is_there m.parents m.marks v ≡ false → step (table_of s) (Info v) ≡ refuses (table_of s) why.UnknownVersion
+  pub version_unknown : (v : ℕ) → has_version m v ≡ false → step (table_of s) (Info v) ≡ refuses (table_of s) why.UnknownVersion
   version_unknown = uninformed s m the [] 1
 
-  pub key_unknown : (v : ℕ) (key : List ℕ) → is_there m.parents m.marks v ≡ false → step (table_of s) (Get v key) ≡ refuses (table_of s) why.UnknownVersion
+  pub key_unknown : (v : ℕ) (key : List ℕ) → has_version m v ≡ false → step (table_of s) (Get v key) ≡ refuses (table_of s) why.UnknownVersion
   key_unknown = unfound s m the [] 1
 
   pub key_found : IsSound s → m.sealed ≡ None → (v : ℕ) (key : List ℕ) → live_of m.parents m.entries v key ≡ live_of m.parents (level_zero s) v key
   key_found = lives_same s m the
 
   -- level 0, what is sealed and the levels are asked as the table is
-  pub key_asked : IsSound s → (v : ℕ) (key : List ℕ) → is_there m.parents m.marks v ≡ true → asked f m.parents (lists_in_memory m) h.manifest.levels v key ≡ value_of (pairs_at (table_of s) v) key
+  pub key_asked : IsSound s → (v : ℕ) (key : List ℕ) → has_version m v ≡ true → asked f m.parents (lists_in_memory m) h.manifest.levels v key ≡ value_of (pairs_at (table_of s) v) key
   key_asked sound v key here =
       let lt : v < length (versions_of s) = subst (λ (ps : Parents). v < length ps) the.parents (there_known m.parents m.marks v here) in
       ap (λ (ps : Parents). asked f ps (lists_in_memory m) h.manifest.levels v key) the.parents

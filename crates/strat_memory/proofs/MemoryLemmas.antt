@@ -27,10 +27,9 @@ use Rattle.def_state.specs.Reading.{live_of}
 use Rattle.def_state.specs.Setting.{set_entry, set_all}
 use Rattle.def_state.proofs.SettingLemmas.{set_among}
 use Rattle.strat_model.specs.declared.replies.Refusal.TheVariants as why
-use Rattle.strat_memory.specs.Memory.{Memory, refusal_of_update, refusal_of_clone, refusal_of_drop}
+use Rattle.strat_memory.specs.Memory.{Memory, refusal_of_update, refusal_of_clone, refusal_of_drop, has_version}
 use Rattle.strat_memory.proofs.ThreeTests.{three_none, four_none}
 use Rattle.strat_base.specs.Marks.{has_living_child}
-use Rattle.def_state.specs.Sound.{is_there}
 
 -- a parent is older than its version
 pub older_at : (v i d : ℕ) (ps : List ℕ) → are_older v ps ≡ true → i < length ps → get_or ps i d < v + i
@@ -59,18 +58,18 @@ pub known_same : (parents : Parents) (old new : List Entry) → new ≡ old → 
 known_same parents old new same known = ap (are_known parents) same ∙ known
 
 -- what an update and a clone that are not refused find
-pub update_taken : (m : Memory) (v : ℕ) → refusal_of_update m v ≡ None → (is_there m.parents m.marks v ≡ true) × (has_living_child m.parents m.marks v ≡ false) × (eqb m.changes m.changes_max ≡ false)
-update_taken m v none = three_none (is_there m.parents m.marks v) (has_living_child m.parents m.marks v) (eqb m.changes m.changes_max) why.UnknownVersion why.Frozen why.ChangeLimit none
+pub update_taken : (m : Memory) (v : ℕ) → refusal_of_update m v ≡ None → (has_version m v ≡ true) × (has_living_child m.parents m.marks v ≡ false) × (eqb m.changes m.changes_max ≡ false)
+update_taken m v none = three_none (has_version m v) (has_living_child m.parents m.marks v) (eqb m.changes m.changes_max) why.UnknownVersion why.Frozen why.ChangeLimit none
 
 pub clone_taken : (m : Memory) (v : ℕ) → refusal_of_clone m v ≡ None
-    → (is_there m.parents m.marks v ≡ true) × (eqb (length m.parents) m.versions_max ≡ false) × (eqb m.changes m.changes_max ≡ false)
-clone_taken m v none = three_none (is_there m.parents m.marks v) (eqb (length m.parents) m.versions_max) (eqb m.changes m.changes_max) why.UnknownVersion why.VersionLimit why.ChangeLimit none
+    → (has_version m v ≡ true) × (eqb (length m.parents) m.versions_max ≡ false) × (eqb m.changes m.changes_max ≡ false)
+clone_taken m v none = three_none (has_version m v) (eqb (length m.parents) m.versions_max) (eqb m.changes m.changes_max) why.UnknownVersion why.VersionLimit why.ChangeLimit none
 
 -- and a drop
 pub drop_taken : (m : Memory) (v : ℕ) → refusal_of_drop m v ≡ None
-    → (is_there m.parents m.marks v ≡ true) × (eqb v 0 ≡ false) × (has_living_child m.parents m.marks v ≡ false) × (eqb m.changes m.changes_max ≡ false)
+    → (has_version m v ≡ true) × (eqb v 0 ≡ false) × (has_living_child m.parents m.marks v ≡ false) × (eqb m.changes m.changes_max ≡ false)
 drop_taken m v none =
-    four_none (is_there m.parents m.marks v) (eqb v 0) (has_living_child m.parents m.marks v) (eqb m.changes m.changes_max) why.UnknownVersion why.Root why.Frozen why.ChangeLimit none
+    four_none (has_version m v) (eqb v 0) (has_living_child m.parents m.marks v) (eqb m.changes m.changes_max) why.UnknownVersion why.Root why.Frozen why.ChangeLimit none
 
 -- after an update at a version that is there
 pub known_set : (parents : Parents) (e : Entry) (old new : List Entry) → new ≡ set_entry e old → is_known parents e.version ≡ true → are_known parents old ≡ true → are_known parents new ≡ true

@@ -79,24 +79,28 @@ oldest_updates m = option_map_or (λ z. z.updates) m.sealed m.updates
 abbrev pub oldest_changes : Memory → ℕ
 oldest_changes m = option_map_or (λ z. z.changes) m.sealed m.changes
 
+-- memory has a version: it was made, and it was not dropped
+abbrev pub has_version : Memory → ℕ → Bool
+has_version m v = is_there m.parents m.marks v
+
 -- why an update at a version is refused, if it is
 abbrev pub refusal_of_update : Memory → ℕ → Option Refusal
 refusal_of_update m v =
-    if not (is_there m.parents m.marks v) then Some why.UnknownVersion else
+    if not (has_version m v) then Some why.UnknownVersion else
     if has_living_child m.parents m.marks v then Some why.Frozen else
     if m.changes == m.changes_max then Some why.ChangeLimit else None
 
 -- why a clone of a version is refused, if it is
 abbrev pub refusal_of_clone : Memory → ℕ → Option Refusal
 refusal_of_clone m v =
-    if not (is_there m.parents m.marks v) then Some why.UnknownVersion else
+    if not (has_version m v) then Some why.UnknownVersion else
     if length m.parents == m.versions_max then Some why.VersionLimit else
     if m.changes == m.changes_max then Some why.ChangeLimit else None
 
 -- why a drop of a version is refused, if it is
 abbrev pub refusal_of_drop : Memory → ℕ → Option Refusal
 refusal_of_drop m v =
-    if not (is_there m.parents m.marks v) then Some why.UnknownVersion else
+    if not (has_version m v) then Some why.UnknownVersion else
     if v == 0 then Some why.Root else
     if has_living_child m.parents m.marks v then Some why.Frozen else
     if m.changes == m.changes_max then Some why.ChangeLimit else None

@@ -27,9 +27,8 @@ ghost use Rattle.strat_model.specs.Pairs.{Pairs};
 ghost use Rattle.def_meaning.specs.TableOver.{are_known};
 ghost use Rattle.def_state.specs.LookUp.{first_live};
 ghost use Rattle.def_state.specs.Reading.{live_of};
-ghost use Rattle.strat_memory.specs.Memory.{SealedLevel, refusal_of_update, refusal_of_clone, refusal_of_drop, refusal_of_change, with_update, memory_after, HasRoomFor, reply_to, info_told, stat_told, fresh_memory, KeepsRows, cursor_from, with_cursor, lists_in_memory, oldest_changes, oldest_entries, oldest_marks, oldest_updates, oldest_versions, sealed_entries, sealed_off, unsealed};
+ghost use Rattle.strat_memory.specs.Memory.{SealedLevel, refusal_of_update, refusal_of_clone, refusal_of_drop, refusal_of_change, with_update, memory_after, HasRoomFor, reply_to, info_told, stat_told, fresh_memory, KeepsRows, cursor_from, with_cursor, lists_in_memory, oldest_changes, oldest_entries, oldest_marks, oldest_updates, oldest_versions, sealed_entries, sealed_off, unsealed, has_version};
 ghost use Rattle.strat_base.specs.Marks.{is_dropped, are_pruned};
-ghost use Rattle.def_state.specs.Sound.{is_there};
 ghost use Rattle.strat_manifest.specs.ManifestView.{marks_listed};
 
 use std::alloc::Global;
@@ -226,8 +225,8 @@ impl Memory {
             × IsTrue (are_pruned (None ∷ map (λ p. Some p) parents.now) (marks_listed marks.now)) }
         requires room { 1 + length parents.now ≤ self.old.versions_max }
         requires none { (self.old.parents ≡ None ∷ []) × (self.old.entries ≡ [])
-            × (self.old.sealed ≡ None) × (self.old.cursors.opened ≡ []) }
-        requires living { self.old.marks ≡ false ∷ [] }
+            × (self.old.sealed ≡ None) × (self.old.cursors.opened ≡ [])
+            × (self.old.marks ≡ false ∷ []) }
         requires kept { (updates ≤ changes) × (changes ≤ self.old.changes_max) }
         ensures ok { self.new ≡ record self.old {
           parents = None ∷ map (λ p. Some p) parents.now;
@@ -244,7 +243,8 @@ impl Memory {
 
     /// Whether there is such a version, which was not dropped. O(1).
     pub fn has(&self, version: Version) -> bool
-        ensures ok { result ≡ is_there self.now.parents self.now.marks version }
+        ensures ok { result ≡ has_version self.now version }
+        ensures found { result ≡ true → version < length self.now.parents }
     {
         version < self.tree.count() && !self.tree.is_dead(version)
     }
@@ -391,7 +391,7 @@ impl Memory {
 
     /// What is told of a version that is there. O(1).
     pub fn info(&self, version: Version) -> Reply
-        requires found { IsTrue (is_there self.now.parents self.now.marks version) }
+        requires found { IsTrue (has_version self.now version) }
         ensures ok { result ≡ info_told self.now version }
     {
         Reply::Info {
@@ -443,6 +443,7 @@ impl Memory {
             × IsTrue (are_known self.now.parents (entries_held result.2.now z))) }
         ensures fits { IsTrue (are_known self.now.parents self.now.entries) }
         ensures found { (result.3.now.parents ≡ self.now.parents) × IsTree result.3.now.parents }
+        ensures same { result.3.now.marks ≡ self.now.marks }
     {
         // For the proof: the parents are a tree.
         let _ = self.tree.count();
@@ -462,6 +463,7 @@ impl Memory {
         ensures len { length result.0.now.list.items ≡ length self.now.entries }
         ensures fits { IsTrue (are_known self.now.parents self.now.entries) }
         ensures found { (result.2.now.parents ≡ self.now.parents) × IsTree result.2.now.parents }
+        ensures same { result.2.now.marks ≡ self.now.marks }
     {
         // For the proof: the parents are a tree.
         let _ = self.tree.count();

@@ -19,9 +19,9 @@ ghost use Rattle.def_meaning.specs.StateTable.{table_of, request_for};
 ghost use Rattle.def_slice.specs.Lists.{entries_left};
 ghost use Rattle.def_state.specs.Reading.{live_of, level_zero};
 ghost use Rattle.def_state.specs.Setting.{set_all};
-ghost use Rattle.def_state.specs.Sound.{is_there, is_accepted, accepts_change, journal_max, IsSound};
+ghost use Rattle.def_state.specs.Sound.{is_accepted, accepts_change, journal_max, IsSound};
 ghost use Rattle.def_state.specs.State.{State, update_of};
-ghost use Rattle.strat_memory.specs.Memory.{Memory, refusal_of_change, memory_after, HasRoomFor, reply_to, info_told, stat_told, fresh_memory, head_full, lists_in_memory, oldest_changes, oldest_entries, oldest_marks, oldest_parents, oldest_updates, oldest_versions, sealed_off, unsealed, table_with, IsMemoryOf};
+ghost use Rattle.strat_memory.specs.Memory.{Memory, refusal_of_change, memory_after, HasRoomFor, reply_to, info_told, stat_told, fresh_memory, head_full, lists_in_memory, oldest_changes, oldest_entries, oldest_marks, oldest_parents, oldest_updates, oldest_versions, sealed_off, unsealed, table_with, IsMemoryOf, has_version};
 
 /// Memory refuses a change just where the table does, and for the same reason; of any other it tells
 /// what the table answers, wherever the change then goes and whatever cursors there are.
@@ -50,17 +50,17 @@ pub fn memory_refuses_what_is_not_accepted()
 /// the versions that the table has.
 pub fn memory_tells_of_versions_as_the_table()
     ensures found { (f : Image) (h : Head) (s : State) (m : Memory) (rows : List Cursor) (n v : ℕ)
-        → state_of f h ≡ Some s → IsMemoryOf h m → IsTrue (is_there m.parents m.marks v)
+        → state_of f h ≡ Some s → IsMemoryOf h m → IsTrue (has_version m v)
         → (step (table_with s rows n) (Info v)).answer ≡ plain (info_told m v) }
     ensures ok { (f : Image) (h : Head) (s : State) (m : Memory) (rows : List Cursor) (n : ℕ)
         → state_of f h ≡ Some s → IsMemoryOf h m → length rows ≡ length m.cursors.opened
         → (step (table_with s rows n) Stat).answer ≡ plain (stat_told m) }
     ensures none { (f : Image) (h : Head) (s : State) (m : Memory) (rows : List Cursor) (n v : ℕ)
-        → state_of f h ≡ Some s → IsMemoryOf h m → is_there m.parents m.marks v ≡ false
+        → state_of f h ≡ Some s → IsMemoryOf h m → has_version m v ≡ false
         → step (table_with s rows n) (Info v) ≡ refuses (table_with s rows n) why.UnknownVersion }
     ensures err { (f : Image) (h : Head) (s : State) (m : Memory) (rows : List Cursor) (n v : ℕ)
         (key : List ℕ)
-        → state_of f h ≡ Some s → IsMemoryOf h m → is_there m.parents m.marks v ≡ false
+        → state_of f h ≡ Some s → IsMemoryOf h m → has_version m v ≡ false
         → step (table_with s rows n) (Get v key)
         ≡ refuses (table_with s rows n) why.UnknownVersion }
 {}
@@ -75,7 +75,7 @@ pub fn memory_finds_what_level_zero_says()
 /// A key is looked up in level 0, in the sealed one where there is one, and then in the levels, as the table has it.
 pub fn memory_is_asked_as_the_table()
     ensures ok { (f : Image) (h : Head) (s : State) (m : Memory) (v : ℕ) (key : List ℕ)
-        → state_of f h ≡ Some s → IsMemoryOf h m → IsSound s → IsTrue (is_there m.parents m.marks v)
+        → state_of f h ≡ Some s → IsMemoryOf h m → IsSound s → IsTrue (has_version m v)
         → asked f m.parents (lists_in_memory m) h.manifest.levels v key
         ≡ value_of (pairs_at (table_of s) v) key }
 {}

@@ -1,5 +1,5 @@
 -- A journal's changes carried out on what is in memory where they go on behind a full region.
-use Rattle.std.proofs.Common.{◌≡◌, ◌<◌, ◌≤◌, ◌+◌, ◌*◌, ◌-◌, ℕ, suc, true, false, Bool, cond, List, [], ◌∷◌, ◌++◌, length, map, take, drop, Option, Some, None, Result, Ok, Err, refl, sym, ap, ◌∙◌, subst, arith}
+use Rattle.std.proofs.Common.{◌≡◌, ◌<◌, ◌≤◌, ◌+◌, ◌*◌, ◌-◌, ℕ, suc, true, false, Bool, cond, List, [], ◌∷◌, ◌++◌, length, map, take, drop, None, Ok, Err, refl, sym, ap, ◌∙◌, subst, arith}
 use Rattle.std.specs.Prelude.{fold}
 use Rattle.std.specs.List.{list_all}
 use Rattle.std.proofs.lemmas.Bool.{and_from}
@@ -9,19 +9,18 @@ use Rattle.strat_base.specs.Change.{Change, is_lawful}
 use Rattle.strat_base.specs.Marks.{Marks}
 use Rattle.strat_base.specs.Tree.{Parents}
 use Rattle.def_bytes.proofs.DamageLemmas.{put_first_ok}
-use Rattle.def_bytes.specs.Damage.{Read, and_then, put_first}
+use Rattle.def_bytes.specs.Damage.{Read, put_first}
 use Rattle.def_bytes.specs.Manifest.{Manifest}
 use Rattle.def_bytes.specs.Records.{Logged}
 use Rattle.def_bytes.specs.SuperBlock.{Super}
 use Rattle.def_recovery.specs.Opening.{accepted_in}
 use Rattle.def_state.specs.Sound.{is_accepted}
 use Rattle.def_state.specs.State.{marks_after, tree_after}
-use Rattle.def_state.proofs.UndroppedLemmas.{none_after}
 use Rattle.strat_journal.specs.Records.{logged_of}
 use Rattle.strat_journal.specs.declared.journal.Logged.{Logged as Owned}
-use Rattle.strat_memory.specs.Memory.{IsMemoryOf, Memory, memory_after, refusal_of_change, sealed_off}
+use Rattle.strat_memory.specs.Memory.{IsMemoryOf, Memory, memory_after, sealed_off}
 use Rattle.strat_open.proofs.RecoverLemmas.{accepted_in_turn}
-use Rattle.strat_open.proofs.RedoLemmas.{accepted_by, after_changes, after_limits, after_parents, after_these, any_marks, cursors_redone, free_from, freely_accepted, memory_follows_all, sealed_of, sealed_redone}
+use Rattle.strat_open.proofs.RedoLemmas.{accepted_by, after_changes, after_limits, after_marks, after_parents, after_these, cursors_redone, memory_follows_all, sealed_of, sealed_redone}
 
 none_before : (r : Read (List Change)) → after_these [] r ≡ r
 none_before (Ok ys) = refl
@@ -36,34 +35,31 @@ put_first_err c (Ok xs) b e = absurd (cc)
 put_first_err c (Err d) b e = e
 
 -- what is accepted behind a change, memory accepts that made it
-accepted_behind : (m : Memory) (c : Change) (logged : List Logged) → refusal_of_change m c ≡ None
-    → accepted_in m.changes_max m.versions_max (tree_after m.parents c) (marks_after [] c) (suc m.changes) logged ≡ accepted_by (memory_after m c) logged
-accepted_behind m c logged free =
+accepted_behind : (m : Memory) (c : Change) (logged : List Logged)
+    → accepted_in m.changes_max m.versions_max (tree_after m.parents c) (marks_after m.marks c) (suc m.changes) logged ≡ accepted_by (memory_after m c) logged
+accepted_behind m c logged =
     let limits = after_limits m c in
-    let count : suc m.changes ≡ (memory_after m c).changes = omega (arith, after_changes m c free) in
-    any_marks m.changes_max m.versions_max (tree_after m.parents c) (marks_after [] c) [] (suc m.changes) logged
-    (none_after m.changes_max m.versions_max m.parents [] m.changes c refl (freely_accepted m c free)) refl
-    ∙ (λ i. accepted_in (sym limits.0 i) (sym limits.1 i) (sym (after_parents m c) i) [] (count i) logged)
+    let count : suc m.changes ≡ (memory_after m c).changes = omega (arith, after_changes m c) in
+    λ i. accepted_in (sym limits.0 i) (sym limits.1 i) (sym (after_parents m c) i) (sym (after_marks m c) i) (count i) logged
 
 -- records that are accepted in front of others
 accepted_on : (xs ys : List Logged) (m : Memory) (js : List Change) → accepted_by m xs ≡ Ok js → accepted_by m (xs ++ ys) ≡ after_these js (accepted_by (fold memory_after m js) ys)
 accepted_on [] ys m js e =
     let none : [] ≡ js = cc in
     subst (λ (zs : List Change). accepted_by m ys ≡ after_these zs (accepted_by (fold memory_after m zs) ys)) none (sym (none_before (accepted_by m ys)))
-accepted_on (l ∷ xs) ys m js e = by_test (is_accepted m.changes_max m.versions_max m.parents [] m.changes l.change) refl (accepted_on xs ys) e
+accepted_on (l ∷ xs) ys m js e = by_test (is_accepted m.changes_max m.versions_max m.parents m.marks m.changes l.change) refl (accepted_on xs ys) e
   where
     later : List Logged → Read (List Change)
-    later zs = accepted_in m.changes_max m.versions_max (tree_after m.parents l.change) (marks_after [] l.change) (suc m.changes) zs
+    later zs = accepted_in m.changes_max m.versions_max (tree_after m.parents l.change) (marks_after m.marks l.change) (suc m.changes) zs
 
-    by_test : (b : Bool) → is_accepted m.changes_max m.versions_max m.parents [] m.changes l.change ≡ b
+    by_test : (b : Bool) → is_accepted m.changes_max m.versions_max m.parents m.marks m.changes l.change ≡ b
         → ((n : Memory) (ks : List Change) → accepted_by n xs ≡ Ok ks → accepted_by n (xs ++ ys) ≡ after_these ks (accepted_by (fold memory_after n ks) ys))
         → cond b (put_first l.change (later xs)) (Err l.block) ≡ Ok js → cond b (put_first l.change (later (xs ++ ys))) (Err l.block) ≡ after_these js (accepted_by (fold memory_after m js) ys)
     by_test false is rest e = absurd (cc)
     by_test true is rest e =
-        let free = free_from m [] l.change refl is in
         let parts = put_first_ok l.change (later xs) js e in
         let next : Memory = memory_after m l.change in
-        ap (put_first l.change) (accepted_behind m l.change (xs ++ ys) free ∙ rest next parts.0 (sym (accepted_behind m l.change xs free) ∙ parts.1))
+        ap (put_first l.change) (accepted_behind m l.change (xs ++ ys) ∙ rest next parts.0 (sym (accepted_behind m l.change xs) ∙ parts.1))
         ∙ first_before l.change parts.0 (accepted_by (fold memory_after next parts.0) ys)
         ∙ ap (λ (zs : List Change). after_these zs (accepted_by (fold memory_after m zs) ys)) parts.2
 
@@ -110,7 +106,7 @@ module _ (mem : ℕ) (logged : List Owned) where
   -- one of the full region is refused
   pub front_refused : (m : Memory) (b : ℕ) → accepted_by m (map logged_of front) ≡ Err b → accepted_by m (map logged_of logged) ≡ Err b
   front_refused m b e =
-      sym (ap (accepted_by m) cut_records) ∙ accepted_stops m.changes_max m.versions_max m.parents [] m.changes (map logged_of front) (map logged_of behind) b e
+      sym (ap (accepted_by m) cut_records) ∙ accepted_stops m.changes_max m.versions_max m.parents m.marks m.changes (map logged_of front) (map logged_of behind) b e
 
   -- those of the full region were carried out, and level 0 was sealed
   module _ (m mid anew : Memory) (first : accepted_by m (map logged_of front) ≡ Ok (changes_read front)) (mid_is : mid ≡ fold memory_after m (changes_read front)) (anew_is : anew ≡ sealed_off mem mid) where
@@ -141,8 +137,8 @@ module _ (mem : ℕ) (logged : List Owned) where
       both_held long none sb manifest size of =
           let many : length (changes_read front) ≡ sb.mem = omega (arith, length-map front (λ (l : Owned). l.change), length-take mem logged, long, size) in
           let here : IsMemoryOf (record { sb = sb; manifest = manifest; journal = changes_read front }) (fold memory_after m (changes_read front)) =
-          memory_follows_all sb manifest [] (changes_read front) m [] of refl
-          (accepted_in_turn m.changes_max m.versions_max m.parents [] m.changes (map logged_of front) (changes_read front) first) (λ unsealed. omega (arith, many)) in
+          memory_follows_all sb manifest [] (changes_read front) m of
+          (accepted_in_turn m.changes_max m.versions_max m.parents m.marks m.changes (map logged_of front) (changes_read front) first) (λ unsealed. omega (arith, many)) in
           let there : IsMemoryOf (record { sb = sb; manifest = manifest; journal = changes_read front }) (sealed_off sb.mem (fold memory_after m (changes_read front))) =
           sealed_of (record { sb = sb; manifest = manifest; journal = changes_read front }) (fold memory_after m (changes_read front)) here (sealed_redone (changes_read front) m ∙ none) many in
           let is : sealed_off sb.mem (fold memory_after m (changes_read front)) ≡ anew =
@@ -150,7 +146,7 @@ module _ (mem : ℕ) (logged : List Owned) where
           let sealed : anew.sealed ≡ None → ⊥ = λ unsealed. (let e = sym (ap (λ (x : Memory). x.sealed) anew_is) ∙ unsealed in cc) in
           subst (λ (x : Memory). IsMemoryOf (record { sb = sb; manifest = manifest; journal = changes_read logged }) x) (sym now_is)
           (subst (λ (js : List Change). IsMemoryOf (record { sb = sb; manifest = manifest; journal = js }) (fold memory_after anew (changes_read behind))) cut_changes
-          (memory_follows_all sb manifest (changes_read front) (changes_read behind) anew []
-          (subst (λ (x : Memory). IsMemoryOf (record { sb = sb; manifest = manifest; journal = changes_read front }) x) is there) refl
-          (accepted_in_turn anew.changes_max anew.versions_max anew.parents [] anew.changes (map logged_of behind) (changes_read behind) second)
+          (memory_follows_all sb manifest (changes_read front) (changes_read behind) anew
+          (subst (λ (x : Memory). IsMemoryOf (record { sb = sb; manifest = manifest; journal = changes_read front }) x) is there)
+          (accepted_in_turn anew.changes_max anew.versions_max anew.parents anew.marks anew.changes (map logged_of behind) (changes_read behind) second)
           (λ unsealed. absurd (sealed unsealed))))

@@ -1,5 +1,5 @@
 -- What recovery finds of a store, part by part.
-use Rattle.std.proofs.Common.{◌≡◌, ◌≤◌, ◌<◌, ◌+◌, ℕ, suc, Bool, true, false, cond, ltb, List, [], ◌∷◌, length, Option, None, Some, Result, Ok, Err, refl, sym, ap, ◌∙◌, subst, arith}
+use Rattle.std.proofs.Common.{◌≡◌, ◌≤◌, ◌<◌, ◌+◌, ℕ, suc, Bool, true, false, cond, ltb, List, [], ◌∷◌, length, map, Option, None, Some, Result, Ok, Err, refl, sym, ap, ◌∙◌, subst, arith}
 use Rattle.std.proofs.lemmas.Bool.{and_from, leb-true}
 use Rattle.std.specs.List.{list_all}
 use Rattle.std.specs.Prelude.{fold}
@@ -24,14 +24,15 @@ use Rattle.def_state.specs.State.{tree_after, marks_after}
 use Rattle.strat_base.specs.Entries.{Entry}
 use Rattle.def_slice.specs.Lists.{HoldLists}
 use Rattle.strat_memory.specs.Memory.{Memory, memory_after, sealed_entries, IsMemoryOf}
-use Rattle.strat_open.proofs.RedoLemmas.{accepted_by, any_marks, memory_follows_all}
+use Rattle.strat_open.proofs.RedoLemmas.{accepted_by, memory_follows_all}
 use Rattle.def_bytes.specs.SuperBlock.{Super, newest_in}
 use Rattle.def_bytes.proofs.ManifestLemmas.{pass_at}
 use Rattle.def_recovery.proofs.OpeningLemmas.{manifest_tests}
 use Rattle.def_recovery.proofs.PassedLemmas.{belonging_tests}
 use Rattle.strat_memory.specs.Admitting.{chained_of, IsAdmitted}
 use Rattle.strat_memory.specs.declared.admitting.Published.{Published}
-use Rattle.strat_base.specs.Marks.{Marks}
+use Rattle.strat_base.specs.Marks.{Marks, are_pruned}
+use Rattle.strat_manifest.specs.ManifestView.{marks_listed}
 use Rattle.def_bytes.specs.Layout.{newest_format}
 use Rattle.strat_memory.proofs.AdmitLemmas.{manifest_low}
 
@@ -39,6 +40,10 @@ use Rattle.strat_memory.proofs.AdmitLemmas.{manifest_low}
 module _ (sb : Super) (p : Published) (is : IsAdmitted sb p) where
   pub load_older : (parents : List ℕ) → parents ≡ p.manifest.parents → are_older 1 parents ≡ true
   load_older parents same = ap (are_older 1) same ∙ pass_at (manifest_tests newest_format (chained_of p).manifest) 6 is.spelled
+
+  pub load_pruned : (parents marks : List ℕ) → parents ≡ p.manifest.parents → marks ≡ p.manifest.marks → are_pruned (None ∷ map (λ v. Some v) parents) (marks_listed marks) ≡ true
+  load_pruned parents marks same alike =
+      (λ i. are_pruned (None ∷ map (λ v. Some v) (same i)) (marks_listed (alike i))) ∙ pass_at (manifest_tests newest_format (chained_of p).manifest) 12 is.spelled
 
   pub load_room : (parents : List ℕ) → parents ≡ p.manifest.parents → 1 + length parents ≤ sb.versions_max
   load_room parents same = omega (
@@ -83,14 +88,13 @@ module _ (sb : Super) (manifest : Manifest) (m : Memory) (of : IsMemoryOf (recor
   pub memory_accepts : (logged : List Logged) → accepted_by m logged ≡ accepted_in sb.changes_max sb.versions_max (parents_in manifest) manifest.marks manifest.changes logged
   memory_accepts logged =
       let count : m.changes ≡ manifest.changes = omega (arith, of.changes) in
-      (λ i. accepted_in (of.changes_max i) (of.versions_max i) (of.parents i) [] (count i) logged)
-      ∙ any_marks sb.changes_max sb.versions_max (parents_in manifest) [] manifest.marks manifest.changes logged refl of.undropped
+      λ i. accepted_in (of.changes_max i) (of.versions_max i) (of.parents i) (of.marks i) (count i) logged
 
   pub memory_room : (n : ℕ) → n ≤ sb.mem → n ≤ m.spare
   memory_room n few = omega (arith, spare_all sb.mem m.entries (sealed_entries m) m.spare of.lists, few)
 
-  pub memory_redone : (now : Memory) (changes : List Change) → are_accepted m.changes_max m.versions_max m.parents [] m.changes changes ≡ true → length changes ≤ sb.mem → now ≡ fold memory_after m changes → IsMemoryOf (record { sb = sb; manifest = manifest; journal = changes }) now
-  memory_redone now changes accepted few is = subst (IsMemoryOf (record { sb = sb; manifest = manifest; journal = changes })) (sym is) (memory_follows_all sb manifest [] changes m [] of refl accepted (λ unsealed. omega (arith, few)))
+  pub memory_redone : (now : Memory) (changes : List Change) → are_accepted m.changes_max m.versions_max m.parents m.marks m.changes changes ≡ true → length changes ≤ sb.mem → now ≡ fold memory_after m changes → IsMemoryOf (record { sb = sb; manifest = manifest; journal = changes }) now
+  memory_redone now changes accepted few is = subst (IsMemoryOf (record { sb = sb; manifest = manifest; journal = changes })) (sym is) (memory_follows_all sb manifest [] changes m of accepted (λ unsealed. omega (arith, few)))
 
 -- changes that are accepted as records are accepted each in its turn
 pub accepted_in_turn : (changes_max versions_max : ℕ) (parents : Parents) (marks : Marks) (n : ℕ) (logged : List Logged) (journal : List Change)

@@ -1,5 +1,5 @@
 -- A journal's changes carried out one by one on what is in memory.
-use Rattle.std.proofs.Common.{◌≡◌, ◌≤◌, ◌<◌, ◌+◌, ℕ, suc, true, not, List, [], ◌∷◌, ◌++◌, length, map, take, drop, get_or, Option, None, Ok, Err, refl, sym, ap, ◌∙◌, subst, arith, append_assoc, append-nil, length-append, Bool, false, cond, eqb, ◌&&◌, Some}
+use Rattle.std.proofs.Common.{◌≡◌, ◌≤◌, ◌<◌, ◌+◌, ℕ, suc, true, not, List, [], ◌∷◌, ◌++◌, length, map, take, drop, get_or, Option, None, Ok, Err, refl, sym, ap, ◌∙◌, subst, arith, append_assoc, append-nil, length-append, Some}
 use Rattle.std.specs.Prelude.{fold, is_some}
 use Rattle.std.specs.List.{list_all}
 use Rattle.std.proofs.lemmas.Bool.{and_from, and_parts, cond-true, cond-false}
@@ -17,9 +17,7 @@ use Rattle.def_recovery.specs.Head.{Head}
 use Rattle.def_state.specs.State.{tree_after, marks_after}
 use Rattle.strat_memory.specs.Memory.{Memory, refusal_of_change, memory_after, HasRoomFor, IsMemoryOf, sealed_off}
 use Rattle.strat_memory.proofs.MemoryLawLemmas.{accepted_same, memory_follows, memory_sealed}
-use Rattle.strat_base.specs.Marks.{Marks, none_dropped}
 use Rattle.def_state.specs.Sound.{is_accepted, are_accepted}
-use Rattle.def_state.proofs.UndroppedLemmas.{there_made, open_made, none_after}
 
 -- the changes of the first records
 abbrev pub changes_before : ℕ → List Logged → List Change
@@ -29,9 +27,9 @@ changes_before k logged = map (λ (l : Logged). l.change) (take k logged)
 abbrev pub after_these : List Change → Read (List Change) → Read (List Change)
 after_these xs r = and_then r (λ ys. Ok (xs ++ ys))
 
--- the changes of records, as memory, which knows of no dropped version, accepts them in turn
+-- the changes of records, as memory accepts them in turn
 abbrev pub accepted_by : Memory → List Logged → Read (List Change)
-accepted_by m logged = accepted_in m.changes_max m.versions_max m.parents [] m.changes logged
+accepted_by m logged = accepted_in m.changes_max m.versions_max m.parents m.marks m.changes logged
 
 -- the first k of these records were carried out, and others are left for which there is room
 pub record IsRedone (m : Memory) (logged : List Logged) (k : ℕ) (now : Memory) : Type 0 where
@@ -44,7 +42,7 @@ after_one : (xs : List Change) (c : Change) (r : Read (List Change)) → after_t
 after_one xs c (Ok ys) = ap (λ (zs : List Change). Ok zs) (sym (append_assoc xs (c ∷ []) ys))
 after_one xs c (Err block) = refl
 
--- what a change leaves of the limits, the versions, the count and the room
+-- what a change leaves of the limits, the versions, their marks, the count and the room
 pub after_limits : (m : Memory) (c : Change) → ((memory_after m c).changes_max ≡ m.changes_max) × ((memory_after m c).versions_max ≡ m.versions_max)
 after_limits m (Put v key value) = (refl, refl)
 after_limits m (Delete v key) = (refl, refl)
@@ -57,11 +55,17 @@ after_parents m (Delete v key) = refl
 after_parents m (Clone v) = refl
 after_parents m (DropVersion v) = refl
 
-pub after_changes : (m : Memory) (c : Change) → refusal_of_change m c ≡ None → (memory_after m c).changes ≡ m.changes + 1
-after_changes m (Put v key value) free = refl
-after_changes m (Delete v key) free = refl
-after_changes m (Clone v) free = refl
-after_changes m (DropVersion v) free = absurd (cc)
+pub after_marks : (m : Memory) (c : Change) → (memory_after m c).marks ≡ marks_after m.marks c
+after_marks m (Put v key value) = refl
+after_marks m (Delete v key) = refl
+after_marks m (Clone v) = refl
+after_marks m (DropVersion v) = refl
+
+pub after_changes : (m : Memory) (c : Change) → (memory_after m c).changes ≡ m.changes + 1
+after_changes m (Put v key value) = refl
+after_changes m (Delete v key) = refl
+after_changes m (Clone v) = refl
+after_changes m (DropVersion v) = refl
 
 after_spare : (m : Memory) (c : Change) → m.spare ≤ (memory_after m c).spare + 1
 after_spare m (Put v key value) = omega arith
@@ -75,33 +79,6 @@ room_any m (Put v key value) free = free
 room_any m (Delete v key) free = free
 room_any m (Clone v) free = tt
 room_any m (DropVersion v) free = tt
-
--- where no version was dropped, it is the same which marks say so
-module _ (cm vm : ℕ) where
-  same_accepted : (parents : Parents) (a b : Marks) (n : ℕ) (c : Change) → none_dropped a ≡ true → none_dropped b ≡ true → is_accepted cm vm parents a n c ≡ is_accepted cm vm parents b n c
-  same_accepted parents a b n (Put v key value) none other = λ i. (open_made parents a none v ∙ sym (open_made parents b other v)) i && not (eqb n cm)
-  same_accepted parents a b n (Delete v key) none other = λ i. (open_made parents a none v ∙ sym (open_made parents b other v)) i && not (eqb n cm)
-  same_accepted parents a b n (Clone v) none other = λ i. ((there_made parents a none v ∙ sym (there_made parents b other v)) i && not (eqb (length parents) vm)) && not (eqb n cm)
-  same_accepted parents a b n (DropVersion v) none other = refl
-
-  pub any_marks : (parents : Parents) (a b : Marks) (n : ℕ) (logged : List Logged) → none_dropped a ≡ true → none_dropped b ≡ true → accepted_in cm vm parents a n logged ≡ accepted_in cm vm parents b n logged
-  any_marks parents a b n [] none other = refl
-  any_marks parents a b n (l ∷ logged) none other =
-      by_test (is_accepted cm vm parents a n l.change) refl
-      (any_marks (tree_after parents l.change) (marks_after a l.change) (marks_after b l.change) (suc n) logged)
-      ∙ ap (λ (t : Bool). cond t (put_first l.change (later b)) (Err l.block)) (same_accepted parents a b n l.change none other)
-    where
-      later : Marks → Read (List Change)
-      later marks = accepted_in cm vm (tree_after parents l.change) (marks_after marks l.change) (suc n) logged
-
-      by_test : (t : Bool) → is_accepted cm vm parents a n l.change ≡ t
-          → (none_dropped (marks_after a l.change) ≡ true → none_dropped (marks_after b l.change) ≡ true → later a ≡ later b)
-          → cond t (put_first l.change (later a)) (Err l.block) ≡ cond t (put_first l.change (later b)) (Err l.block)
-      by_test false is rest = refl
-      by_test true is rest =
-          ap (put_first l.change) (rest
-          (none_after cm vm parents a n l.change none is)
-          (none_after cm vm parents b n l.change other (sym (same_accepted parents a b n l.change none other) ∙ is)))
 
 pub redone_all : (m : Memory) (logged : List Logged) (k : ℕ) (now : Memory) → length logged ≤ k → IsRedone m logged k now
     → (accepted_by m logged ≡ Ok (map (λ (l : Logged). l.change) logged)) × (now ≡ fold memory_after m (map (λ (l : Logged). l.change) logged))
@@ -135,7 +112,7 @@ module _ (m : Memory) (logged : List Logged) (k : ℕ) (now : Memory) (l : Logge
   rest_is = old.rest ∙ ap (λ (rest : List Logged). after_these (changes_before k logged) (accepted_by now rest)) next
 
   abbrev later : Memory → ℕ → Parents → Read (List Change)
-  later x n parents = accepted_in x.changes_max x.versions_max parents (marks_after [] l.change) n (drop (k + 1) logged)
+  later x n parents = accepted_in x.changes_max x.versions_max parents (marks_after x.marks l.change) n (drop (k + 1) logged)
 
   pub redo_room : HasRoomFor now l.change
   redo_room = room_any now l.change (omega (arith, old.room, within))
@@ -143,18 +120,16 @@ module _ (m : Memory) (logged : List Logged) (k : ℕ) (now : Memory) (l : Logge
   -- one more was carried out
   pub redone_more : (after : Memory) → refusal_of_change now l.change ≡ None → after ≡ memory_after now l.change → is_lawful l.change ≡ true → IsRedone m logged (k + 1) after
   redone_more after free is own =
-      let next_count : suc now.changes ≡ (memory_after now l.change).changes = omega (arith, after_changes now l.change free) in
+      let next_count : suc now.changes ≡ (memory_after now l.change).changes = omega (arith, after_changes now l.change) in
       let limits = after_limits now l.change in
       record {
         now_is = is ∙ ap (λ (x : Memory). memory_after x l.change) old.now_is ∙ sym (fold-push memory_after m (changes_before k logged) l.change)
             ∙ ap (λ (xs : List Change). fold memory_after m xs) (sym more);
         room = omega (arith, old.room, after_spare now l.change, ap (λ (x : Memory). x.spare) is);
         rest = rest_is
-            ∙ ap (after_these (changes_before k logged)) (cond-true _ (put_first l.change (later now (suc now.changes) (tree_after now.parents l.change))) (Err l.block) (accepted_same now [] l.change refl ∙ none_some (refusal_of_change now l.change) free))
+            ∙ ap (after_these (changes_before k logged)) (cond-true _ (put_first l.change (later now (suc now.changes) (tree_after now.parents l.change))) (Err l.block) (accepted_same now l.change ∙ none_some (refusal_of_change now l.change) free))
             ∙ after_one (changes_before k logged) l.change (later now (suc now.changes) (tree_after now.parents l.change))
-            ∙ ap (after_these (changes_before k logged ++ l.change ∷ [])) (any_marks now.changes_max now.versions_max (tree_after now.parents l.change) (marks_after [] l.change) [] (suc now.changes) (drop (k + 1) logged)
-            (none_after now.changes_max now.versions_max now.parents [] now.changes l.change refl (accepted_same now [] l.change refl ∙ none_some (refusal_of_change now l.change) free)) refl)
-            ∙ (λ i. after_these (sym more i) (accepted_in (sym limits.0 i) (sym limits.1 i) (sym (after_parents now l.change) i) [] (next_count i) (drop (k + 1) logged)))
+            ∙ (λ i. after_these (sym more i) (accepted_in (sym limits.0 i) (sym limits.1 i) (sym (after_parents now l.change) i) (sym (after_marks now l.change) i) (next_count i) (drop (k + 1) logged)))
             ∙ ap (λ (x : Memory). after_these (changes_before (k + 1) logged) (accepted_by x (drop (k + 1) logged))) (sym is);
         lawful = subst (λ (xs : List Change). list_all is_lawful xs ≡ true) (sym more) (lawful_more (changes_before k logged) l.change old.lawful own);
       }
@@ -163,15 +138,11 @@ module _ (m : Memory) (logged : List Logged) (k : ℕ) (now : Memory) (l : Logge
   pub redone_not : is_some (refusal_of_change now l.change) ≡ true → accepted_by m logged ≡ Err l.block
   redone_not refused =
       rest_is
-      ∙ ap (after_these (changes_before k logged)) (cond-false _ (put_first l.change (later now (suc now.changes) (tree_after now.parents l.change))) (Err l.block) (accepted_same now [] l.change refl ∙ ap not refused))
-
--- a change that memory does not refuse is accepted, where no version was dropped
-pub freely_accepted : (m : Memory) (c : Change) → refusal_of_change m c ≡ None → is_accepted m.changes_max m.versions_max m.parents [] m.changes c ≡ true
-freely_accepted m c free = accepted_same m [] c refl ∙ none_some (refusal_of_change m c) free
+      ∙ ap (after_these (changes_before k logged)) (cond-false _ (put_first l.change (later now (suc now.changes) (tree_after now.parents l.change))) (Err l.block) (accepted_same now l.change ∙ ap not refused))
 
 -- a change that is accepted is not refused
-pub free_from : (m : Memory) (marks : Marks) (c : Change) → none_dropped marks ≡ true → is_accepted m.changes_max m.versions_max m.parents marks m.changes c ≡ true → refusal_of_change m c ≡ None
-free_from m marks c none accepted = unrefused (refusal_of_change m c) (sym (accepted_same m marks c none) ∙ accepted)
+pub free_from : (m : Memory) (c : Change) → is_accepted m.changes_max m.versions_max m.parents m.marks m.changes c ≡ true → refusal_of_change m c ≡ None
+free_from m c accepted = unrefused (refusal_of_change m c) (sym (accepted_same m c) ∙ accepted)
   where
     unrefused : (o : Option Refusal) → not (is_some o) ≡ true → o ≡ None
     unrefused None e = refl
@@ -190,22 +161,22 @@ sealed_of h m of none full = memory_sealed h m of none full
 
 -- memory after changes that are accepted in turn, and which fit a region with those before where nothing is sealed, is that
 -- of the head with them in its journal
-pub memory_follows_all : (sb : Super) (manifest : Manifest) (before changes : List Change) (m : Memory) (marks : Marks) → IsMemoryOf (record { sb = sb; manifest = manifest; journal = before }) m
-    → none_dropped marks ≡ true → are_accepted m.changes_max m.versions_max m.parents marks m.changes changes ≡ true → (m.sealed ≡ None → length before + length changes ≤ sb.mem)
+pub memory_follows_all : (sb : Super) (manifest : Manifest) (before changes : List Change) (m : Memory) → IsMemoryOf (record { sb = sb; manifest = manifest; journal = before }) m
+    → are_accepted m.changes_max m.versions_max m.parents m.marks m.changes changes ≡ true → (m.sealed ≡ None → length before + length changes ≤ sb.mem)
     → IsMemoryOf (record { sb = sb; manifest = manifest; journal = before ++ changes }) (fold memory_after m changes)
-memory_follows_all sb manifest before [] m marks of none accepted few = subst (λ (js : List Change). IsMemoryOf (record { sb = sb; manifest = manifest; journal = js }) m) (sym (append-nil before)) of
-memory_follows_all sb manifest before (c ∷ changes) m marks of none accepted few =
+memory_follows_all sb manifest before [] m of accepted few = subst (λ (js : List Change). IsMemoryOf (record { sb = sb; manifest = manifest; journal = js }) m) (sym (append-nil before)) of
+memory_follows_all sb manifest before (c ∷ changes) m of accepted few =
     let size = length-append before (c ∷ []) in
-    let parts = and_parts (is_accepted m.changes_max m.versions_max m.parents marks m.changes c) (are_accepted m.changes_max m.versions_max (tree_after m.parents c) (marks_after marks c) (suc m.changes) changes) accepted in
-    let free = free_from m marks c none parts.0 in
+    let parts = and_parts (is_accepted m.changes_max m.versions_max m.parents m.marks m.changes c) (are_accepted m.changes_max m.versions_max (tree_after m.parents c) (marks_after m.marks c) (suc m.changes) changes) accepted in
+    let free = free_from m c parts.0 in
     let limits = after_limits m c in
-    let count : suc m.changes ≡ (memory_after m c).changes = omega (arith, after_changes m c free) in
-    let later : are_accepted (memory_after m c).changes_max (memory_after m c).versions_max (memory_after m c).parents (marks_after marks c) (memory_after m c).changes changes ≡ true =
-    (λ i. are_accepted (limits.0 i) (limits.1 i) (after_parents m c i) (marks_after marks c) (sym count i) changes) ∙ parts.1 in
+    let count : suc m.changes ≡ (memory_after m c).changes = omega (arith, after_changes m c) in
+    let later : are_accepted (memory_after m c).changes_max (memory_after m c).versions_max (memory_after m c).parents (memory_after m c).marks (memory_after m c).changes changes ≡ true =
+    (λ i. are_accepted (limits.0 i) (limits.1 i) (after_parents m c i) (after_marks m c i) (sym count i) changes) ∙ parts.1 in
     subst (λ (js : List Change). IsMemoryOf (record { sb = sb; manifest = manifest; journal = js }) (fold memory_after (memory_after m c) changes)) (append_assoc before (c ∷ []) changes)
-    (memory_follows_all sb manifest (before ++ c ∷ []) changes (memory_after m c) (marks_after marks c)
+    (memory_follows_all sb manifest (before ++ c ∷ []) changes (memory_after m c)
     (memory_follows (record { sb = sb; manifest = manifest; journal = before }) m of c free (λ unsealed. let fits = few unsealed in omega (arith, fits)))
-    (none_after m.changes_max m.versions_max m.parents marks m.changes c none parts.0) later (λ unsealed. let fits = few (sym (after_sealed m c) ∙ unsealed) in omega (arith, fits, size)))
+    later (λ unsealed. let fits = few (sym (after_sealed m c) ∙ unsealed) in omega (arith, fits, size)))
 
 -- changes leave the cursors
 pub cursors_redone : (changes : List Change) (m : Memory) → (fold memory_after m changes).cursors ≡ m.cursors

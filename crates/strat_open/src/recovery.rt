@@ -82,7 +82,7 @@ fn read_published<D: Disk>(
     }
 }
 
-/// What a store has in memory of its versions and of level 0 before any change of its journal. O(versions log
+/// What a store has in memory of its versions, their marks and level 0 before any change of its journal. O(versions log
 /// versions_max), and all the memory that changes take until the journal is full. The only error is want of memory.
 fn load_memory(alloc: Global, sb: &SuperBlock, published: &Published) -> Result<Memory, NoMemory>
     requires fits { IsLawful (super_of sb.now) }
@@ -97,6 +97,7 @@ fn load_memory(alloc: Global, sb: &SuperBlock, published: &Published) -> Result<
     let mut memory = Memory::new(alloc, sb.mem, sb.changes_max, sb.versions_max)?;
     memory.load(
         published.manifest.parents.as_slice(),
+        published.manifest.marks.as_slice(),
         published.manifest.updates,
         published.manifest.changes,
     );
@@ -127,14 +128,14 @@ fn redo(memory: &mut Memory, logged: &Logged) -> Result<(), Trouble>
 fn replay(memory: &mut Memory, logged: &[Logged]) -> Result<(), Trouble>
     requires room { length logged.now ≤ memory.old.spare }
     ensures found { OnOk result (accepted_in memory.old.changes_max memory.old.versions_max
-        memory.old.parents [] memory.old.changes (map logged_of logged.now)
+        memory.old.parents memory.old.marks memory.old.changes (map logged_of logged.now)
         ≡ Ok (map (λ l. l.change) logged.now)) }
     ensures ok { OnOk result
         (memory.new ≡ fold memory_after memory.old (map (λ l. l.change) logged.now)) }
     ensures fits { OnOk result (IsTrue (list_all is_lawful (map (λ l. l.change) logged.now))) }
     ensures damaged { IfErr result (λ e. (b : ℕ) × (e ≡ Damaged b)
         × (accepted_in memory.old.changes_max memory.old.versions_max
-        memory.old.parents [] memory.old.changes (map logged_of logged.now) ≡ Err b)) }
+        memory.old.parents memory.old.marks memory.old.changes (map logged_of logged.now) ≡ Err b)) }
 {
     for record in logged {
         redo(memory, record)?;
@@ -148,8 +149,9 @@ fn seal_full(alloc: Global, memory: &mut Memory, mem: u32) -> Result<(), NoMemor
     requires none { memory.old.sealed ≡ None }
     ensures ok { OnOk result (memory.new ≡ sealed_off mem memory.old) }
 {
+    let marks = memory.marks(alloc)?;
     memory.prepare(alloc, mem)?;
-    memory.seal();
+    memory.seal(marks);
     Ok(())
 }
 
@@ -167,7 +169,7 @@ fn replay_both(
     requires room { (mem ≤ memory.old.spare) × (mem < length logged.now)
         × (length logged.now ≤ journal_max mem) }
     ensures found { OnOk result (accepted_in memory.old.changes_max memory.old.versions_max
-        memory.old.parents [] memory.old.changes (map logged_of logged.now)
+        memory.old.parents memory.old.marks memory.old.changes (map logged_of logged.now)
         ≡ Ok (map (λ l. l.change) logged.now)) }
     ensures ok { OnOk result ((sb : Super) (manifest : Manifest) → sb.mem ≡ mem
         → IsMemoryOf (record { sb = sb; manifest = manifest; journal = [] }) memory.old
@@ -180,7 +182,7 @@ fn replay_both(
     ensures fits { OnOk result (IsTrue (list_all is_lawful (map (λ l. l.change) logged.now))) }
     ensures damaged { (block : ℕ) → IsErrOf result (Damaged block)
         → accepted_in memory.old.changes_max memory.old.versions_max
-        memory.old.parents [] memory.old.changes (map logged_of logged.now) ≡ Err block }
+        memory.old.parents memory.old.marks memory.old.changes (map logged_of logged.now) ≡ Err block }
     ensures err { IsErrOf result Device → ⊥ }
 {
     replay(memory, &logged[..mem as usize])?;

@@ -1,4 +1,3 @@
-pub mod MarkedLemmas
 pub mod LookLawLemmas
 pub mod NeededLemmas
 pub mod PublishingLemmas

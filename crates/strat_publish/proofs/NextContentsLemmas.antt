@@ -1,8 +1,8 @@
 -- The contents that a promotion and the next manifest make.
-use Rattle.std.proofs.Common.{◌≡◌, ◌≤◌, ◌<◌, ℕ, suc, Bool, true, false, cond, leb, ltb, inl, inr, List, [], ◌∷◌, ◌++◌, append-nil, length, map, flat_map, filter, drop, Option, Some, refl, sym, ap, ◌∙◌, subst, arith, not, eqb, replicate, None}
+use Rattle.std.proofs.Common.{◌≡◌, ◌≤◌, ◌<◌, ℕ, suc, Bool, true, false, cond, leb, ltb, inl, inr, List, [], ◌∷◌, ◌++◌, append-nil, length, map, flat_map, filter, drop, Option, Some, refl, sym, ap, ◌∙◌, subst, arith, None}
 use Rattle.std.specs.Option.{option_to_list}
 use Rattle.std.proofs.Math.Seq.{drop-append_seam}
-use Rattle.std.proofs.lemmas.Bool.{and_parts, cases_lt, lt-leb, le-leb, lt-ltb, le-ltb, ltb-true, not-true, eqb-true}
+use Rattle.std.proofs.lemmas.Bool.{and_parts, cases_lt, lt-leb, le-leb, lt-ltb, le-ltb, ltb-true}
 use Rattle.strat_base.proofs.ListFacts.{Among, among_flat}
 use Rattle.strat_base.specs.declared.descriptors.ArrayDesc.{ArrayDesc}
 use Rattle.strat_base.specs.declared.descriptors.Extent.{Extent}
@@ -24,7 +24,6 @@ use Rattle.def_publish.proofs.ComputedLemmas.{promotion_next}
 use Rattle.def_publish.proofs.FreeLemmas.{free_stands}
 use Rattle.def_publish.proofs.LocalLemmas.{levels_local}
 use Rattle.def_publish.proofs.PlaceLemmas.{newest_fits}
-use Rattle.def_publish.proofs.PromotedLemmas.{sealed_ordered}
 use Rattle.def_slice.proofs.LastLemmas.{last_promotes}
 use Rattle.def_publish.proofs.OccupiedLemmas.{free_beside}
 use Rattle.def_publish.specs.Appending.{IsLogOf}
@@ -34,17 +33,12 @@ use Rattle.def_publish.specs.Next.{AreNewArrays, IsNextOf, IsPromotion, MayBeNex
 use Rattle.def_publish.specs.Occupied.{IsSpaceOf, arrays_in, extents_of}
 use Rattle.def_publish.specs.Standing.{ContentsStand, ReadsAs}
 use Rattle.def_state.specs.Level.{Level}
-use Rattle.def_state.specs.Sound.{IsSound, is_tree, is_tree_from}
-use Rattle.def_state.specs.State.{marks_of, versions_of}
-use Rattle.strat_memory.specs.Memory.{Memory, IsMemoryOf, oldest_parents}
+use Rattle.def_state.specs.Sound.{IsSound}
+use Rattle.strat_memory.specs.Memory.{Memory, IsMemoryOf}
 use Rattle.strat_publish.specs.Publishing.{IsComputed, IsWrittenBeside, contents_after, descs_to, descs_behind}
 use Rattle.def_bytes.specs.Layout.{newest_format}
-use Rattle.strat_base.specs.Marks.{Marks, none_dropped}
-use Rattle.strat_base.specs.Tree.{Parents}
-use Rattle.strat_publish.proofs.SealedLemmas.{oldest_counts, parents_then, undropped_front}
+use Rattle.strat_publish.proofs.SealedLemmas.{marks_then, oldest_counts, parents_then}
 use Rattle.strat_publish.proofs.SettlingLemmas.{extents_have, used_not_free}
-use Rattle.def_state.proofs.SoundLemmas.{ordered, sound_tree, sound_pruned}
-use Rattle.def_promote.proofs.LevelsLemmas.{tree_test}
 
 rising_behind : (n : ℕ) (ns : List ℕ) → is_rising (n ∷ ns) ≡ true → is_rising ns ≡ true
 rising_behind n [] rising = refl
@@ -114,39 +108,6 @@ behind_dropped f ds levels t read rising =
     sym (drop-append_seam (low (λ (l : Level). l.number) t levels) (levels_behind t levels)) ∙ ap (λ (n : ℕ). drop n (low (λ (l : Level). l.number) t levels ++ levels_behind t levels)) (sym many)
     ∙ ap (drop (length (descs_to t ds))) (sym two)
 
--- marks none of which is set
-clear_marks : (marks : Marks) → none_dropped marks ≡ true → marks ≡ replicate (length marks) false
-clear_marks [] none = refl
-clear_marks (m ∷ marks) none =
-    let parts = and_parts (not m) (none_dropped marks) none in
-    λ i. not-true m parts.0 i ∷ clear_marks marks parts.1 i
-
--- the versions of a tree are one more than the numbers of their parents
-numbered_all : (n : ℕ) (parents : Parents) → is_tree_from (suc n) parents ≡ true → length (parent_numbers parents) ≡ length parents
-numbered_all n [] tree = refl
-numbered_all n (None ∷ parents) tree = absurd (omega (arith, eqb-true (suc n) 0 (and_parts (eqb (suc n) 0) (is_tree_from (suc (suc n)) parents) tree).0))
-numbered_all n (Some p ∷ parents) tree = ap suc (numbered_all (suc n) parents (and_parts (ltb p (suc n)) (is_tree_from (suc (suc n)) parents) tree).1)
-
-rooted_all : (parents : Parents) → is_tree parents ≡ true → length parents ≡ suc (length (parent_numbers parents))
-rooted_all [] tree = absurd (cc)
-rooted_all (None ∷ parents) tree =
-    let rest = (and_parts (ltb 0 (length (None ∷ parents))) (is_tree_from 0 (None ∷ parents)) tree).1 in
-    ap suc (sym (numbered_all 0 parents (and_parts (eqb 0 0) (is_tree_from 1 parents) rest).1))
-rooted_all (Some p ∷ parents) tree =
-    let rest = (and_parts (ltb 0 (length (Some p ∷ parents))) (is_tree_from 0 (Some p ∷ parents)) tree).1 in
-    absurd (omega (arith, ltb-true p 0 (and_parts (ltb p 0) (is_tree_from 1 parents) rest).0))
-
--- where none of them was dropped their marks are clear, also those that there were when level 0 was sealed
-marks_clear : (x : Contents) (m : Memory) → IsMemoryOf (contents_head x) m → IsSound (contents_state x) → replicate (suc (length (parent_numbers (oldest_parents m)))) false ≡ marks_of (sealed_state x)
-marks_clear x m of sound =
-    let marks : Marks = marks_of (sealed_state x) in
-    let versions : Parents = versions_of (sealed_state x) in
-    let formed = (sealed_ordered x (ordered (contents_state x) sound)).formed in
-    let many : length marks ≡ suc (length (parent_numbers (oldest_parents m))) =
-    (sound_pruned (sealed_state x) formed).len ∙ rooted_all versions (tree_test versions (sound_tree (sealed_state x) formed))
-    ∙ ap (λ (ps : Parents). suc (length (parent_numbers ps))) (sym (parents_then (contents_head x) m of)) in
-    sym (clear_marks marks (undropped_front (contents_head x) m of) ∙ ap (λ (n : ℕ). replicate n false) many)
-
 -- the next manifest makes the next contents
 pub after_next : (old : Contents) (m : Memory) (target : ℕ) (made : Option LevelDesc) (levels : List Level) (first size : ℕ) (blocks : List ℕ) → IsMemoryOf (contents_head old) m → IsSound (contents_state old)
     → is_rising (map (λ (d : LevelDesc). d.number) old.chained.manifest.levels) ≡ true
@@ -160,7 +121,7 @@ after_next old m target made levels first size blocks of sound rising = record {
     changes_max = refl;
     versions_max = refl;
     format = refl;
-    marks = marks_clear old m of sound;
+    marks = marks_then (contents_head old) m of;
     compacted = refl;
     parents = ap parent_numbers (parents_then (contents_head old) m of);
     updates = (oldest_counts (contents_head old) m of).1;

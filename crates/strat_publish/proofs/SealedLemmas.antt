@@ -1,16 +1,10 @@
 -- Memory that is ready for a publication, level 0 sealed, and memory that lets go of what was.
-use Rattle.std.proofs.Common.{◌≡◌, ◌≤◌, ℕ, true, inl, inr, List, length, drop, take, fold, not, ◌++◌, Option, None, Some, sym, ap, ◌∙◌, subst, arith, true≢false}
+use Rattle.std.proofs.Common.{◌≡◌, ◌≤◌, ℕ, true, inl, inr, List, length, drop, take, ◌++◌, Option, None, Some, sym, ap, ◌∙◌, subst, arith, true≢false}
 use Rattle.std.specs.Option.{option_map}
 use Rattle.std.specs.Prelude.{is_some}
-use Rattle.std.proofs.lemmas.List.{take-append-drop}
-use Rattle.std.proofs.lemmas.List.Sums.{fold-append}
 use Rattle.strat_base.specs.Change.{Change}
 use Rattle.strat_base.specs.Entries.{Entry}
-use Rattle.strat_base.proofs.MarkLemmas.{living_at}
-use Rattle.strat_base.specs.Marks.{Marks, is_dropped, none_dropped}
-use Rattle.def_state.proofs.MarkLemmas.{living_was}
-use Rattle.def_state.specs.State.{marks_after}
-use Rattle.strat_memory.proofs.MemoryLemmas.{clear_from, left_few}
+use Rattle.strat_memory.proofs.MemoryLemmas.{left_few}
 use Rattle.strat_base.specs.declared.descriptors.ArrayDesc.{ArrayDesc}
 use Rattle.strat_base.specs.declared.descriptors.LevelDesc.{LevelDesc}
 use Rattle.def_bytes.specs.Manifest.{Manifest}
@@ -18,10 +12,9 @@ use Rattle.def_recovery.specs.Head.{Head, head_changes, head_marks, head_updates
 use Rattle.strat_base.specs.Tree.{Parents}
 use Rattle.def_slice.specs.Lists.{entries_left, HoldLists}
 use Rattle.def_state.specs.Setting.{set_all}
-use Rattle.def_state.specs.Sound.{is_accepted}
 use Rattle.strat_cursor.specs.Cursors.{retired_all}
-use Rattle.strat_memory.proofs.MemoryLawLemmas.{accepted_same, memory_sealed, memory_unsealed, oldest_counted, oldest_front, parents_front, versions_front}
-use Rattle.strat_memory.specs.Memory.{Memory, SealedLevel, IsMemoryOf, IsReadyFrom, emptied, head_full, oldest_changes, oldest_entries, oldest_parents, oldest_updates, oldest_versions, prepared, refusal_of_change, renewed, sealed_off, unsealed}
+use Rattle.strat_memory.proofs.MemoryLawLemmas.{marks_front, memory_sealed, memory_unsealed, oldest_counted, oldest_front, parents_front, versions_front}
+use Rattle.strat_memory.specs.Memory.{Memory, SealedLevel, IsMemoryOf, IsReadyFrom, emptied, head_full, oldest_changes, oldest_entries, oldest_marks, oldest_parents, oldest_updates, oldest_versions, prepared, renewed, sealed_off, unsealed}
 use Rattle.strat_publish.specs.Publishing.{manifest_after}
 
 -- a promotion takes what fills the active region
@@ -38,9 +31,9 @@ parents_then = parents_front
 pub versions_then : (h : Head) (m : Memory) → IsMemoryOf h m → (rest : Parents) × (m.parents ≡ head_versions (head_full h) ++ rest)
 versions_then = versions_front
 
--- memory refuses what is not accepted
-pub accepted_as : (m : Memory) (marks : Marks) (c : Change) → none_dropped marks ≡ true → is_accepted m.changes_max m.versions_max m.parents marks m.changes c ≡ not (is_some (refusal_of_change m c))
-accepted_as = accepted_same
+-- and which of them were dropped then
+pub marks_then : (h : Head) (m : Memory) → IsMemoryOf h m → oldest_marks m ≡ head_marks (head_full h)
+marks_then = marks_front
 
 -- of each key and version one entry is left at most
 pub few_left : (entries : List Entry) → length (set_all entries) ≤ length entries
@@ -49,7 +42,7 @@ few_left = left_few
 -- memory that lets go of what was sealed is that of a head whose journal has what came since
 pub let_go : (h new : Head) (m : Memory) → IsMemoryOf h m → is_some m.sealed ≡ true → new.journal ≡ drop h.sb.mem h.journal → length new.journal ≤ new.sb.mem → new.sb.mem ≡ h.sb.mem
     → new.sb.changes_max ≡ h.sb.changes_max → new.sb.versions_max ≡ h.sb.versions_max
-    → head_versions new ≡ head_versions h → head_updates new ≡ head_updates h → head_changes new ≡ head_changes h → none_dropped (head_marks new) ≡ true → IsMemoryOf new (unsealed m)
+    → head_versions new ≡ head_versions h → head_updates new ≡ head_updates h → head_changes new ≡ head_changes h → head_marks new ≡ head_marks h → IsMemoryOf new (unsealed m)
 let_go = memory_unsealed
 
 -- memory with another level 0 ready, or none, and other room for arrays that are kept
@@ -58,7 +51,7 @@ prepared_of h m o n of = record {
   changes_max = of.changes_max;
   versions_max = of.versions_max;
   parents = of.parents;
-  undropped = of.undropped;
+  marks = of.marks;
   updates = of.updates;
   changes = of.changes;
   lists = of.lists;
@@ -109,15 +102,6 @@ ready_of h m k (inl is) full of = subst (λ (j : Memory). IsMemoryOf h j) (sym i
 ready_of h m k (inr is) full of =
     subst (λ (j : Memory). IsMemoryOf h j) (sym is.1) (prepared_of h (sealed_off h.sb.mem m) None k.cursors.room
     (memory_sealed h m of is.0 (omega (arith, full, unsealed_few h.sb.mem h.journal m.entries m.sealed m.spare of.lists is.0))))
-
--- no version was dropped before the seal
-pub undropped_front : (h : Head) (m : Memory) → IsMemoryOf h m → none_dropped (fold marks_after h.manifest.marks (take h.sb.mem h.journal)) ≡ true
-undropped_front h m of =
-    let marks : Marks = h.manifest.marks in
-    let front : List Change = take h.sb.mem h.journal in
-    let back : List Change = drop h.sb.mem h.journal in
-    let all : head_marks h ≡ fold marks_after (fold marks_after marks front) back = ap (fold marks_after marks) (sym (take-append-drop h.sb.mem h.journal)) ∙ fold-append marks_after marks front back in
-    clear_from (fold marks_after marks front) (λ v. living_was back (fold marks_after marks front) v (ap (λ (ms : Marks). is_dropped ms v) (sym all) ∙ living_at (head_marks h) of.undropped v))
 
 -- what let go of it
 pub emptied_next : (mem : ℕ) (gone : List ArrayDesc) (m k now : Memory) → now ≡ renewed gone k → IsReadyFrom mem m k

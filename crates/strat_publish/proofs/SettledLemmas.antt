@@ -11,7 +11,6 @@ use Rattle.std.proofs.lemmas.Option.{slice_get_within, get_or_from_slice_get}
 use Rattle.strat_array.specs.Kept.{Blocks}
 use Rattle.strat_base.proofs.ListFacts.{filter_map-append, Among, all_at, among_flat, among_in_flat, among_split, among_right, range_among}
 use Rattle.strat_base.specs.Change.{Change, Put, Delete, Clone, DropVersion, is_lawful}
-use Rattle.strat_base.specs.Marks.{none_dropped}
 use Rattle.strat_base.specs.Entries.{Entry, is_ascending, lead_entries}
 use Rattle.strat_base.specs.Tree.{Parents}
 use Rattle.strat_base.specs.declared.descriptors.ArrayDesc.{ArrayDesc}
@@ -34,7 +33,7 @@ use Rattle.strat_promote.proofs.LeadLemmas.{read_whole}
 use Rattle.strat_promote.specs.Job.{IsBadInput, blocks_listed}
 use Rattle.strat_promote.specs.Leads.{misfit_in}
 use Rattle.def_recovery.proofs.OpeningLemmas.{map_some}
-use Rattle.def_recovery.specs.Head.{Head, head_changes, head_versions, head_updates, parent_numbers, descriptors}
+use Rattle.def_recovery.specs.Head.{Head, head_changes, head_marks, head_versions, head_updates, parent_numbers, descriptors}
 use Rattle.def_recovery.specs.Opened.{array_on, level_on, parents_in}
 use Rattle.def_recovery.specs.Opening.{belongs}
 use Rattle.def_meaning.specs.StateTable.{table_of}
@@ -47,12 +46,11 @@ use Rattle.def_publish.specs.Standing.{AreFree, LeavesContent, ShowsTable, Conte
 use Rattle.def_state.specs.Level.{TaggedArray, Level, own_leads, least_live}
 use Rattle.def_state.specs.Sound.{IsSound, are_accepted, is_described, has_ascending_entries}
 use Rattle.def_state.specs.State.{State, marks_after, versions_of, tree_after, update_of}
-use Rattle.def_state.proofs.UndroppedLemmas.{none_after_all}
 use Rattle.strat_publish.proofs.LookLawLemmas.{made_of}
-use Rattle.strat_publish.proofs.PartsLemmas.{accepted_back, accepted_with}
+use Rattle.strat_publish.proofs.PartsLemmas.{accepted_back}
 use Rattle.strat_publish.proofs.KeptLemmas.{array_named, held_behind, kept_next, named_behind}
 use Rattle.strat_publish.proofs.RetiringLemmas.{retired_room}
-use Rattle.strat_publish.proofs.SealedLemmas.{oldest_counts, parents_then, undropped_front, emptied_first, emptied_next, let_go, ready_cursors, ready_manifest, ready_of, ready_parents}
+use Rattle.strat_publish.proofs.SealedLemmas.{oldest_counts, parents_then, marks_then, emptied_first, emptied_next, let_go, ready_cursors, ready_manifest, ready_of, ready_parents}
 use Rattle.strat_publish.proofs.SettlingLemmas.{listed_arrays, named_there}
 use Rattle.strat_publish.specs.Outcomes.{IsDamagedIn, IsPublishedAs}
 use Rattle.strat_memory.specs.Filters.{LevelFilters, filters_after}
@@ -388,12 +386,12 @@ consistent_next s target sb chained levels made whole some full follows are spel
     let came : are_accepted s.sb.changes_max s.sb.versions_max (parents_in m) m.marks m.changes (front ++ drop s.sb.mem s.log.list) ≡ true =
     ap (λ (js : List Change). are_accepted s.sb.changes_max s.sb.versions_max (parents_in m) m.marks m.changes js) (take-append-drop s.sb.mem s.log.list) ∙ whole.accepted in
     let since = accepted_back s.sb.changes_max s.sb.versions_max front (drop s.sb.mem s.log.list) (parents_in m) m.marks m.changes came in
-    let marked : none_dropped (fold marks_after m.marks front) ≡ true = undropped_front h s.memory whole.memory in
-    let here = accepted_with s.sb.changes_max s.sb.versions_max (drop s.sb.mem s.log.list) (head_versions (head_full h)) (fold marks_after m.marks front) chained.manifest.marks (m.changes + length front)
-    marked follows.undropped since in
+    let marked : chained.manifest.marks ≡ fold marks_after m.marks front = follows.marks ∙ marks_then h s.memory whole.memory in
+    let marks : head_marks new ≡ head_marks h =
+    (λ i. fold marks_after (marked i) (behind i)) ∙ sym (fold-append marks_after m.marks front (drop s.sb.mem s.log.list)) ∙ ap (fold marks_after m.marks) (take-append-drop s.sb.mem s.log.list) in
     let many : chained.manifest.changes ≡ m.changes + length front = follows.changes ∙ counts.2 in
     let accepted : are_accepted sb.changes_max sb.versions_max (parents_in chained.manifest) chained.manifest.marks chained.manifest.changes later ≡ true =
-    (λ i. are_accepted (follows.changes_max i) (follows.versions_max i) (then i) chained.manifest.marks (many i) (behind i)) ∙ here in
+    (λ i. are_accepted (follows.changes_max i) (follows.versions_max i) (then i) (marked i) (many i) (behind i)) ∙ since in
     record {
       slot = omega arith;
       lawful = follows.lawful;
@@ -408,13 +406,12 @@ consistent_next s target sb chained levels made whole some full follows are spel
       };
       accepted = accepted;
       memory =
-          let undropped = none_after_all sb.changes_max sb.versions_max (parents_in chained.manifest) chained.manifest.marks chained.manifest.changes later follows.undropped accepted in
-          let here = let_go h new s.memory whole.memory some behind (let most = whole.log.few in omega (arith, left, most, follows.mem)) follows.mem follows.changes_max follows.versions_max versions updates changes undropped in
+          let here = let_go h new s.memory whole.memory some behind (let most = whole.log.few in omega (arith, left, most, follows.mem)) follows.mem follows.changes_max follows.versions_max versions updates changes marks in
           record {
             changes_max = here.changes_max;
             versions_max = here.versions_max;
             parents = here.parents;
-            undropped = here.undropped;
+            marks = here.marks;
             updates = here.updates;
             changes = here.changes;
             lists = here.lists;

@@ -1,5 +1,5 @@
 -- A publication of a store, step by step.
-use Rattle.std.specs.Prelude.{◌≡◌, ◌≢◌, ◌≤◌, ◌<◌, ℕ, ◌+◌, ◌-◌, ◌^◌, ◌++◌, Bool, List, length, filter, sum_by, nat_le, nat_lt, Option, Some, Ok, IsSome, IsTrue, replicate, suc, false}
+use Rattle.std.specs.Prelude.{◌≡◌, ◌≢◌, ◌≤◌, ◌<◌, ℕ, ◌+◌, ◌-◌, ◌^◌, ◌++◌, Bool, List, length, filter, sum_by, nat_le, nat_lt, Option, Some, Ok, IsSome, IsTrue}
 use Rattle.std.specs.Option.{option_to_list}
 use Rattle.strat_base.specs.declared.descriptors.Extent.{Extent}
 use Rattle.strat_base.specs.declared.descriptors.LevelDesc.{LevelDesc}
@@ -14,7 +14,7 @@ use Rattle.def_bytes.specs.Layout.{first_free, other_region, newest_format}
 use Rattle.def_bytes.specs.SuperBlock.{Super, newest_in}
 use Rattle.strat_journal.specs.Log.{Log}
 use Rattle.def_recovery.specs.Head.{parent_numbers}
-use Rattle.strat_memory.specs.Memory.{Memory, IsMemoryOf, oldest_changes, oldest_parents, oldest_updates}
+use Rattle.strat_memory.specs.Memory.{Memory, IsMemoryOf, oldest_changes, oldest_marks, oldest_parents, oldest_updates}
 use Rattle.strat_memory.specs.Filters.{LevelFilters, AreFiltersOf, AreFiltersOn, filters_after}
 use Rattle.def_state.specs.State.{IsPaid}
 use Rattle.def_promote.specs.Promoted.{SaysTheSame, levels_behind}
@@ -72,8 +72,8 @@ pub record IsWrittenTo (first size : ℕ) (chain : List Extent) (m : Manifest) (
   pub first_is : new.sb.manifest ≡ first
   pub length_is : new.sb.length ≡ size
 
--- the manifest after a promotion: the changes up to the seal are behind it, no version is dropped, and the level that was made
--- stands before those that are deeper than its number
+-- the manifest after a promotion: the changes up to the seal are behind it, drops too, and the level that was made stands before
+-- those that are deeper than its number
 abbrev pub manifest_after : Manifest → Memory → ℕ → Option LevelDesc → Manifest
 manifest_after old m target made = record {
   changes = oldest_changes m;
@@ -82,7 +82,7 @@ manifest_after old m target made = record {
   compacted = old.compacted;
   next_array = old.next_array + length (arrays_made made);
   parents = parent_numbers (oldest_parents m);
-  marks = replicate (suc (length (parent_numbers (oldest_parents m)))) false;
+  marks = oldest_marks m;
   levels = option_to_list made ++ filter (λ level. nat_lt target level.number) old.levels;
 }
 

@@ -34,11 +34,10 @@ use Rattle.def_state.specs.Sound.{journal_max}
 use Rattle.def_state.specs.State.{IsPaid}
 use Rattle.strat_memory.specs.Filters.{LevelFilters, AreFiltersOf, filters_after}
 use Rattle.strat_memory.specs.Held.{Held, IsOnDisk, StandsWith, arrays_held, blocks_named, contents_held}
-use Rattle.strat_memory.specs.Memory.{Memory, oldest_changes, oldest_parents, oldest_updates, renewed}
+use Rattle.strat_memory.specs.Memory.{Memory, oldest_changes, oldest_marks, oldest_parents, oldest_updates, renewed}
 use Rattle.strat_memory.specs.Paying.{ArePaidSince}
 use Rattle.strat_publish.specs.Counting.{KeepsCount}
 use Rattle.strat_publish.specs.Publishing.{IsComputed, descs_to, manifest_after}
-use Rattle.strat_base.specs.Marks.{none_dropped}
 
 -- the superblock after one, whose manifest begins in this block and is of so many bytes
 abbrev pub super_after : Super → ℕ → ℕ → Super
@@ -107,7 +106,7 @@ pub record MayFollow (s : Held) (sb : Super) (chained : Chained) : Type 0 where
   pub changes : chained.manifest.changes ≡ oldest_changes s.memory
   pub updates : chained.manifest.updates ≡ oldest_updates s.memory
   pub parents : chained.manifest.parents ≡ parent_numbers (oldest_parents s.memory)
-  pub undropped : IsTrue (none_dropped chained.manifest.marks)
+  pub marks : chained.manifest.marks ≡ oldest_marks s.memory
 
 -- a disk changed in blocks alone that are free beside what a store holds, whatever its levels say, and that no array has
 -- which is kept for a cursor

@@ -276,8 +276,9 @@ pub(crate) fn seal_for_next(
     if memory.is_sealed() {
         return Ok(());
     }
+    let marks = memory.marks(alloc)?;
     memory.prepare(alloc, mem)?;
-    memory.seal();
+    memory.seal(marks);
     Ok(())
 }
 

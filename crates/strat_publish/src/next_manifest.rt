@@ -1,6 +1,6 @@
 //! The next manifest of a store, computed in memory from the one before and from what a promotion made.
 
-ghost use Rattle.std.specs.Prelude.{◌≡◌, ◌≤◌, ◌<◌, ℕ, ◌+◌, ◌-◌, ◌*◌, ◌^◌, List, ◌++◌, Contains, filter, length, take, min, nat_lt, IsSome, IsTrue, IfOk, OnOk, OnErr, IsErrOf};
+ghost use Rattle.std.specs.Prelude.{◌≡◌, ◌≤◌, ◌<◌, ℕ, ◌+◌, ◌-◌, ◌*◌, ◌^◌, List, ◌++◌, filter, length, take, min, nat_lt, IsSome, IsTrue, IfOk, OnOk, OnErr, IsErrOf};
 ghost use Rattle.std.specs.Option.{option_to_list};
 ghost use Rattle.strat_base.specs.declared.descriptors.Extent.{Extent};
 ghost use Rattle.def_crash.specs.Blocks.{TearsBlocks};
@@ -32,7 +32,7 @@ use std::alloc::Global;
 use strat_base::{Extents, LevelDesc, NoMemory};
 use strat_disk::Disk;
 use strat_extent::Space;
-use strat_manifest::{LevelList, Manifest, Parents, is_writable, living_marks};
+use strat_manifest::{LevelList, Manifest, Parents, is_writable};
 use strat_memory::copying::add_copy;
 use strat_memory::memory::Memory;
 use strat_promote::obstacle::{Obstacle, Unfit};
@@ -126,7 +126,7 @@ fn next_counts(old: &Manifest, made: &Made) -> Result<(u64, u64), Unfit>
 }
 
 /// The manifest of the next checkpoint, in new memory: it counts the changes up to the seal and the entries of the new
-/// arrays, and lists the new level before the deeper ones. O(size). `Unfit`: counts that no store reaches.
+/// arrays, has the marks of the seal, and lists the new level before the deeper ones. O(size). `Unfit`: counts that no store reaches.
 pub(crate) fn next_manifest(
     alloc: Global,
     old: &Manifest,
@@ -145,8 +145,7 @@ pub(crate) fn next_manifest(
     let (_, _, tree) = memory.sealed_parts();
     let (versions, changes, updates) = memory.sealed_counts();
     let parents = parents_of(alloc, tree, versions)?;
-    // no build drops versions yet
-    let marks = living_marks(alloc, parents.len())?;
+    let marks = memory.sealed_marks(alloc)?;
     let levels = next_levels(alloc, made, old.levels.as_slice())?;
     Ok(Manifest {
         changes,

@@ -19,7 +19,7 @@ use Rattle.strat_promote.specs.Job.{blocks_listed}
 use Rattle.strat_model.specs.Answer.{Answer, accepts, plain}
 use Rattle.strat_model.specs.Pairs.{Pairs, set, unset}
 use Rattle.strat_model.specs.Run.{Position, is_carried_out, is_change, takes_memory}
-use Rattle.strat_model.specs.Step.{Outcome, clone, has_row, is_frozen, pairs_at, refuses, step, update, with_pairs}
+use Rattle.strat_model.specs.Step.{Outcome, clone, drop_version, has_row, is_frozen, pairs_at, refuses, step, update, with_dropped, with_pairs}
 use Rattle.strat_model.specs.Table.{Cursor, Table}
 use Rattle.strat_model.specs.declared.replies.Refusal.TheVariants as why
 use Rattle.strat_model.specs.declared.replies.Reply.TheVariants as reply
@@ -78,12 +78,27 @@ clone_beside t rows next v = by (has_row t v) (eqb (length t.rows) t.versions_ma
     by true false true = refl
     by true false false = refl
 
+drop_beside : (t : Table) (rows : List Cursor) (next v : ℕ) → drop_version (beside t rows next) v ≡ outcome_beside (drop_version t v) rows next
+drop_beside t rows next v = by (has_row t v) (eqb v 0) (is_frozen t v) (eqb t.changes t.changes_max)
+  where
+    choose : Bool → Bool → Bool → Bool → Table → Outcome
+    choose k first frozen full z =
+        if not k then refuses z why.UnknownVersion else if first then refuses z why.Root else if frozen then refuses z why.Frozen else if full then refuses z why.ChangeLimit else
+        record { answer = plain reply.Done; table = record z { rows = with_dropped z.rows v; changes = z.changes + 1 } }
+
+    by : (k first frozen full : Bool) → choose k first frozen full (beside t rows next) ≡ outcome_beside (choose k first frozen full t) rows next
+    by false first frozen full = refl
+    by true true frozen full = refl
+    by true false true full = refl
+    by true false false true = refl
+    by true false false false = refl
+
 -- a change does the same beside any cursors
 pub change_beside : (t : Table) (rows : List Cursor) (next : ℕ) (c : Change) → step (beside t rows next) (request_for c) ≡ outcome_beside (step t (request_for c)) rows next
 change_beside t rows next (change.Put v key value) = update_beside t rows next v (set key value (pairs_at t v))
 change_beside t rows next (change.Delete v key) = update_beside t rows next v (unset key (pairs_at t v))
 change_beside t rows next (change.Clone v) = clone_beside t rows next v
-change_beside t rows next (change.DropVersion v) = refl
+change_beside t rows next (change.DropVersion v) = drop_beside t rows next v
 
 -- a position with other cursors
 abbrev place_beside : Position → List Cursor → ℕ → Position

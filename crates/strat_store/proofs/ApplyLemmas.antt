@@ -7,7 +7,6 @@ use Rattle.std.specs.List.{list_any}
 use Rattle.std.specs.Option.{option_map_or}
 use Rattle.strat_base.specs.Change.{Change}
 use Rattle.strat_base.specs.Change as change
-use Rattle.strat_base.specs.Tree.{is_known}
 use Rattle.strat_array.specs.Kept.{Blocks}
 use Rattle.def_crash.specs.Image.{Image}
 use Rattle.def_crash.specs.Moments.{DiskView, Exposes, Since, OnlyReads}
@@ -53,7 +52,7 @@ use Rattle.strat_store.specs.Cursoring.{IsAppliedAt, is_of_cursor}
 use Rattle.strat_store.specs.Getting.{MayTellOfKey}
 use Rattle.strat_store.specs.Ranging.{HasPairs, HasPairsFor, MayTellOfRange, ReadsForLook, TellsFrom, TellsOfVersion}
 use Rattle.strat_memory.specs.Held.{Held, arrays_held, position_at, table_at, IsConsistent, StandsAt, StandsWith}
-use Rattle.strat_memory.specs.Memory.{Memory, info_told, stat_told, IsMemoryOf}
+use Rattle.strat_memory.specs.Memory.{Memory, info_told, stat_told, IsMemoryOf, has_version}
 use Rattle.strat_publish.specs.Settling.{LeavesPublished}
 
 -- the request of a change that is wanted
@@ -230,10 +229,10 @@ pairs_wanted (DropVersion v) c told out wanted other none = no_pairs told out ot
 pairs_wanted _ c told out wanted other none = absurd (cc)
 
 -- a version that is refused is not there, and a cursor that is refused is not open
-pub version_refused : (m : Memory) (v : ℕ) (q : Refusal) → (if is_known m.parents v then None else Some why.UnknownVersion) ≡ Some q → is_known m.parents v ≡ false
-version_refused m v q e = by (is_known m.parents v) refl e
+pub version_refused : (m : Memory) (v : ℕ) (q : Refusal) → (if has_version m v then None else Some why.UnknownVersion) ≡ Some q → has_version m v ≡ false
+version_refused m v q e = by (has_version m v) refl e
   where
-    by : (b : Bool) → is_known m.parents v ≡ b → (if b then None else Some why.UnknownVersion) ≡ Some q → is_known m.parents v ≡ false
+    by : (b : Bool) → has_version m v ≡ b → (if b then None else Some why.UnknownVersion) ≡ Some q → has_version m v ≡ false
     by true on e = absurd (cc)
     by false off e = off
 
@@ -245,20 +244,20 @@ cursor_refused m n q e = by (is_opened n m.cursors.opened) refl e
     by false off e = off
 
 -- as what is told of a version
-pub info_calm : (m : Memory) (version : ℕ) (told : Reply) → (is_known m.parents version ≡ true → told ≡ info_told m version) → (is_known m.parents version ≡ false → told ≡ reply.Refused why.UnknownVersion)
+pub info_calm : (m : Memory) (version : ℕ) (told : Reply) → (has_version m version ≡ true → told ≡ info_told m version) → (has_version m version ≡ false → told ≡ reply.Refused why.UnknownVersion)
     → is_fault told ≡ false
-info_calm m version told known unknown = by_test (is_known m.parents version) refl
+info_calm m version told known unknown = by_test (has_version m version) refl
   where
-    by_test : (b : Bool) → is_known m.parents version ≡ b → is_fault told ≡ false
+    by_test : (b : Bool) → has_version m version ≡ b → is_fault told ≡ false
     by_test true is = ap is_fault (known is)
     by_test false is = ap is_fault (unknown is)
 
 -- nor is want of memory told of a version, or of the store
-pub info_short : (m : Memory) (version : ℕ) (told : Reply) → (is_known m.parents version ≡ true → told ≡ info_told m version) → (is_known m.parents version ≡ false → told ≡ reply.Refused why.UnknownVersion)
+pub info_short : (m : Memory) (version : ℕ) (told : Reply) → (has_version m version ≡ true → told ≡ info_told m version) → (has_version m version ≡ false → told ≡ reply.Refused why.UnknownVersion)
     → told ≡ reply.Refused why.NoMemory → ⊥
-info_short m version told known unknown short = by_test (is_known m.parents version) refl
+info_short m version told known unknown short = by_test (has_version m version) refl
   where
-    by_test : (b : Bool) → is_known m.parents version ≡ b → ⊥
+    by_test : (b : Bool) → has_version m version ≡ b → ⊥
     by_test true is = let e : info_told m version ≡ reply.Refused why.NoMemory = sym (known is) ∙ short in cc
     by_test false is = let e : reply.Refused why.UnknownVersion ≡ reply.Refused why.NoMemory = sym (unknown is) ∙ short in cc
 
@@ -266,7 +265,7 @@ pub stat_short : (m : Memory) → stat_told m ≡ reply.Refused why.NoMemory →
 stat_short m short = cc
 
 -- so it is told
-pub info_says : (m : Memory) (version : ℕ) (told : Reply) → (is_known m.parents version ≡ true → told ≡ info_told m version) → (is_known m.parents version ≡ false → told ≡ reply.Refused why.UnknownVersion)
+pub info_says : (m : Memory) (version : ℕ) (told : Reply) → (has_version m version ≡ true → told ≡ info_told m version) → (has_version m version ≡ false → told ≡ reply.Refused why.UnknownVersion)
     → TellsOfVersion m version (plain told) (plain told ≡ plain (info_told m version))
 info_says m version told known unknown = (λ off. ap plain (unknown off), λ is. ap plain (known is))
 
@@ -353,12 +352,12 @@ module _ (v : DiskView) (s : Held) (x : Contents) (rows : List Cursor) (whole : 
   memory_here : IsMemoryOf (contents_head x) s.memory
   memory_here = subst (λ (z : Contents). IsMemoryOf (contents_head z) s.memory) (sym w.held) whole.memory
 
-  pub info_here : (version : ℕ) (told : Reply) → (is_known s.memory.parents version ≡ true → told ≡ info_told s.memory version) → (is_known s.memory.parents version ≡ false → told ≡ reply.Refused why.UnknownVersion)
+  pub info_here : (version : ℕ) (told : Reply) → (has_version s.memory version ≡ true → told ≡ info_told s.memory version) → (has_version s.memory version ≡ false → told ≡ reply.Refused why.UnknownVersion)
       → plain told ≡ (step (table_at s x rows) (Info version)).answer
   info_here version told known unknown =
-      by_test (is_known s.memory.parents version) refl ∙ sym (info_same (table_of (contents_state x)) rows s.memory.cursors.next version)
+      by_test (has_version s.memory version) refl ∙ sym (info_same (table_of (contents_state x)) rows s.memory.cursors.next version)
     where
-      by_test : (b : Bool) → is_known s.memory.parents version ≡ b → plain told ≡ (step (table_of (contents_state x)) (Info version)).answer
+      by_test : (b : Bool) → has_version s.memory version ≡ b → plain told ≡ (step (table_of (contents_state x)) (Info version)).answer
       by_test true is = ap plain (known is) ∙ sym (version_told here (contents_head x) (contents_state x) s.memory state_here memory_here version is)
       by_test false is = ap plain (unknown is) ∙ ap (λ o. o.answer) (sym (version_unknown here (contents_head x) (contents_state x) s.memory state_here memory_here version is))
 

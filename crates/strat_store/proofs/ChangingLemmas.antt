@@ -32,7 +32,7 @@ use Rattle.strat_model.specs.Table.{Table, bare}
 use Rattle.strat_model.specs.declared.replies.Refusal.TheVariants as why
 use Rattle.strat_model.specs.declared.replies.Reply.{Reply}
 use Rattle.strat_model.specs.declared.replies.Reply.TheVariants as reply
-use Rattle.def_recovery.specs.Head.{descriptors, head_marks}
+use Rattle.def_recovery.specs.Head.{descriptors}
 use Rattle.def_recovery.specs.Opened.{parents_in}
 use Rattle.def_recovery.specs.Opening.{state_of}
 use Rattle.def_meaning.specs.StateTable.{table_of, request_for}
@@ -155,11 +155,10 @@ module _ (r : OpenStore) (cached : Blocks) (kept : IsConsistent (held_of r cache
   module _ (c : Change) (lawful : is_lawful c ≡ true) (free : refusal_of_change r.memory c ≡ None) (room : length r.journal.list < 2 * r.sb.mem - 2) (newer : r.memory.sealed ≡ None → length r.journal.list < r.sb.mem) where
     accepted_last : are_accepted r.sb.changes_max r.sb.versions_max (parents_in (chained_of r.published).manifest) (chained_of r.published).manifest.marks (chained_of r.published).manifest.changes (r.journal.list ++ c ∷ []) ≡ true
     accepted_last =
-        let marks : Marks = head_marks (head_held (held_of r cached)) in
-        let one : is_accepted r.memory.changes_max r.memory.versions_max r.memory.parents marks r.memory.changes c ≡ true =
-        accepted_same r.memory marks c kept.memory.undropped ∙ ap (λ o. not (is_some o)) free in
+        let one : is_accepted r.memory.changes_max r.memory.versions_max r.memory.parents r.memory.marks r.memory.changes c ≡ true =
+        accepted_same r.memory c ∙ ap (λ o. not (is_some o)) free in
         accepted_more r.sb.changes_max r.sb.versions_max (parents_in (chained_of r.published).manifest) (chained_of r.published).manifest.marks (chained_of r.published).manifest.changes r.journal.list c kept.accepted
-        ((λ i. is_accepted (sym kept.memory.changes_max i) (sym kept.memory.versions_max i) (sym kept.memory.parents i) marks (sym kept.memory.changes i) c) ∙ one)
+        ((λ i. is_accepted (sym kept.memory.changes_max i) (sym kept.memory.versions_max i) (sym kept.memory.parents i) (sym kept.memory.marks i) (sym kept.memory.changes i) c) ∙ one)
 
     pub kept_more : (j : Log) (m : Memory) → j ≡ record r.journal { list = r.journal.list ++ c ∷ [] } → m ≡ memory_after r.memory c
         → IsConsistent (held_of (record r { journal = j; memory = m }) cached)

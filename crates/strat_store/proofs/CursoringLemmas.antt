@@ -9,7 +9,6 @@ use Rattle.strat_array.specs.Kept.{Blocks, IsBlockRead}
 use Rattle.strat_array.specs.Told.{TheirPairs}
 use Rattle.strat_base.proofs.ListFacts.{among_flat, among_in_flat, among_split, any_among, any_from, find_none}
 use Rattle.strat_base.specs.Entries.{Entry}
-use Rattle.strat_base.specs.Tree.{is_known}
 use Rattle.strat_base.specs.declared.descriptors.ArrayDesc.{ArrayDesc}
 use Rattle.strat_base.specs.declared.descriptors.LevelDesc.{LevelDesc}
 use Rattle.def_crash.specs.Blocks.{AgreeOn}
@@ -53,7 +52,7 @@ use Rattle.strat_store.specs.Applying.{FailsAsTold, is_fault}
 use Rattle.strat_publish.specs.Outcomes.{IsDamagedIn}
 use Rattle.strat_store.specs.Cursoring.{IsAppliedAt, cursors_after, reply_of_close, reply_of_next, reply_of_start}
 use Rattle.strat_memory.specs.Held.{Held, IsConsistent, IsOpenAt, StandsAt, StandsWith, arrays_held, contents_held, position_at, table_at}
-use Rattle.strat_memory.specs.Memory.{Memory, cursor_from, with_cursor, lists_in_memory}
+use Rattle.strat_memory.specs.Memory.{Memory, cursor_from, with_cursor, lists_in_memory, has_version}
 use Rattle.strat_store.specs.Ranging.{HasPairs, TellsOfCursor, TellsOfOpening, TellsOfVersion}
 use Rattle.strat_cursor.proofs.ThroughLemmas.{id_names}
 
@@ -188,15 +187,15 @@ module _ (v : DiskView) (s : Held) (x : Contents) (rows : List Cursor) (whole : 
   held_at = subst (λ (y : Contents). StandsAt v s y rows) at.stands.held at
 
   -- a version is known where the table has it
-  row_known : (n : ℕ) → is_known s.memory.parents n ≡ has_row t n
+  row_known : (n : ℕ) → has_version s.memory n ≡ has_row t n
   row_known n =
-      subst (λ (y : Contents). is_known s.memory.parents n ≡ has_row (table_of (contents_state y)) n) (sym at.stands.held)
+      subst (λ (y : Contents). has_version s.memory n ≡ has_row (table_of (contents_state y)) n) (sym at.stands.held)
       (known v s x.levels whole (subst (StandsWith v s) at.stands.held at.stands) n)
 
-  refused_of_unknown : (n : ℕ) (lo hi : List ℕ) → is_known s.memory.parents n ≡ false → step t (OpenCursor n lo hi) ≡ refuses t why.UnknownVersion
+  refused_of_unknown : (n : ℕ) (lo hi : List ℕ) → has_version s.memory n ≡ false → step t (OpenCursor n lo hi) ≡ refuses t why.UnknownVersion
   refused_of_unknown n lo hi off = rw (sym (row_known n) ∙ off) refl
 
-  refused_of_limit : (n : ℕ) (lo hi : List ℕ) → is_known s.memory.parents n ≡ true → length opened ≡ 64 → step t (OpenCursor n lo hi) ≡ refuses t why.CursorLimit
+  refused_of_limit : (n : ℕ) (lo hi : List ℕ) → has_version s.memory n ≡ true → length opened ≡ 64 → step t (OpenCursor n lo hi) ≡ refuses t why.CursorLimit
   refused_of_limit n lo hi is full = rw (sym (row_known n) ∙ is, eq-eqb (length rows) 64 (many ∙ full)) refl
 
   -- the table with one cursor more
@@ -209,14 +208,14 @@ module _ (v : DiskView) (s : Held) (x : Contents) (rows : List Cursor) (whole : 
     table = record t { cursors = started n lo hi; next_cursor = s.memory.cursors.next + 1 };
   }
 
-  started_by : (n : ℕ) (lo hi : List ℕ) → is_known s.memory.parents n ≡ true → length opened ≢ 64 → step t (OpenCursor n lo hi) ≡ outcome_of_start n lo hi
+  started_by : (n : ℕ) (lo hi : List ℕ) → has_version s.memory n ≡ true → length opened ≢ 64 → step t (OpenCursor n lo hi) ≡ outcome_of_start n lo hi
   started_by n lo hi is room = rw (sym (row_known n) ∙ is, ne_eqb (length rows) 64 (λ full. room (sym many ∙ full))) refl
 
   abbrev one_more : ℕ → List ℕ → List ℕ → Memory
   one_more n lo hi = record s.memory { cursors = with_cursor s.memory.cursors (cursor_from s.memory s.levels n lo hi) }
 
   -- the map of the version is what the cursor reads
-  reads_map : (n : ℕ) (lo hi : List ℕ) → is_known s.memory.parents n ≡ true → IsMapHeld f s.memory.parents (cursor_from s.memory s.levels n lo hi) (pairs_at t n)
+  reads_map : (n : ℕ) (lo hi : List ℕ) → has_version s.memory n ≡ true → IsMapHeld f s.memory.parents (cursor_from s.memory s.levels n lo hi) (pairs_at t n)
   reads_map n lo hi is =
       subst (λ (y : Contents). IsMapHeld f s.memory.parents (cursor_from s.memory s.levels n lo hi) (pairs_at (table_of (contents_state y)) n)) (sym at.stands.held)
       (go x.levels (subst (StandsWith v s) at.stands.held at.stands) (same_exposed (subst (StandsWith v s) at.stands.held at.stands)))
@@ -259,7 +258,7 @@ module _ (v : DiskView) (s : Held) (x : Contents) (rows : List Cursor) (whole : 
       by (inr new) = subst (λ (k : HeldCursor). MayGoOn f next k s.cached) (sym new) (start_goes_on n lo hi)
 
   -- an opening is answered as the table says, or memory ran out
-  unknown_not_opened : (n : ℕ) (lo hi : List ℕ) → is_known s.memory.parents n ≡ false
+  unknown_not_opened : (n : ℕ) (lo hi : List ℕ) → has_version s.memory n ≡ false
       → IsAppliedAt v s x rows (OpenCursor n lo hi) (plain (reply.Refused why.UnknownVersion)) (record s { spent = false })
   unknown_not_opened n lo hi off =
       let o = refused_of_unknown n lo hi off in
@@ -272,7 +271,7 @@ module _ (v : DiskView) (s : Held) (x : Contents) (rows : List Cursor) (whole : 
         place = place_of s.log.mem (position_at s x rows) (OpenCursor n lo hi) (refuses t why.UnknownVersion) o refl;
       })
 
-  known_opened : (n : ℕ) (lo hi : List ℕ) (r : Result ℕ CursorFault) (m : Memory) → is_known s.memory.parents n ≡ true
+  known_opened : (n : ℕ) (lo hi : List ℕ) (r : Result ℕ CursorFault) (m : Memory) → has_version s.memory n ≡ true
       → IfOk r (λ k. (k ≡ s.memory.cursors.next) × (m ≡ one_more n lo hi)) → OnErr r (m ≡ s.memory) → (IsErrOf r start_fault.CursorLimit ↔ (length opened ≡ 64))
       → IsAppliedAt v s x rows (OpenCursor n lo hi) (plain (reply_of_start r)) (record s { memory = m; spent = is_fault (reply_of_start r) })
   known_opened n lo hi (Ok k) m is opens same limit =
@@ -350,14 +349,14 @@ module _ (v : DiskView) (s : Held) (x : Contents) (rows : List Cursor) (whole : 
     left told = record s.memory { cursors = cursors_after s.memory s.levels (OpenCursor n lo hi) (plain told) }
 
     pub opened_applied : (told : Reply) → TellsOfVersion s.memory n (plain told) (TellsOfOpening s.memory.cursors (plain told)) → m ≡ left told → Opening told m
-    opened_applied told tells is = by (is_known s.memory.parents n) refl
+    opened_applied told tells is = by (has_version s.memory n) refl
       where
         told_so : (other : Reply) → plain told ≡ plain other → Opening other (left other) → Opening told m
         told_so other e applied =
             let same : told ≡ other = ap (λ (a : Answer). a.reply) e in
             subst (λ (r : Reply). Opening r m) (sym same) (subst (Opening other) (sym (is ∙ ap left same)) applied)
 
-        by_room : is_known s.memory.parents n ≡ true → (full : Bool) → eqb (length opened) 64 ≡ full → Opening told m
+        by_room : has_version s.memory n ≡ true → (full : Bool) → eqb (length opened) 64 ≡ full → Opening told m
         by_room on true test =
             let full = eqb-true (length opened) 64 test in
             told_so (reply.Refused why.CursorLimit) ((tells.1 on).0 full) (known_opened n lo hi (Err start_fault.CursorLimit) s.memory on tt refl (λ _. full, λ _. refl))
@@ -368,7 +367,7 @@ module _ (v : DiskView) (s : Held) (x : Contents) (rows : List Cursor) (whole : 
               | inr e ↦ told_so (reply.Refused why.NoMemory) e (known_opened n lo hi (Err start_fault.NoMemory) s.memory on tt refl (λ e. absurd (cc), λ full. absurd (room full)))
             ]
 
-        by : (b : Bool) → is_known s.memory.parents n ≡ b → Opening told m
+        by : (b : Bool) → has_version s.memory n ≡ b → Opening told m
         by false off = told_so (reply.Refused why.UnknownVersion) (tells.0 off) (unknown_not_opened n lo hi off)
         by true on = by_room on (eqb (length opened) 64) refl
 
@@ -462,10 +461,10 @@ module _ (v : DiskView) (s : Held) (x : Contents) (rows : List Cursor) (whole : 
         absurd (none_damaged v.content f of.0.arrays b at.stands.stands.exposed may.ordered (record { array = is.array; one = among_contained of.0.arrays is.array of.2; none = is.none }))
 
 -- what is told of cursors, by what is in memory
-pub unknown_told : (m : Memory) (n : ℕ) (Told : Type 0) → is_known m.parents n ≡ false → TellsOfVersion m n (plain (reply.Refused why.UnknownVersion)) Told
+pub unknown_told : (m : Memory) (n : ℕ) (Told : Type 0) → has_version m n ≡ false → TellsOfVersion m n (plain (reply.Refused why.UnknownVersion)) Told
 unknown_told m n Told off = (λ _. refl, λ is. absurd (true≢false (sym is ∙ off)))
 
-pub known_told : (m : Memory) (n : ℕ) (answer : Answer) (Told : Type 0) → is_known m.parents n ≡ true → Told → TellsOfVersion m n answer Told
+pub known_told : (m : Memory) (n : ℕ) (answer : Answer) (Told : Type 0) → has_version m n ≡ true → Told → TellsOfVersion m n answer Told
 known_told m n answer Told is told = (λ off. absurd (true≢false (sym is ∙ off)), λ _. told)
 
 pub numbers : (P : ℕ → Type 0) (n : ℕ) (r : Result ℕ CursorFault) → IfOk r (λ k. (k ≡ n) × P k) → IfOk r (λ k. k ≡ n)

@@ -9,7 +9,7 @@ use Rattle.strat_array.specs.declared.seen.Seen.{Seen}
 use Rattle.strat_array.specs.declared.seen.Seen.TheVariants as seen
 use Rattle.strat_base.proofs.ListFacts.{Among, any_among, among_in_flat}
 use Rattle.strat_base.specs.Entries.{Entry}
-use Rattle.strat_base.specs.Tree.{Parents, is_known}
+use Rattle.strat_base.specs.Tree.{Parents}
 use Rattle.strat_base.specs.declared.descriptors.ArrayDesc.{ArrayDesc}
 use Rattle.strat_base.specs.declared.descriptors.LevelDesc.{LevelDesc}
 use Rattle.strat_base.specs.declared.failures.Fault.{Fault}
@@ -48,7 +48,7 @@ use Rattle.strat_store.specs.Getting.{reply_of_get}
 use Rattle.strat_memory.specs.Filters.{LevelFilters}
 use Rattle.strat_memory.specs.Held.{Held, IsConsistent, IsOpenAt, StandsWith, arrays_held, contents_held, head_held}
 use Rattle.strat_cursor.specs.Looking.{levels_there, arrays_asked, arrays_there, AreInOrder, AreCachedFrom, LooksThrough, NamesNoBlock, HaveOwnIds}
-use Rattle.strat_memory.specs.Memory.{Memory, lists_in_memory}
+use Rattle.strat_memory.specs.Memory.{Memory, lists_in_memory, has_version}
 use Rattle.strat_cursor.proofs.HoldingLemmas.{asked_cached, asked_ordered}
 use Rattle.strat_cursor.proofs.ThroughLemmas.{still_cached}
 use Rattle.strat_publish.proofs.WholeLemmas.{whole_read}
@@ -171,26 +171,26 @@ module _ (v : DiskView) (s : Held) (levels : List Level) (whole : IsConsistent s
   cached = subst (λ (rs : List ArrayDesc). AreCachedFrom w.stands.content s.chained.manifest.next_array rs s.cached) (sym listed) w.cached
 
   -- a version is known where the table has it
-  pub known : (n : ℕ) → is_known s.memory.parents n ≡ has_row (table_of it) n
+  pub known : (n : ℕ) → has_version s.memory n ≡ has_row (table_of it) n
   known = known_of w.stands.content (head_held s) it s.memory read whole.memory
 
   -- and lives
-  pub living : (n : ℕ) → is_living it n ≡ true
+  pub living : (n : ℕ) → has_version s.memory n ≡ true → is_living it n ≡ true
   living = living_of w.stands.content (head_held s) it s.memory read whole.memory
 
-  stepped : (n : ℕ) (key : List ℕ) → is_known s.memory.parents n ≡ true → (step (table_of it) (Get n key)).answer ≡ found key (value_of (pairs_at (table_of it) n) key)
+  stepped : (n : ℕ) (key : List ℕ) → has_version s.memory n ≡ true → (step (table_of it) (Get n key)).answer ≡ found key (value_of (pairs_at (table_of it) n) key)
   stepped n key is =
       ap (λ (b : Bool). (if b then replies_with (table_of it) (found key (value_of (pairs_at (table_of it) n) key)) else refuses (table_of it) why.UnknownVersion).answer) (sym (known n) ∙ is)
 
   -- what is looked up is what the table has
-  pub asked_is : (n : ℕ) (key : List ℕ) → is_known s.memory.parents n ≡ true
+  pub asked_is : (n : ℕ) (key : List ℕ) → has_version s.memory n ≡ true
       → asked w.stands.content s.memory.parents (lists_in_memory s.memory) (levels_there s.levels) n key ≡ value_of (pairs_at (table_of it) n) key
   asked_is n key is =
       ap (λ (ds : List LevelDesc). asked w.stands.content s.memory.parents (lists_in_memory s.memory) ds n key) whole.placed.listed_are
       ∙ key_asked w.stands.content (head_held s) it s.memory read whole.memory w.stands.sound n key is
 
   -- also where filters are asked, which are of the keys of its arrays
-  pub filtered_is : (n : ℕ) (key : List ℕ) → is_known s.memory.parents n ≡ true
+  pub filtered_is : (n : ℕ) (key : List ℕ) → has_version s.memory n ≡ true
       → asked_filtered w.stands.content s.filters s.memory.parents (lists_in_memory s.memory) (levels_there s.levels) n key ≡ value_of (pairs_at (table_of it) n) key
   filtered_is n key is =
       let lies = (w.stands.reads w.stands.content w.stands.left).lies.arrays in
@@ -199,7 +199,7 @@ module _ (v : DiskView) (s : Held) (levels : List Level) (whole : IsConsistent s
       ap (λ (o : Option Entry). option_and_then (λ x. x.value) o) (filtered_agrees w.stands.content s.filters s.memory.parents n key (lists_in_memory s.memory) (levels_there s.levels) silent)
       ∙ asked_is n key is
 
-  accepted : (n : ℕ) (key : List ℕ) → is_known s.memory.parents n ≡ true → accepts (step (table_of it) (Get n key)).answer.reply ≡ true
+  accepted : (n : ℕ) (key : List ℕ) → has_version s.memory n ≡ true → accepts (step (table_of it) (Get n key)).answer.reply ≡ true
   accepted n key is = ap (λ (a : Answer). accepts a.reply) (stepped n key is) ∙ each (value_of (pairs_at (table_of it) n) key)
     where
       each : (o : Option (List ℕ)) → accepts (found key o).reply ≡ true
@@ -227,10 +227,10 @@ module _ (v : DiskView) (s : Held) (levels : List Level) (whole : IsConsistent s
               (open_as w.stands.content s (record s { cached = d }) y (length s.log.list) s.promoting refl refl w.open_over);
         }
 
-    not_there : (n : ℕ) (key : List ℕ) → is_known s.memory.parents n ≡ false → IsLookedUp now (record s { cached = d }) y (Get n key) (as_told (reply.Refused why.UnknownVersion) [])
+    not_there : (n : ℕ) (key : List ℕ) → has_version s.memory n ≡ false → IsLookedUp now (record s { cached = d }) y (Get n key) (as_told (reply.Refused why.UnknownVersion) [])
     not_there n key off = inl (sym (ap (λ (o : Outcome). o.answer) (key_unknown w.stands.content (head_held s) it s.memory read whole.memory n key off)), stays)
 
-    there : (n : ℕ) (key : List ℕ) (out : TheirPairs) (r : Result Seen Fault) → is_known s.memory.parents n ≡ true → IfOk r (FindsIt v.content s.filters s.memory.parents (lists_in_memory s.memory) s.levels n key s.cached out)
+    there : (n : ℕ) (key : List ℕ) (out : TheirPairs) (r : Result Seen Fault) → has_version s.memory n ≡ true → IfOk r (FindsIt v.content s.filters s.memory.parents (lists_in_memory s.memory) s.levels n key s.cached out)
         → OnErr r (out ≡ []) → ((b : ℕ) → IsErrOf r (fault.Damaged b) → NamesNoBlock v.content (arrays_there s.levels) b)
         → IsLookedUp now (record s { cached = d }) y (Get n key) (as_told (reply_of_get r) out)
     there n key out (Ok told) is tells none names =
@@ -247,13 +247,13 @@ module _ (v : DiskView) (s : Held) (levels : List Level) (whole : IsConsistent s
 -- whatever contents it stands with
 module _ (v now : DiskView) (s : Held) (x : Contents) (d : Blocks) (n : ℕ) (key : List ℕ) (out : TheirPairs) (whole : IsConsistent s) (w : StandsWith v s x)
     (looks : LooksThrough v now (arrays_there s.levels) s.cached d) (leaves : LeavesContent now) where
-  pub unknown_looked_up : is_known s.memory.parents n ≡ false → out ≡ [] → IsLookedUp now (record s { cached = d }) x (Get n key) (as_told (reply.Refused why.UnknownVersion) out)
+  pub unknown_looked_up : has_version s.memory n ≡ false → out ≡ [] → IsLookedUp now (record s { cached = d }) x (Get n key) (as_told (reply.Refused why.UnknownVersion) out)
   unknown_looked_up off none =
       subst (λ (z : Contents). IsLookedUp now (record s { cached = d }) z (Get n key) (as_told (reply.Refused why.UnknownVersion) out)) (sym w.held)
       (subst (λ (ps : TheirPairs). IsLookedUp now (record s { cached = d }) (contents_held s x.levels) (Get n key) (as_told (reply.Refused why.UnknownVersion) ps)) (sym none)
       (not_there v s x.levels whole (subst (StandsWith v s) w.held w) now d looks leaves n key off))
 
-  pub known_looked_up : (r : Result Seen Fault) → is_known s.memory.parents n ≡ true → IfOk r (FindsIt v.content s.filters s.memory.parents (lists_in_memory s.memory) s.levels n key s.cached out)
+  pub known_looked_up : (r : Result Seen Fault) → has_version s.memory n ≡ true → IfOk r (FindsIt v.content s.filters s.memory.parents (lists_in_memory s.memory) s.levels n key s.cached out)
       → OnErr r (out ≡ []) → ((b : ℕ) → IsErrOf r (fault.Damaged b) → NamesNoBlock v.content (arrays_there s.levels) b)
       → IsLookedUp now (record s { cached = d }) x (Get n key) (as_told (reply_of_get r) out)
   known_looked_up r is tells none names =

@@ -1,7 +1,6 @@
 -- What a store says of a range: level 0 and its levels answer as its table.
 use Rattle.strat_store.specs.Exporting.{IsReadWhole}
 use Rattle.std.proofs.Common.{◌≡◌, ◌≤◌, ◌<◌, ℕ, suc, Bool, true, false, inl, inr, List, [], ◌∷◌, ◌++◌, length, map, if◌then◌else◌, Option, Some, None, Result, Ok, Err, IfOk, OnErr, IsErrOf, refl, sym, ap, ◌∙◌, subst, arith, true≢false}
-use Rattle.std.proofs.lemmas.Bool.{ltb-true}
 use Rattle.std.proofs.lemmas.List.Elements.{Contains-append_left}
 use Rattle.std.specs.BTreeMap.{insert_entry}
 use Rattle.std.specs.List.{filter_map, cons_option, fold}
@@ -11,7 +10,7 @@ use Rattle.strat_array.specs.Kept.{Blocks}
 use Rattle.strat_array.specs.Told.{TheirPairs}
 use Rattle.strat_base.specs.Entries.{Entry}
 use Rattle.strat_base.specs.Order.{key_cmp}
-use Rattle.strat_base.specs.Tree.{Parents, is_known}
+use Rattle.strat_base.specs.Tree.{Parents}
 use Rattle.strat_base.specs.declared.descriptors.ArrayDesc.{ArrayDesc}
 use Rattle.strat_base.specs.declared.descriptors.LevelDesc.{LevelDesc}
 use Rattle.strat_base.specs.declared.failures.Fault.{Fault}
@@ -43,12 +42,13 @@ use Rattle.def_state.specs.Level.{Level}
 use Rattle.def_state.specs.LookUp.{looked_up, first_live}
 use Rattle.def_state.specs.Maps.{map_over, with_value, value_over}
 use Rattle.def_state.specs.State.{State, versions_of, sources}
+use Rattle.def_state.proofs.MarkLemmas.{there_known}
 use Rattle.strat_store.proofs.GettingLemmas.{blamed, none_damaged, it, ordered, cached, known, asked_is, stays, living}
 use Rattle.strat_publish.proofs.WholeLemmas.{whole_read}
 use Rattle.strat_store.specs.Applying.{is_fault, IsLookedUp}
 use Rattle.strat_publish.specs.Outcomes.{IsDamagedIn}
 use Rattle.strat_memory.specs.Held.{Held, IsConsistent, StandsWith, contents_held}
-use Rattle.strat_memory.specs.Memory.{Memory, lists_in_memory}
+use Rattle.strat_memory.specs.Memory.{Memory, lists_in_memory, has_version}
 use Rattle.strat_store.specs.Ranging.{reply_of_scan, HasPairs, IsMapAsked}
 
 -- what is made of what is picked is picked of what is made
@@ -178,31 +178,31 @@ module _ (v : DiskView) (s : Held) (levels : List Level) (whole : IsConsistent s
   abbrev table_pairs : ℕ → Pairs
   table_pairs n = pairs_at (table_of state) n
 
-  stepped : (n : ℕ) (lo hi : List ℕ) (limit : ℕ) → is_known s.memory.parents n ≡ true → (step (table_of state) (Scan n lo hi limit)).answer ≡ page (range (table_pairs n) lo hi) limit
+  stepped : (n : ℕ) (lo hi : List ℕ) (limit : ℕ) → has_version s.memory n ≡ true → (step (table_of state) (Scan n lo hi limit)).answer ≡ page (range (table_pairs n) lo hi) limit
   stepped n lo hi limit is =
       ap (λ (b : Bool). (if b then replies_with (table_of state) (page (range (table_pairs n) lo hi) limit) else refuses (table_of state) why.UnknownVersion).answer)
       (sym (known v s levels whole w n) ∙ is)
 
-  unknown : (n : ℕ) (lo hi : List ℕ) (limit : ℕ) → is_known s.memory.parents n ≡ false → (step (table_of state) (Scan n lo hi limit)).answer ≡ as_told (reply.Refused why.UnknownVersion) []
+  unknown : (n : ℕ) (lo hi : List ℕ) (limit : ℕ) → has_version s.memory n ≡ false → (step (table_of state) (Scan n lo hi limit)).answer ≡ as_told (reply.Refused why.UnknownVersion) []
   unknown n lo hi limit off =
       ap (λ (b : Bool). (if b then replies_with (table_of state) (page (range (table_pairs n) lo hi) limit) else refuses (table_of state) why.UnknownVersion).answer)
       (sym (known v s levels whole w n) ∙ off)
 
   -- its map is what is asked
-  pub table_asked : (n : ℕ) → is_known s.memory.parents n ≡ true → IsMapAsked w.stands.content s.memory.parents (lists_in_memory s.memory) s.levels n (table_pairs n)
+  pub table_asked : (n : ℕ) → has_version s.memory n ≡ true → IsMapAsked w.stands.content s.memory.parents (lists_in_memory s.memory) s.levels n (table_pairs n)
   table_asked n is =
-      let here : n < length (versions_of state) = subst (λ (ps : Parents). n < length ps) whole.memory.parents (ltb-true n (length s.memory.parents) is) in
+      let here : n < length (versions_of state) = subst (λ (ps : Parents). n < length ps) whole.memory.parents (there_known s.memory.parents s.memory.marks n is) in
       record {
-        ordered = subst IsMap (sym (pairs_same state n here ∙ ap (λ (b : Bool). if b then map_over (versions_of state) (sources state) n else []) (living v s levels whole w n))) (map_is (versions_of state) (sources state) n);
+        ordered = subst IsMap (sym (pairs_same state n here ∙ ap (λ (b : Bool). if b then map_over (versions_of state) (sources state) n else []) (living v s levels whole w n is))) (map_is (versions_of state) (sources state) n);
         each = λ key. sym (asked_is v s levels whole w n key is);
       }
 
   module _ (now : DiskView) (d : Blocks) (looks : LooksThrough v now (arrays_there s.levels) s.cached d) (leaves : LeavesContent now) where
-    not_there : (n : ℕ) (lo hi : List ℕ) (limit : ℕ) → is_known s.memory.parents n ≡ false
+    not_there : (n : ℕ) (lo hi : List ℕ) (limit : ℕ) → has_version s.memory n ≡ false
         → IsLookedUp now (record s { cached = d }) (contents_held s levels) (Scan n lo hi limit) (as_told (reply.Refused why.UnknownVersion) [])
     not_there n lo hi limit off = inl (sym (unknown n lo hi limit off), stays v s levels whole w now d looks leaves)
 
-    there : (n : ℕ) (lo hi : List ℕ) (limit : ℕ) (out : TheirPairs) (r : Result Bool Fault) → is_known s.memory.parents n ≡ true
+    there : (n : ℕ) (lo hi : List ℕ) (limit : ℕ) (out : TheirPairs) (r : Result Bool Fault) → has_version s.memory n ≡ true
         → IfOk r (FindsRange v.content s.memory.parents (lists_in_memory s.memory) s.levels n lo hi limit s.cached out) → OnErr r (out ≡ [])
         → ((b : ℕ) → IsErrOf r (fault.Damaged b) → NamesNoBlock v.content (arrays_there s.levels) b)
         → IsLookedUp now (record s { cached = d }) (contents_held s levels) (Scan n lo hi limit) (as_told (reply_of_scan r) out)
@@ -221,13 +221,13 @@ module _ (v : DiskView) (s : Held) (levels : List Level) (whole : IsConsistent s
 -- whatever contents it stands with
 module _ (v now : DiskView) (s : Held) (x : Contents) (d : Blocks) (n : ℕ) (lo hi : List ℕ) (limit : ℕ) (out : TheirPairs) (whole : IsConsistent s) (w : StandsWith v s x)
     (looks : LooksThrough v now (arrays_there s.levels) s.cached d) (leaves : LeavesContent now) where
-  pub unknown_range : is_known s.memory.parents n ≡ false → out ≡ [] → IsLookedUp now (record s { cached = d }) x (Scan n lo hi limit) (as_told (reply.Refused why.UnknownVersion) out)
+  pub unknown_range : has_version s.memory n ≡ false → out ≡ [] → IsLookedUp now (record s { cached = d }) x (Scan n lo hi limit) (as_told (reply.Refused why.UnknownVersion) out)
   unknown_range off none =
       subst (λ (z : Contents). IsLookedUp now (record s { cached = d }) z (Scan n lo hi limit) (as_told (reply.Refused why.UnknownVersion) out)) (sym w.held)
       (subst (λ (ps : TheirPairs). IsLookedUp now (record s { cached = d }) (contents_held s x.levels) (Scan n lo hi limit) (as_told (reply.Refused why.UnknownVersion) ps)) (sym none)
       (not_there v s x.levels whole (subst (StandsWith v s) w.held w) now d looks leaves n lo hi limit off))
 
-  pub known_range : (r : Result Bool Fault) → is_known s.memory.parents n ≡ true → IfOk r (FindsRange v.content s.memory.parents (lists_in_memory s.memory) s.levels n lo hi limit s.cached out)
+  pub known_range : (r : Result Bool Fault) → has_version s.memory n ≡ true → IfOk r (FindsRange v.content s.memory.parents (lists_in_memory s.memory) s.levels n lo hi limit s.cached out)
       → OnErr r (out ≡ []) → ((b : ℕ) → IsErrOf r (fault.Damaged b) → NamesNoBlock v.content (arrays_there s.levels) b)
       → IsLookedUp now (record s { cached = d }) x (Scan n lo hi limit) (as_told (reply_of_scan r) out)
   known_range r is tells none names =
@@ -245,7 +245,7 @@ pairs_scanned (Err (fault.Damaged b)) out limit fills none = none
 one_image : (o : Option Image) (f g : Image) → o ≡ Some f → o ≡ Some g → f ≡ g
 one_image o f g left right = let both : Some f ≡ Some g = sym left ∙ right in cc
 
-held_read : (v : DiskView) (s : Held) (levels : List Level) (f : Image) (n : ℕ) → IsConsistent s → StandsWith v s (contents_held s levels) → v.content ≡ Some f → is_known s.memory.parents n ≡ true
+held_read : (v : DiskView) (s : Held) (levels : List Level) (f : Image) (n : ℕ) → IsConsistent s → StandsWith v s (contents_held s levels) → v.content ≡ Some f → has_version s.memory n ≡ true
     → IsReadWhole f s n (pairs_at (table_of (contents_state (contents_held s levels))) n)
 held_read v s levels f n whole w exposed is =
     let m = pairs_at (table_of (contents_state (contents_held s levels))) n in
@@ -257,7 +257,7 @@ held_read v s levels f n whole w exposed is =
       seen = map_seen g s.memory.parents (lists_in_memory s.memory) s.levels n m (table_asked v s levels whole w n is);
     })
 
-pub read_whole : (v : DiskView) (s : Held) (x : Contents) (f : Image) (n : ℕ) → IsConsistent s → StandsWith v s x → v.content ≡ Some f → is_known s.memory.parents n ≡ true
+pub read_whole : (v : DiskView) (s : Held) (x : Contents) (f : Image) (n : ℕ) → IsConsistent s → StandsWith v s x → v.content ≡ Some f → has_version s.memory n ≡ true
     → IsReadWhole f s n (pairs_at (table_of (contents_state x)) n)
 read_whole v s x f n whole w exposed is =
     subst (λ (z : Contents). IsReadWhole f s n (pairs_at (table_of (contents_state z)) n)) (sym w.held) (held_read v s x.levels f n whole (subst (StandsWith v s) w.held w) exposed is)

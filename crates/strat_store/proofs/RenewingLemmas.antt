@@ -4,7 +4,7 @@ use Rattle.std.proofs.lemmas.List.{length-drop}
 use Rattle.strat_array.specs.Kept.{Blocks}
 use Rattle.strat_base.specs.Change.{Change}
 use Rattle.strat_base.specs.Change as change
-use Rattle.strat_base.specs.Tree.{is_known, has_child}
+use Rattle.strat_base.specs.Marks.{has_living_child}
 use Rattle.strat_base.specs.declared.failures.Trouble.{Trouble}
 use Rattle.strat_base.specs.declared.failures.Trouble.TheVariants as trouble
 use Rattle.def_crash.specs.Moments.{DiskView, Passes}
@@ -28,7 +28,7 @@ use Rattle.def_publish.proofs.FreeLemmas.{shows_contents}
 use Rattle.strat_store.specs.Applying.{IsAppliedTo, FollowsStep, tells_fault, table_left, refusal_of_trouble}
 use Rattle.strat_publish.specs.Outcomes.{IsPublishedAs}
 use Rattle.strat_memory.specs.Held.{head_held, IsConsistent, StandsWith, position_with}
-use Rattle.strat_memory.specs.Memory.{Memory, refusal_of_change}
+use Rattle.strat_memory.specs.Memory.{Memory, refusal_of_change, has_version}
 use Rattle.strat_memory.specs.RecoveredFields.{held_of}
 use Rattle.strat_store.specs.Applying.{held_after}
 use Rattle.strat_memory.specs.declared.open_store.OpenStore.{OpenStore}
@@ -36,26 +36,32 @@ use Rattle.strat_store.proofs.ChangingLemmas.{changes_it, state_held, acceptable
 use Rattle.strat_store.proofs.GoingLemmas.{stands_spent}
 use Rattle.strat_memory.proofs.MemoryLawLemmas.{change_refused}
 
--- one of three refusals, of which each has this
+-- one of three refusals, or of four, of which each has this
 of_three : (P : Refusal → Type 0) (k f l : Bool) (a b c r : Refusal) → P a → P b → P c → (if not k then Some a else if f then Some b else if l then Some c else None) ≡ Some r → P r
 of_three P false f l a b c r x y z e = let same : a ≡ r = cc in subst P same x
 of_three P true true l a b c r x y z e = let same : b ≡ r = cc in subst P same y
 of_three P true false true a b c r x y z e = let same : c ≡ r = cc in subst P same z
 of_three P true false false a b c r x y z e = absurd (cc)
 
-of_change : (P : Refusal → Type 0) (m : Memory) (c : Change) (q : Refusal) → P why.UnknownVersion → P why.Frozen → P why.VersionLimit → P why.ChangeLimit → refusal_of_change m c ≡ Some q → P q
-of_change P m (change.Put v key value) q u f vl cl e = of_three P (is_known m.parents v) (has_child m.parents v) (eqb m.changes m.changes_max) why.UnknownVersion why.Frozen why.ChangeLimit q u f cl e
-of_change P m (change.Delete v key) q u f vl cl e = of_three P (is_known m.parents v) (has_child m.parents v) (eqb m.changes m.changes_max) why.UnknownVersion why.Frozen why.ChangeLimit q u f cl e
-of_change P m (change.Clone v) q u f vl cl e = of_three P (is_known m.parents v) (eqb (length m.parents) m.versions_max) (eqb m.changes m.changes_max) why.UnknownVersion why.VersionLimit why.ChangeLimit q u vl cl e
-of_change P m (change.DropVersion v) q u f vl cl e = let same : why.UnknownVersion ≡ q = cc in subst P same u
+of_four : (P : Refusal → Type 0) (k z f l : Bool) (a b c d r : Refusal) → P a → P b → P c → P d → (if not k then Some a else if z then Some b else if f then Some c else if l then Some d else None) ≡ Some r → P r
+of_four P false z f l a b c d r w x y v e = let same : a ≡ r = cc in subst P same w
+of_four P true true f l a b c d r w x y v e = let same : b ≡ r = cc in subst P same x
+of_four P true false f l a b c d r w x y v e = of_three P true f l a c d r w y v e
+
+of_change : (P : Refusal → Type 0) (m : Memory) (c : Change) (q : Refusal) → P why.UnknownVersion → P why.Root → P why.Frozen → P why.VersionLimit → P why.ChangeLimit → refusal_of_change m c ≡ Some q → P q
+of_change P m (change.Put v key value) q u z f vl cl e = of_three P (has_version m v) (has_living_child m.parents m.marks v) (eqb m.changes m.changes_max) why.UnknownVersion why.Frozen why.ChangeLimit q u f cl e
+of_change P m (change.Delete v key) q u z f vl cl e = of_three P (has_version m v) (has_living_child m.parents m.marks v) (eqb m.changes m.changes_max) why.UnknownVersion why.Frozen why.ChangeLimit q u f cl e
+of_change P m (change.Clone v) q u z f vl cl e = of_three P (has_version m v) (eqb (length m.parents) m.versions_max) (eqb m.changes m.changes_max) why.UnknownVersion why.VersionLimit why.ChangeLimit q u vl cl e
+of_change P m (change.DropVersion v) q u z f vl cl e =
+    of_four P (has_version m v) (eqb v 0) (has_living_child m.parents m.marks v) (eqb m.changes m.changes_max) why.UnknownVersion why.Root why.Frozen why.ChangeLimit q u z f cl e
 
 -- a change that is refused tells of no fault
 refused_calm : (m : Memory) (c : Change) (q : Refusal) → refusal_of_change m c ≡ Some q → tells_fault q ≡ false
-refused_calm m c q e = of_change (λ (r : Refusal). tells_fault r ≡ false) m c q refl refl refl refl e
+refused_calm m c q e = of_change (λ (r : Refusal). tells_fault r ≡ false) m c q refl refl refl refl refl e
 
 -- nor of want of memory
 pub refused_not_short : (m : Memory) (c : Change) (q : Refusal) → refusal_of_change m c ≡ Some q → reply.Refused q ≡ reply.Refused why.NoMemory → ⊥
-refused_not_short m c q e = of_change (λ (r : Refusal). reply.Refused r ≡ reply.Refused why.NoMemory → ⊥) m c q (λ short. cc) (λ short. cc) (λ short. cc) (λ short. cc) e
+refused_not_short m c q e = of_change (λ (r : Refusal). reply.Refused r ≡ reply.Refused why.NoMemory → ⊥) m c q (λ short. cc) (λ short. cc) (λ short. cc) (λ short. cc) (λ short. cc) e
 
 -- and changes nothing
 module _ (r : OpenStore) (cached : Blocks) (kept : IsConsistent (held_of r cached)) (v : DiskView) (x : Contents) (stands : StandsWith v (held_of r cached) x)

@@ -6,7 +6,6 @@ use Rattle.def_crash.specs.Moments.{DiskView, Exposes, OnlyReads}
 use Rattle.def_crash.specs.Trail.{Trail}
 use Rattle.strat_base.specs.Change.{Change}
 use Rattle.strat_base.specs.Change as change
-use Rattle.strat_base.specs.Tree.{is_known}
 use Rattle.strat_base.specs.declared.failures.Trouble.{Trouble}
 use Rattle.strat_base.specs.declared.failures.Trouble.TheVariants as trouble
 use Rattle.def_bytes.specs.Arrays.{block_on}
@@ -25,7 +24,7 @@ use Rattle.def_publish.specs.Standing.{ShowsTable}
 use Rattle.strat_memory.specs.Held.{Held, IsOpenAt, StandsWith, arrays_held, position_with}
 use Rattle.strat_cursor.specs.Cursors.{is_opened}
 use Rattle.strat_cursor.specs.Looking.{LooksThrough}
-use Rattle.strat_memory.specs.Memory.{Memory, IsReadyFrom, refusal_of_change}
+use Rattle.strat_memory.specs.Memory.{Memory, IsReadyFrom, refusal_of_change, has_version}
 use Rattle.strat_array.specs.Kept.{Blocks}
 use Rattle.strat_memory.specs.declared.open_store.OpenStore.{OpenStore}
 use Rattle.strat_memory.specs.RecoveredFields.{held_of}
@@ -122,9 +121,9 @@ pub record FailsAsTold (before now : ℕ) (told : Reply) : Type 0 where
 -- of the number
 abbrev pub refusal_of_look : Memory → Request → Option Refusal
 refusal_of_look m (Get version key) =
-    if is_known m.parents version then None else Some why.UnknownVersion
+    if has_version m version then None else Some why.UnknownVersion
 refusal_of_look m (Scan version lo hi limit) =
-    if is_known m.parents version then None else Some why.UnknownVersion
+    if has_version m version then None else Some why.UnknownVersion
 refusal_of_look m (NextPairs number limit) =
     if is_opened number m.cursors.opened then None else Some why.UnknownCursor
 refusal_of_look m _ = None

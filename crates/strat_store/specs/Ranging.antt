@@ -2,7 +2,7 @@
 use Rattle.std.specs.Prelude.{◌≡◌, ◌≢◌, ◌⊎◌, ℕ, Bool, true, false, if◌then◌else◌, List, [], length, Contains, Option, None, Result, Ok, Err}
 use Rattle.strat_base.specs.declared.limits.TheConstants.{CURSORS_MAX}
 use Rattle.strat_base.specs.Entries.{Entry}
-use Rattle.strat_base.specs.Tree.{Parents, is_known}
+use Rattle.strat_base.specs.Tree.{Parents}
 use Rattle.strat_base.specs.declared.descriptors.ArrayDesc.{ArrayDesc}
 use Rattle.strat_base.specs.declared.descriptors.LevelDesc.{LevelDesc}
 use Rattle.strat_base.specs.declared.failures.Fault.{Fault}
@@ -25,7 +25,7 @@ use Rattle.strat_store.specs.Applying.{change_wanted}
 use Rattle.strat_store.specs.Filtering.{arrays_unrefused, asked_filtered}
 use Rattle.strat_store.specs.Getting.{MayTellOfKey}
 use Rattle.strat_memory.specs.Held.{Held}
-use Rattle.strat_memory.specs.Memory.{Memory, info_told, lists_in_memory, stat_told}
+use Rattle.strat_memory.specs.Memory.{Memory, info_told, lists_in_memory, stat_told, has_version}
 
 -- what is told of a range after a scan, or after the fault that ended it
 abbrev pub reply_of_scan : Result Bool Fault → Reply
@@ -65,8 +65,8 @@ HasPairsFor request answer = HasPairs (page_limit request) answer.reply answer.p
 -- what is told of a version that is there is this, and of any other that there is none
 abbrev pub TellsOfVersion : Memory → ℕ → Answer → Type 0 → Type 0
 TellsOfVersion m version answer Told =
-    (is_known m.parents version ≡ false → answer ≡ refusal why.UnknownVersion)
-    × (is_known m.parents version ≡ true → Told)
+    (has_version m version ≡ false → answer ≡ refusal why.UnknownVersion)
+    × (has_version m version ≡ true → Told)
 
 -- a cursor was opened with the next number, or memory ran out, and 64 cursors are the most
 abbrev pub TellsOfOpening : HeldCursors → Answer → Type 0
@@ -94,12 +94,12 @@ pub record AreReadAs (f : Image) (s : Held) (v : ℕ) : Type 0 where
 -- the arrays that are asked at a version, and none where it is not there
 abbrev pub arrays_of_version : Held → ℕ → List ArrayDesc
 arrays_of_version s version =
-    if is_known s.memory.parents version then arrays_asked s.memory.parents s.levels version else []
+    if has_version s.memory version then arrays_asked s.memory.parents s.levels version else []
 
 -- those of them whose filter does not refuse a key
 abbrev pub arrays_of_key : Held → ℕ → List ℕ → List ArrayDesc
 arrays_of_key s version key =
-    if is_known s.memory.parents version
+    if has_version s.memory version
     then arrays_unrefused s.filters s.memory.parents s.levels version key else []
 
 -- the arrays that a look-up may read: those of its version, for a get without those that refuse its key, or those of its

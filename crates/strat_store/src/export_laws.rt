@@ -1,18 +1,16 @@
 //! Laws of a store whose version is read whole. Each is the contract of a function that does nothing.
 
-ghost use Rattle.std.specs.Prelude.{◌≡◌, ℕ, true, Option, Some};
-ghost use Rattle.strat_base.specs.Tree.{is_known};
-ghost use Rattle.strat_base.specs.declared.descriptors.ArrayDesc.{ArrayDesc};
+ghost use Rattle.std.specs.Prelude.{◌≡◌, ℕ, true, Option};
 ghost use Rattle.def_crash.specs.Image.{Image};
 ghost use Rattle.def_crash.specs.Moments.{Exposes};
 ghost use Rattle.def_meaning.specs.StateTable.{table_of};
 ghost use Rattle.def_publish.specs.Contents.{Contents, contents_state};
-ghost use Rattle.def_recovery.specs.Bad.{IsBad};
-ghost use Rattle.strat_cursor.specs.Looking.{NamesNoBlock, arrays_asked, arrays_there};
-ghost use Rattle.strat_memory.specs.Held.{Held, IsConsistent, StandsWith, arrays_held};
+ghost use Rattle.strat_cursor.specs.Looking.{NamesNoBlock, arrays_asked};
+ghost use Rattle.strat_memory.specs.Held.{Held, IsConsistent, StandsWith};
 ghost use Rattle.strat_model.specs.Step.{pairs_at};
 ghost use Rattle.strat_publish.specs.Outcomes.{IsDamagedIn};
 ghost use Rattle.strat_store.specs.Exporting.{IsReadWhole};
+ghost use Rattle.strat_memory.specs.Memory.{has_version};
 
 use strat_disk::Disk;
 
@@ -21,7 +19,7 @@ use strat_disk::Disk;
 pub fn a_version_is_read_from_its_arrays<D: Disk>()
     ensures ok { (d : D) (s : Held) (x : Contents) (f : Image) (v : ℕ) → IsConsistent s
         → StandsWith (D.view d) s x → Exposes (D.view d) f
-        → is_known s.memory.parents v ≡ true
+        → has_version s.memory v ≡ true
         → IsReadWhole f s v (pairs_at (table_of (contents_state x)) v) }
     ensures damaged { (d : D) (s : Held) (x : Contents) (f : Image) (v b : ℕ) → IsConsistent s
         → StandsWith (D.view d) s x → Exposes (D.view d) f

@@ -2,7 +2,6 @@
 
 ghost use Rattle.std.specs.Prelude.{◌≡◌, ◌≢◌, ◌<◌, ℕ, [], length, true, false, None};
 ghost use Rattle.strat_array.specs.Kept.{Blocks};
-ghost use Rattle.strat_base.specs.Tree.{is_known};
 ghost use Rattle.def_crash.specs.Image.{Image};
 ghost use Rattle.def_crash.specs.Moments.{Exposes};
 ghost use Rattle.def_bytes.specs.Arrays.{block_on};
@@ -17,7 +16,7 @@ ghost use Rattle.strat_store.specs.Filtering.{arrays_unrefused, asked_filtered};
 ghost use Rattle.strat_publish.specs.Outcomes.{IsDamagedIn};
 ghost use Rattle.strat_store.specs.Getting.{reply_of_get, MayTellOfKey};
 ghost use Rattle.strat_memory.specs.Held.{IsConsistent, StandsWith};
-ghost use Rattle.strat_memory.specs.Memory.{lists_in_memory};
+ghost use Rattle.strat_memory.specs.Memory.{lists_in_memory, has_version};
 ghost use Rattle.strat_cursor.specs.Looking.{levels_there, arrays_there, AreInOrder, AreCachedFrom, LooksThrough, ReadsArrays, arrays_asked};
 ghost use Rattle.strat_memory.specs.RecoveredFields.{held_of};
 
@@ -64,11 +63,11 @@ pub(crate) fn get<D: Disk>(
         → AreInOrder f (arrays_asked held.now.memory.parents held.now.published.levels version)
         → AreCachedFrom f held.now.published.manifest.next_array
         (arrays_asked held.now.memory.parents held.now.published.levels version) cache.old
-        → is_fault result ≡ false → is_known held.now.memory.parents version ≡ true
+        → is_fault result ≡ false → has_version held.now.memory version ≡ true
         → as_told result out.new ≡ answer_found key.now (asked_filtered f held.now.filters
         held.now.memory.parents (lists_in_memory held.now.memory)
         (levels_there held.now.published.levels) version key.now) }
-    ensures none { is_known held.now.memory.parents version ≡ false
+    ensures none { has_version held.now.memory version ≡ false
         → (result ≡ reply.Refused why.UnknownVersion) × (disk.new ≡ disk.old) }
     ensures same { LooksThrough (D.view disk.old) (D.view disk.new)
         (arrays_there held.now.published.levels) cache.old cache.new }
@@ -77,7 +76,7 @@ pub(crate) fn get<D: Disk>(
         → IsDamagedIn (D.view disk.old).content held.now.memory held.now.published.levels b }
     ensures err { (b : ℕ) → result ≡ reply.Refused (why.Damaged b) → (f : Image)
         → Exposes (D.view disk.old) f → block_on f b ≡ None }
-    ensures end { is_known held.now.memory.parents version ≡ true → MayTellOfKey result }
+    ensures end { has_version held.now.memory version ≡ true → MayTellOfKey result }
     ensures len { (result ≡ reply.Found → length out.new ≡ 1)
         × (result ≢ reply.Found → out.new ≡ []) }
     ensures reads { ReadsArrays

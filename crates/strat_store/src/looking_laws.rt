@@ -4,7 +4,7 @@ ghost use Rattle.std.specs.Option.{option_or};
 ghost use Rattle.std.specs.List.{list_any};
 ghost use Rattle.std.specs.Prelude.{◌≡◌, ◌<◌, ℕ, Bool, List, [], length, true, false, Contains, Option, Some, option_and_then, IsTrue};
 ghost use Rattle.strat_base.specs.Entries.{Entry, is_of};
-ghost use Rattle.strat_base.specs.Tree.{Parents, is_known};
+ghost use Rattle.strat_base.specs.Tree.{Parents};
 ghost use Rattle.strat_base.specs.declared.descriptors.ArrayDesc.{ArrayDesc};
 ghost use Rattle.strat_base.specs.declared.descriptors.LevelDesc.{LevelDesc};
 ghost use Rattle.def_crash.specs.Image.{Image};
@@ -30,7 +30,7 @@ ghost use Rattle.strat_filter.specs.Bits.{may_hold};
 ghost use Rattle.strat_filter.specs.Keys.{IsFilterOf};
 ghost use Rattle.strat_memory.specs.Filters.{AreFiltersOf, LevelFilters, filter_refuses};
 ghost use Rattle.strat_memory.specs.Held.{Held, IsConsistent, StandsWith};
-ghost use Rattle.strat_memory.specs.Memory.{lists_in_memory};
+ghost use Rattle.strat_memory.specs.Memory.{lists_in_memory, has_version};
 ghost use Rattle.strat_store.specs.Filtering.{KeepsFilter, arrays_unrefused, asked_filtered};
 ghost use Rattle.strat_store.specs.Ranging.{AreReadAs, IsMapAsked, TellsFrom};
 
@@ -57,7 +57,7 @@ pub fn a_scan_and_a_page_tell_of_a_map()
         (levels : List (Option LevelDesc)) (v : ℕ)
         → (m : Pairs) × IsMapAsked f parents zeros levels v m }
     ensures ok { (f : Image) (s : Held) (v limit : ℕ) (lo hi : List ℕ) (answer : Answer)
-        → TellsFrom f s (Scan v lo hi limit) answer → is_known s.memory.parents v ≡ true
+        → TellsFrom f s (Scan v lo hi limit) answer → has_version s.memory v ≡ true
         → AreReadAs f s v
         → (m : Pairs) × IsMapAsked f s.memory.parents (lists_in_memory s.memory) s.levels v m
         × (answer ≡ page (range m lo hi) limit) }

@@ -1,8 +1,7 @@
 //! What a store over levels says of a range of a version.
 
-ghost use Rattle.std.specs.Prelude.{◌≡◌, ◌≤◌, ℕ, [], length, true, false, None};
+ghost use Rattle.std.specs.Prelude.{◌≡◌, ◌≤◌, ℕ, [], true, false, None};
 ghost use Rattle.strat_array.specs.Kept.{Blocks};
-ghost use Rattle.strat_base.specs.Tree.{is_known};
 ghost use Rattle.def_crash.specs.Image.{Image};
 ghost use Rattle.def_crash.specs.Moments.{Exposes};
 ghost use Rattle.strat_cursor.specs.Looking.{arrays_there, AreInOrder, AreCachedFrom, LooksThrough, ReadsArrays, arrays_asked};
@@ -17,7 +16,7 @@ ghost use Rattle.def_publish.specs.Contents.{Contents};
 ghost use Rattle.strat_store.specs.Applying.{is_fault, IsLookedUp, FailsAsTold};
 ghost use Rattle.strat_publish.specs.Outcomes.{IsDamagedIn};
 ghost use Rattle.strat_memory.specs.Held.{IsConsistent, StandsWith};
-ghost use Rattle.strat_memory.specs.Memory.{lists_in_memory};
+ghost use Rattle.strat_memory.specs.Memory.{lists_in_memory, has_version};
 ghost use Rattle.strat_store.specs.Ranging.{reply_of_scan, HasPairsFor, IsMapAsked, MayTellOfRange};
 ghost use Rattle.strat_memory.specs.RecoveredFields.{held_of};
 
@@ -64,11 +63,11 @@ pub(crate) fn scan_range<D: Disk>(
         → AreInOrder f (arrays_asked held.now.memory.parents held.now.published.levels version)
         → AreCachedFrom f held.now.published.manifest.next_array
         (arrays_asked held.now.memory.parents held.now.published.levels version) cache.old
-        → is_fault result ≡ false → is_known held.now.memory.parents version ≡ true
+        → is_fault result ≡ false → has_version held.now.memory version ≡ true
         → IsMapAsked f held.now.memory.parents (lists_in_memory held.now.memory)
         held.now.published.levels version m
         → as_told result out.new ≡ page (range m lo.now hi.now) limit }
-    ensures none { is_known held.now.memory.parents version ≡ false
+    ensures none { has_version held.now.memory version ≡ false
         → (result ≡ reply.Refused why.UnknownVersion) × (disk.new ≡ disk.old)
         × (out.new ≡ []) }
     ensures same { LooksThrough (D.view disk.old) (D.view disk.new)
@@ -80,7 +79,7 @@ pub(crate) fn scan_range<D: Disk>(
     ensures reads { ReadsArrays
         (arrays_asked held.now.memory.parents held.now.published.levels version)
         (D.reads disk.old) (D.reads disk.new) }
-    ensures end { is_known held.now.memory.parents version ≡ true → MayTellOfRange result }
+    ensures end { has_version held.now.memory version ≡ true → MayTellOfRange result }
     ensures len { HasPairsFor (Scan version lo.now hi.now limit) (as_told result out.new) }
 {
     if !held.memory.has(version) {

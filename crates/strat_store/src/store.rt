@@ -6,7 +6,7 @@ ghost use Rattle.strat_array.specs.Kept.{Blocks};
 ghost use Rattle.strat_base.specs.Change.{Change as TheChange};
 ghost use Rattle.strat_base.specs.ChangeView.{change_of};
 ghost use Rattle.strat_base.specs.Finds.{Finds};
-ghost use Rattle.strat_base.specs.Tree.{IsTree, is_known};
+ghost use Rattle.strat_base.specs.Tree.{IsTree};
 ghost use Rattle.def_crash.specs.Faults.{CountsFaults, HasCause, ReadsAtMost};
 ghost use Rattle.def_crash.specs.Image.{Image};
 ghost use Rattle.def_crash.specs.Moments.{Exposes, Images, Passes, Since};
@@ -30,7 +30,7 @@ ghost use Rattle.strat_publish.specs.Outcomes.{IsDamagedIn};
 ghost use Rattle.strat_store.specs.Cursoring.{IsAppliedAt, LeavesCursors, cursors_after};
 ghost use Rattle.strat_open.specs.Following.{IsOpenedAs, IsUnchanged, LeavesOpening};
 ghost use Rattle.strat_memory.specs.Held.{IsConsistent, IsOnDisk, StandsAt, StandsWith, arrays_held};
-ghost use Rattle.strat_memory.specs.Memory.{KeepsRows, info_told, lists_in_memory, sealed_entries};
+ghost use Rattle.strat_memory.specs.Memory.{KeepsRows, info_told, lists_in_memory, sealed_entries, has_version};
 ghost use Rattle.strat_cursor.specs.Looking.{AreOfOldArrays, LooksThrough, MayBeFound, ReadsArrays, arrays_asked};
 ghost use Rattle.strat_arena.specs.declared.pool.PoolEntry.{PoolEntry};
 ghost use Rattle.strat_cursor.specs.Ranges.{sealed_held};
@@ -108,6 +108,7 @@ fn change_asked<'a>(command: &Command<'a>) -> Option<Change<'a>>
         }),
         Command::Delete { version, key } => Some(Change::Delete { version, key }),
         Command::Clone { version } => Some(Change::Clone { version }),
+        Command::DropVersion { version } => Some(Change::DropVersion { version }),
         _ => None,
     }
 }
@@ -125,9 +126,9 @@ fn is_fault(reply: Reply) -> bool
 
 /// What is told of a version. O(1).
 fn info(memory: &Memory, version: Version) -> Reply
-    ensures found { is_known memory.now.parents version ≡ true
+    ensures found { has_version memory.now version ≡ true
         → result ≡ info_told memory.now version }
-    ensures none { is_known memory.now.parents version ≡ false
+    ensures none { has_version memory.now version ≡ false
         → result ≡ reply.Refused why.UnknownVersion }
 {
     if !memory.has(version) {
@@ -308,9 +309,10 @@ impl Store {
         self.held.journal.records()
     }
 
-    /// Whether there is such a version. O(1).
+    /// Whether there is such a version, which was not dropped. O(1).
     pub fn known(&self, version: Version) -> bool
-        ensures ok { result ≡ is_known self.now.memory.parents version }
+        ensures ok { result ≡ has_version self.now.memory version }
+        ensures found { result ≡ true → version < length self.now.memory.parents }
     {
         self.held.memory.has(version)
     }
@@ -319,7 +321,7 @@ impl Store {
     /// O(22 log versions_max) and the time of copying them. The only error is want of memory.
     pub fn picked(&self, version: Version) -> Result<Arrays, NoMemory>
         requires kept { IsConsistent self.now × (self.now.spent ≡ false) }
-        requires found { IsTrue (is_known self.now.memory.parents version) }
+        requires found { IsTrue (has_version self.now.memory version) }
         ensures ok { IfOk result (λ arrays. arrays
             ≡ arrays_asked self.now.memory.parents self.now.levels version) }
         ensures kept { IfOk result (λ arrays. MayBeFound arrays × (length arrays ≤ 22)) }

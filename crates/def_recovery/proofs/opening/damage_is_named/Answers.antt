@@ -4,10 +4,14 @@ use Rattle.def_crash.specs.Image.{window, over}
 use Rattle.def_bytes.specs.SuperBlock.{slot_of, slot_in, zeros}
 use Rattle.strat_base.specs.Change.{change_in}
 use Rattle.def_bytes.specs.Manifest.{all_pass, read_number, read_items, read_extent, read_array, read_level, read_mark, read_only, read_manifest, manifest_in, manifest_bytes}
+use Rattle.strat_base.specs.EntryBytes.{entry_in}
+use Rattle.def_bytes.specs.Block.{block_in, block_bytes, entries_in}
+use Rattle.def_bytes.specs.Chain.{link_bytes}
+use Rattle.def_bytes.specs.Arrays.{entries_on}
 use Rattle.def_bytes.specs.Chained.{chain_from}
 use Rattle.def_bytes.specs.Records.{records}
 use Rattle.def_recovery.proofs.opening.damage_is_named.Goals as goal
 
 pub returns : goal.returns
-unfolding number be window over slot_of slot_in zeros change_in all_pass read_number read_items read_extent read_array read_level read_mark read_only read_manifest manifest_in manifest_bytes chain_from records
-returns c = record { none = refl; region = refl; link = refl; circle = refl; fill = refl; gate = refl; refused = refl; drop = refl; full = refl }
+unfolding number be window over slot_of slot_in zeros change_in all_pass read_number read_items read_extent read_array read_level read_mark read_only read_manifest manifest_in manifest_bytes chain_from records block_in block_bytes entry_in entries_in link_bytes entries_on
+returns c = record { none = refl; region = refl; link = refl; circle = refl; fill = refl; gate = refl; refused = refl; dropped = refl; root = refl; frozen = refl; twice = refl; marked = refl; full = refl }

@@ -14,4 +14,4 @@ use Rattle.def_recovery.proofs.opening.published_disks_open.Goals as goal
 
 pub returns : goal.returns
 unfolding number be window over slot_of slot_in zeros change_in all_pass read_number read_items read_extent read_array read_level read_mark read_only read_manifest manifest_in manifest_bytes chain_from records block_in block_bytes entry_in entries_in link_bytes entries_on
-returns c = record { ok = refl; other = refl }
+returns c = record { ok = refl; other = refl; dropped = refl }

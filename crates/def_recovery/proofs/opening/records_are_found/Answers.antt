@@ -10,4 +10,4 @@ use Rattle.def_recovery.proofs.opening.records_are_found.Goals as goal
 
 pub returns : goal.returns
 unfolding number be window over slot_of slot_in zeros change_in all_pass read_number read_items read_extent read_array read_level read_mark read_only read_manifest manifest_in manifest_bytes chain_from records
-returns c = refl
+returns c = record { ok = refl; drop = refl }

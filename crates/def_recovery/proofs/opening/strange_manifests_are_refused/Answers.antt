@@ -14,4 +14,4 @@ use Rattle.def_recovery.proofs.opening.strange_manifests_are_refused.Goals as go
 
 pub returns : goal.returns
 unfolding number be window over slot_of slot_in zeros change_in all_pass read_number read_items read_extent read_array read_level read_mark read_only read_manifest manifest_in manifest_bytes chain_from records block_in block_bytes entry_in entries_in link_bytes entries_on
-returns c = record { horizon = refl; versions = refl; updates = refl; generation = refl }
+returns c = record { horizon = refl; versions = refl; updates = refl; generation = refl; marks = refl }

@@ -4,13 +4,11 @@ use Rattle.def_bytes.specs.Arrays.{blocks_of}
 use Rattle.def_bytes.specs.Chained.{Chained}
 use Rattle.def_bytes.specs.Manifest.{Manifest}
 use Rattle.def_bytes.specs.SuperBlock.{Super}
-use Rattle.strat_gate.specs.SuperView.{super_of}
 use Rattle.strat_manifest.specs.ManifestView.{manifest_of}
 use Rattle.strat_publish.specs.Publishing.{manifest_after}
 use Rattle.strat_publish.specs.Settling.{StandApart}
 use Rattle.strat_memory.specs.RecoveredFields.{held_of, empty_cache}
 use Rattle.strat_publish.proofs.LaidLemmas.{written_as}
-use Rattle.strat_publish.proofs.MarkedLemmas.{admitted_undropped}
 use Rattle.strat_publish.proofs.ObstacleLemmas.{short_block, short_cause}
 use Rattle.strat_publish.proofs.SettlingLemmas.{may_admit, numbered_from, readied_as}
 use Rattle.strat_publish.specs.declared.made.Made.{Made}
@@ -48,7 +46,7 @@ returns-clause-fits g c = λ cached.
       changes = ap (λ (m : Manifest). m.changes) manifest_is;
       updates = ap (λ (m : Manifest). m.updates) manifest_is;
       parents = ap (λ (m : Manifest). m.parents) manifest_is;
-      undropped = admitted_undropped (super_of c.in_ok-next.next.sb) c.in_ok-next.next.published c.in_ok-next.ensures.kept;
+      marks = ap (λ (m : Manifest). m.marks) manifest_is;
     }
 
 pub returns-clause-disk : goal.returns-clause-disk

@@ -1,5 +1,4 @@
-use Rattle.std.proofs.Common.{length, sym, ap, subst, ◌∙◌}
-use Rattle.std.proofs.lemmas.Bool.{ltb-true}
+use Rattle.std.proofs.Common.{sym, ap, subst, ◌∙◌}
 use Rattle.strat_model.specs.Answer.{plain}
 use Rattle.strat_model.specs.Request.{OpenCursor}
 use Rattle.strat_model.specs.declared.replies.Reply.{Reply}
@@ -18,7 +17,7 @@ returns-then-not-has-clause-found c = λ f cached.
     unknown_told c.args.held.now.memory c.args.version (TellsOfOpening c.args.held.now.memory.cursors _) (sym c.has.ensures.ok ∙ c.if-not-has.true)
 
 pub open_cursor-started-requires-clause-found : goal.open_cursor-started-requires-clause-found
-open_cursor-started-requires-clause-found c = ltb-true c.args.version (length c.args.held.now.memory.parents) (sym c.has.ensures.ok ∙ c.if-not-has.false)
+open_cursor-started-requires-clause-found c = c.has.ensures.found c.if-not-has.false
 
 pub open_cursor-started-requires-clause-kept : goal.open_cursor-started-requires-clause-kept
 open_cursor-started-requires-clause-kept c = (whole_read (held_of c.args.held.now (empty_cache 0)) (c.requires.kept (empty_cache 0))).within

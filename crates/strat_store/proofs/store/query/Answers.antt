@@ -1,6 +1,5 @@
 use Rattle.std.proofs.Common.{◌≡◌, refl, sym, ap, ◌∙◌}
 use Rattle.std.proofs.lemmas.List.Elements.{Contains-append_left}
-use Rattle.strat_base.specs.Tree.{is_known}
 use Rattle.strat_cursor.proofs.ThroughLemmas.{through_refl}
 use Rattle.strat_cursor.specs.Looking.{arrays_there}
 use Rattle.strat_model.specs.Answer.{as_told, plain}
@@ -17,6 +16,7 @@ use Rattle.strat_memory.specs.RecoveredFields.{held_of}
 use Rattle.strat_store.proofs.ApplyLemmas.{changes_left, cursor_refused, fails_none, get_same, info_calm, info_finds, info_here, info_says, info_short, key_short, look_applied, memory_applied, next_fits, no_pairs, other_than, pairs_beside, range_short, reads_known, reads_still, scan_fits, scan_same, stat_finds, stat_here, stat_short, tells_calm, tells_look, unknown_answer, version_refused}
 use Rattle.strat_store.proofs.CursoringLemmas.{closing_applied, looks_wider, opened_applied}
 use Rattle.strat_store.proofs.store.query.Goals as goal
+use Rattle.strat_memory.specs.Memory.{has_version}
 
 pub returns-in-Get-clause-ok : goal.returns-in-Get-clause-ok
 returns-in-Get-clause-ok g c = λ x rows at.
@@ -37,7 +37,7 @@ returns-in-Get-clause-len g c = rw (c.in-Get.is) (pairs_beside c.get.result c.ge
 pub returns-in-Get-clause-same : goal.returns-in-Get-clause-same
 returns-in-Get-clause-same g c = (
   looks_wider _ _ (arrays_there c.args.held.now.published.levels) _ _ _ (λ a of. Contains-append_left (arrays_there c.args.held.now.published.levels) c.args.held.now.memory.cursors.retired a of) c.get.ensures.same,
-  rw (c.in-Get.is) (reads_known (is_known c.args.held.now.memory.parents c.in-Get.version) _ _ _ c.get.ensures.reads (λ off. ap (λ (d : _). g.D.Disk.reads d) (c.get.ensures.none off).1)),
+  rw (c.in-Get.is) (reads_known (has_version c.args.held.now.memory c.in-Get.version) _ _ _ c.get.ensures.reads (λ off. ap (λ (d : _). g.D.Disk.reads d) (c.get.ensures.none off).1)),
 )
 
 pub returns-in-Get-clause-cause : goal.returns-in-Get-clause-cause
@@ -46,7 +46,7 @@ returns-in-Get-clause-cause g c =
     rw (c.in-Get.is) (
       c.get.ensures.cause,
       tells_look (g.D.Disk.view c.args.disk.now) s (Get c.in-Get.version c.in-Get.key.now) c.get.result (reply.Refused why.UnknownVersion) refl refl refl
-          (key_short (is_known c.args.held.now.memory.parents c.in-Get.version) c.get.result c.get.ensures.end (λ off. (c.get.ensures.none off).0))
+          (key_short (has_version c.args.held.now.memory c.in-Get.version) c.get.result c.get.ensures.end (λ off. (c.get.ensures.none off).0))
           (λ q refused. (c.get.ensures.none (version_refused s.memory c.in-Get.version q refused)).0) c.get.ensures.err,
     )
 
@@ -74,7 +74,7 @@ returns-in-Scan-clause-len g c = rw (c.in-Scan.is) (c.scan_range.ensures.len)
 pub returns-in-Scan-clause-same : goal.returns-in-Scan-clause-same
 returns-in-Scan-clause-same g c = (
   looks_wider _ _ (arrays_there c.args.held.now.published.levels) _ _ _ (λ a of. Contains-append_left (arrays_there c.args.held.now.published.levels) c.args.held.now.memory.cursors.retired a of) c.scan_range.ensures.same,
-  rw (c.in-Scan.is) (reads_known (is_known c.args.held.now.memory.parents c.in-Scan.version) _ _ _ c.scan_range.ensures.reads (λ off. ap (λ (d : _). g.D.Disk.reads d) (c.scan_range.ensures.none off).1)),
+  rw (c.in-Scan.is) (reads_known (has_version c.args.held.now.memory c.in-Scan.version) _ _ _ c.scan_range.ensures.reads (λ off. ap (λ (d : _). g.D.Disk.reads d) (c.scan_range.ensures.none off).1)),
 )
 
 pub returns-in-Scan-clause-cause : goal.returns-in-Scan-clause-cause
@@ -83,7 +83,7 @@ returns-in-Scan-clause-cause g c =
     rw (c.in-Scan.is) (
       c.scan_range.ensures.cause,
       tells_look (g.D.Disk.view c.args.disk.now) s (Scan c.in-Scan.version c.in-Scan.lo.now c.in-Scan.hi.now c.in-Scan.limit) c.scan_range.result (reply.Refused why.UnknownVersion) refl refl refl
-          (range_short (is_known c.args.held.now.memory.parents c.in-Scan.version) c.scan_range.result c.scan_range.ensures.end (λ off. (c.scan_range.ensures.none off).0))
+          (range_short (has_version c.args.held.now.memory c.in-Scan.version) c.scan_range.result c.scan_range.ensures.end (λ off. (c.scan_range.ensures.none off).0))
           (λ q refused. (c.scan_range.ensures.none (version_refused s.memory c.in-Scan.version q refused)).0) (λ b bad. (c.scan_range.ensures.damaged b bad).1),
     )
 
@@ -102,7 +102,7 @@ returns-in-Info-clause-found g c = λ old f exposed calm. rw (c.in-Info.is, c.re
 
 pub returns-in-Info-clause-len : goal.returns-in-Info-clause-len
 returns-in-Info-clause-len g c =
-    let other = info_finds c.args.held.now.memory c.in-Info.version (is_known c.args.held.now.memory.parents c.in-Info.version) c.info.result c.info.ensures.found c.info.ensures.none in
+    let other = info_finds c.args.held.now.memory c.in-Info.version (has_version c.args.held.now.memory c.in-Info.version) c.info.result c.info.ensures.found c.info.ensures.none in
     rw (c.in-Info.is) (no_pairs c.info.result c.args.out.now other c.requires.room)
 
 pub returns-in-Info-clause-same : goal.returns-in-Info-clause-same

@@ -1,5 +1,5 @@
 use Rattle.std.proofs.Common.{◌≡◌, ◌<◌, [], ◌∷◌, None, Some, length, sym, ap, ◌∙◌, subst, arith, length-append}
-use Rattle.std.proofs.lemmas.Bool.{eqb-false, ltb-true}
+use Rattle.std.proofs.lemmas.Bool.{eqb-false}
 use Rattle.strat_base.specs.Tree.{Parents}
 use Rattle.strat_cursor.specs.Held.{opened_held}
 use Rattle.strat_cursor.proofs.RowLemmas.{tree_rows}
