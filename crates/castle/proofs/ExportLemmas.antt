@@ -14,7 +14,9 @@ use Rattle.def_publish.specs.Several.{EachShows, ShowsOneOf}
 use Rattle.def_publish.specs.Standing.{ShowsTable}
 use Rattle.def_recovery.specs.Head.{Head, head_versions}
 use Rattle.def_recovery.specs.Opening.{recover}
-use Rattle.strat_base.specs.Tree.{Parents, is_known}
+use Rattle.def_state.specs.Sound.{is_there}
+use Rattle.strat_base.specs.Marks.{Marks}
+use Rattle.strat_base.specs.Tree.{Parents}
 use Rattle.strat_base.specs.declared.descriptors.ArrayDesc.{ArrayDesc}
 use Rattle.strat_base.specs.declared.descriptors.LevelDesc.{LevelDesc}
 use Rattle.strat_bulk.specs.Runs.{AreLawful}
@@ -38,6 +40,7 @@ use Rattle.strat_loop.specs.Session.{EndHasCause}
 use Rattle.strat_loop.specs.World.{world}
 use Rattle.castle.specs.Exporting.{EndsExporting, ExportsVersion, FindsVersion, IsBadAt}
 use Rattle.castle.proofs.CompleteLemmas.{finds_head}
+use Rattle.strat_memory.specs.Memory.{has_version}
 
 -- an opening that gave up so answered this
 pub as_err : {T : Type 0} (e x : AttachFault) → e ≡ x → IsErrOf {T = T} {E = AttachFault} (Err e) x
@@ -200,12 +203,17 @@ module _ (version : ℕ) (how : Ended) (left held_old held_new : Option (List �
     (trail : (f : Image) → old.content ≡ Some f → EachShows old → (c : Image) → Since mid old.moment c → ShowsOneOf old c)
     (told : Pairs) (writes : WritesPairs how held_old held_new told) (lawful : AreLawful told) (are : (x : Contents) → StandsWith mid s x → AreTold how told (pairs_at (table_of (contents_state x)) version))
     (sorted : (x : Contents) → StandsWith mid s x → how ≡ ended.Done → IsMap (pairs_at (table_of (contents_state x)) version))
-    (unknown : how ≡ ended.UnknownVersion → is_known s.memory.parents version ≡ false) (only : is_known s.memory.parents version ≡ false → how ≡ ended.UnknownVersion)
+    (unknown : how ≡ ended.UnknownVersion → has_version s.memory version ≡ false) (only : has_version s.memory version ≡ false → how ≡ ended.UnknownVersion)
     (ends : EndsExport how) (found : (x : Contents) → StandsWith mid s x → ¬ Rose disk_mid disk_new → ¬ Rose sink_old sink_new → EndsStanding how)
     (damaged : (b : ℕ) → how ≡ ended.Damaged b → NamesNoBlock mid.content (arrays_asked s.memory.parents s.levels version) b)
     (reads : OnlyReads mid new) (cause : ExportHasCause how disk_mid disk_new sink_old sink_new) where
-  finds : (b : Bool) → is_known s.memory.parents version ≡ b → FindsVersion old version b
-  finds b is f exposed = (head_held s, opened.found f exposed, subst (λ (ps : Parents). is_known ps version ≡ b) whole.memory.parents is)
+  finds : (b : Bool) → has_version s.memory version ≡ b → FindsVersion old version b
+  finds b is f exposed = (
+    head_held s,
+    opened.found f exposed,
+    subst (λ (ms : Marks). is_there (head_versions (head_held s)) ms version ≡ b) whole.memory.marks
+        (subst (λ (ps : Parents). is_there ps s.memory.marks version ≡ b) whole.memory.parents is),
+  )
 
   named_here : (a : ArrayDesc) → Contains (arrays_asked s.memory.parents s.levels version) a → Contains (filter_map (λ level. desc_for (head_versions (head_held s)) level version) s.chained.manifest.levels) a
   named_here a of =
@@ -245,7 +253,7 @@ module _ (version : ℕ) (how : Ended) (left held_old held_new : Option (List �
     ordered = λ done f t exposed shows. let at = opened.stands f t exposed shows in subst (λ (u : Table). IsMap (pairs_at u version)) at.2 (sorted at.0 at.1 done);
     map = λ f t exposed shows. let at = opened.stands f t exposed shows in subst (λ (u : Table). AreTold how told (pairs_at u version)) at.2 (are at.0 at.1);
     unknown = λ x. finds false (unknown x);
-    known = λ x. finds true (known_by (is_known s.memory.parents version) how only x);
+    known = λ x. finds true (known_by (has_version s.memory version) how only x);
     none = λ x. absurd (subst EndsExport x ends);
     damaged = λ b x f exposed. inr (head_held s, opened.found f exposed, bad_here b (damaged b x));
     left = left_so;

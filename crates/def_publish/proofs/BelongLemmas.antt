@@ -84,5 +84,4 @@ module _ (f g : Image) (old new : Contents) (made : Option LevelDesc) (taken kep
       (next.pass_more _ _ (le-leb (versions_in now) new.sb.versions_max (next.versions_most f g old new made taken kept m.follows))
       (next.pass_more _ _ (le-leb now.changes new.sb.changes_max (next.changes_most f g old new made taken kept m.follows))
       (next.pass_more _ _ (le-leb _ now.updates (next.leads_within f g old new made taken kept m.follows))
-      (next.pass_more _ _ filled (next.pass_more _ _ m.few
-      (next.pass_more _ _ (next.undropped f g old new made taken kept m.follows) next.pass_none))))))))
+      (next.pass_more _ _ filled (next.pass_more _ _ m.few next.pass_none)))))))

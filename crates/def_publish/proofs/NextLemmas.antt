@@ -29,18 +29,16 @@ use Rattle.def_recovery.specs.Passed.{PassesOpening}
 use Rattle.def_recovery.proofs.OpeningLemmas.{map_some, length-all_some, older_tree, manifest_tests, level_tests, lawful_read}
 use Rattle.def_recovery.proofs.PassedLemmas.{kept_in_order, array_tests, belonging_tests, read_passes}
 use Rattle.def_state.specs.Level.{TaggedArray, Level, level_leads, tagged_versions, IsStratified}
-use Rattle.def_state.specs.Sound.{is_tree_from, is_numbered_from, has_old_horizon, shallower, IsWellFormed}
+use Rattle.def_state.specs.Sound.{is_tree_from, is_numbered_from, has_old_horizon, shallower}
 use Rattle.def_state.specs.State.{State, versions_of, tree_after}
 use Rattle.def_state.proofs.AppendedLemmas.{length-grown}
 use Rattle.def_state.proofs.LevelLemmas.{tagged_below}
-use Rattle.def_state.proofs.SoundLemmas.{sound_tree, ordered as in_order}
+use Rattle.def_state.proofs.SoundLemmas.{sound_tree}
 use Rattle.def_publish.specs.Contents.{Contents, contents_state, sealed_state, sealed_part, later_part}
 use Rattle.def_publish.specs.Next.{arrays_made, IsNewArray, IsSoundNext}
 use Rattle.def_publish.proofs.DescribedLemmas.{blocks_counted, StandsAsLevel, StandsAsArray, level_there, array_there, leads_counted}
 use Rattle.def_publish.proofs.PartsLemmas.{reads_state}
-use Rattle.def_publish.proofs.PromotedLemmas.{promoted_state, sealed_ordered}
-use Rattle.strat_base.specs.Marks.{none_dropped}
-use Rattle.def_state.proofs.UndroppedLemmas.{none_now}
+use Rattle.def_publish.proofs.PromotedLemmas.{promoted_state}
 
 -- one more test that passes
 pub pass_more : (test : Bool) (tests : List Bool) → test ≡ true → all_pass tests ≡ true → all_pass (test ∷ tests) ≡ true
@@ -413,13 +411,6 @@ module _ (f g : Image) (old new : Contents) (made : Option LevelDesc) (taken kep
       (omega (arith, m.next.next_array, made_few, passed.next_most, grown))
       (omega (arith, m.next.written, entries_made, passed.written_most, grown))
       (omega (arith, m.next.promoted.compacted, passed.compacted_most, grown))
-
-  -- no version was dropped, by a build that takes no drops
-  sealed_formed : IsWellFormed (sealed_state old)
-  sealed_formed = (sealed_ordered old (in_order (contents_state old) m.was_sound)).formed
-
-  pub undropped : none_dropped now.marks ≡ true
-  undropped = ap none_dropped m.next.promoted.marks ∙ none_now (sealed_state old) sealed_formed passed.undropped
 
   -- the newest format has all fields
   in_format : has_fields new.sb.format now ≡ true

@@ -13,7 +13,7 @@ use Rattle.def_state.specs.State.{tree_after, marks_after}
 use Rattle.def_state.specs.Sound.{is_accepted, are_accepted, takes_updates}
 use Rattle.def_texts.specs.Workload.{next_draw, drawn, leaf_from, drawn_key, drawn_update, drawn_change, changes_from, workload_changes, frames_from, workload}
 use Rattle.strat_base.specs.Marks.{Marks, none_dropped}
-use Rattle.def_state.proofs.UndroppedLemmas.{there_made, open_made, none_after}
+use Rattle.def_state.proofs.UndroppedLemmas.{there_made, open_made, none_pushed}
 
 many : (n i state : ℕ) (parents : Parents) → length (changes_from n i state parents) ≡ n
 unfolding changes_from
@@ -79,9 +79,9 @@ leaf parents v grows known =
     ]
 
 module _ (changes_max versions_max : ℕ) (room : 128 ≤ versions_max) where
-  -- a change that is drawn is accepted, and leaves a tree that grows
+  -- a change that is drawn is accepted, leaves a tree that grows, and drops no version
   abbrev Accepted : Parents → Marks → ℕ → Change → Type 0
-  Accepted parents marks n change = (is_accepted changes_max versions_max parents marks n change ≡ true) × Grows (tree_after parents change)
+  Accepted parents marks n change = (is_accepted changes_max versions_max parents marks n change ≡ true) × Grows (tree_after parents change) × (none_dropped (marks_after marks change) ≡ true)
 
   below_max : (n : ℕ) → n < changes_max → not (eqb n changes_max) ≡ true
   below_max n lt = grind (arith, nat_tests)
@@ -91,7 +91,7 @@ module _ (changes_max versions_max : ℕ) (room : 128 ≤ versions_max) where
     clone_accepted v known few =
         let less : length parents < 128 = ltb-true (length parents) 128 few in
         let free : not (eqb (length parents) versions_max) ≡ true = grind (arith, nat_tests) in
-        (and_from _ _ (and_from _ _ (there_made parents marks living v ∙ lt-ltb v (length parents) known) free) (below_max n left), grown parents v grows known)
+        (and_from _ _ (and_from _ _ (there_made parents marks living v ∙ lt-ltb v (length parents) known) free) (below_max n left), grown parents v grows known, none_pushed marks living)
 
     leaf_accepted : (v : ℕ) → v < length parents → has_child parents v ≡ false → takes_updates parents marks v && not (eqb n changes_max) ≡ true
     leaf_accepted v known none =
@@ -101,8 +101,8 @@ module _ (changes_max versions_max : ℕ) (room : 128 ≤ versions_max) where
     update_accepted i p v r known none = by_kind (leb 2 p && leb p 9)
       where
         by_kind : (b : Bool) → Accepted parents marks n (cond b (Delete v (drawn_key r)) (Put v (drawn_key r) (decimal i)))
-        by_kind true = (leaf_accepted v known none, grows)
-        by_kind false = (leaf_accepted v known none, grows)
+        by_kind true = (leaf_accepted v known none, grows, living)
+        by_kind false = (leaf_accepted v known none, grows, living)
 
     change_accepted : (i p q r : ℕ) → Accepted parents marks n (drawn_change parents i p q r)
     change_accepted i p q r = by_draw (eqb p 0) (eqb p 1) (ltb (length parents) 128) refl
@@ -128,7 +128,7 @@ module _ (changes_max versions_max : ℕ) (room : 128 ≤ versions_max) where
       let change : Change = drawn_change parents i (drawn (next_draw state) % 64) (drawn (next_draw (next_draw state))) (drawn third % 1000) in
       let first = change_accepted parents marks living n grows (omega (arith, le)) i (drawn (next_draw state) % 64) (drawn (next_draw (next_draw state))) (drawn third % 1000) in
       and_from (is_accepted changes_max versions_max parents marks n change) (are_accepted changes_max versions_max (tree_after parents change) (marks_after marks change) (suc n) (changes_from count (suc i) third (tree_after parents change)))
-      first.0 (all_accepted count (suc i) third (suc n) (tree_after parents change) (marks_after marks change) (none_after changes_max versions_max parents marks n change living first.0) first.1 (omega (arith, le)))
+      first.0 (all_accepted count (suc i) third (suc n) (tree_after parents change) (marks_after marks change) first.2 first.1 (omega (arith, le)))
 
 pub accepted : (seed count changes_max versions_max : ℕ) → count ≤ changes_max → 128 ≤ versions_max → are_accepted changes_max versions_max (None ∷ []) (false ∷ []) 0 (workload_changes seed count) ≡ true
 accepted seed count changes_max versions_max le room =

@@ -22,10 +22,10 @@ use Rattle.strat_base.specs.declared.descriptors.LevelDesc.{LevelDesc}
 use Rattle.strat_level.specs.Levels.{desc_for, is_for}
 use Rattle.def_crash.specs.Moments.{DiskView}
 use Rattle.def_publish.specs.Contents.{Contents, contents_state}
-use Rattle.strat_base.specs.Tree.{is_known}
-use Rattle.std.proofs.lemmas.Bool.{ltb-true}
+use Rattle.def_state.proofs.MarkLemmas.{there_known}
 use Rattle.strat_cursor.specs.Looking.{arrays_asked}
 use Rattle.strat_memory.specs.Held.{Held, IsConsistent, StandsWith, contents_held}
+use Rattle.strat_memory.specs.Memory.{has_version}
 
 -- what an image has of an array that is found by its tag is found by it too
 tagged_on : (c : Image) (u : ℕ) (ds : List ArrayDesc) (xs : List TaggedArray) (a : ArrayDesc) → all_some (array_on c) ds ≡ Some xs → find (is_for u) ds ≡ Some a
@@ -99,12 +99,12 @@ thirds_live c s ds v sound all known = record { each = each }
         )
 
 -- the arrays that are asked at a version of a store that stands, too
-held_thirds : (w : DiskView) (s : Held) (levels : List Level) (f : Image) (v : ℕ) → IsConsistent s → StandsWith w s (contents_held s levels) → w.content ≡ Some f → is_known s.memory.parents v ≡ true
+held_thirds : (w : DiskView) (s : Held) (levels : List Level) (f : Image) (v : ℕ) → IsConsistent s → StandsWith w s (contents_held s levels) → w.content ≡ Some f → has_version s.memory v ≡ true
     → AreThirdLive f s.memory.parents v (arrays_asked s.memory.parents s.levels v)
 held_thirds w s levels f v whole stands exposed is =
     let y = contents_state (contents_held s levels) in
     let tree : s.memory.parents ≡ versions_of y = whole.memory.parents in
-    let known : v < length (versions_of y) = subst (λ (ps : Parents). v < length ps) tree (ltb-true v (length s.memory.parents) is) in
+    let known : v < length (versions_of y) = subst (λ (ps : Parents). v < length ps) tree (there_known s.memory.parents s.memory.marks v is) in
     let g = stands.stands.content in
     let lies = (stands.stands.reads g stands.stands.left).lies.arrays in
     let one : AreThirdLive g (versions_of y) v (filter_map (λ level. desc_for (versions_of y) level v) s.chained.manifest.levels) = thirds_live g y s.chained.manifest.levels v stands.stands.sound lies known in
@@ -114,6 +114,6 @@ held_thirds w s levels f v whole stands exposed is =
     (subst (λ (ds : List LevelDesc). AreThirdLive g s.memory.parents v (filter_map (λ level. desc_for s.memory.parents level v) ds)) (sym whole.placed.listed_are)
     (subst (λ (ps : Parents). AreThirdLive g ps v (filter_map (λ level. desc_for ps level v) s.chained.manifest.levels)) (sym tree) one))
 
-pub asked_thirds : (w : DiskView) (s : Held) (x : Contents) (f : Image) (v : ℕ) → IsConsistent s → StandsWith w s x → w.content ≡ Some f → is_known s.memory.parents v ≡ true
+pub asked_thirds : (w : DiskView) (s : Held) (x : Contents) (f : Image) (v : ℕ) → IsConsistent s → StandsWith w s x → w.content ≡ Some f → has_version s.memory v ≡ true
     → AreThirdLive f s.memory.parents v (arrays_asked s.memory.parents s.levels v)
 asked_thirds w s x f v whole stands exposed is = held_thirds w s x.levels f v whole (subst (StandsWith w s) stands.held stands) exposed is

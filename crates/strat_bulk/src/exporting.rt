@@ -1,7 +1,6 @@
 //! The export of a version.
 
 ghost use Rattle.std.specs.Prelude.{◌≡◌, ℕ, true, false, ◌↔◌};
-ghost use Rattle.strat_base.specs.Tree.{is_known};
 ghost use Rattle.def_crash.specs.Faults.{ReadsAtMost, Rose};
 ghost use Rattle.def_crash.specs.Image.{Image};
 ghost use Rattle.def_crash.specs.Moments.{Exposes, OnlyReads};
@@ -16,6 +15,7 @@ ghost use Rattle.strat_model.specs.declared.ended.Ended.TheVariants as ended;
 ghost use Rattle.strat_bulk.specs.Density.{AreThirdLive};
 ghost use Rattle.strat_bulk.specs.Ending.{WritesPairs, AreTold, EndsExport, EndsStanding, IsUnbegun, ExportHasCause};
 ghost use Rattle.strat_bulk.specs.Runs.{AreLawful};
+ghost use Rattle.strat_memory.specs.Memory.{has_version};
 
 use crate::pages::{Room, write_version};
 use std::alloc::Global;
@@ -51,7 +51,7 @@ pub fn export_pairs<K: Sink, D: Disk>(
     ensures kept { (x : Contents) → StandsWith (D.view disk.old) store.now x → result ≡ ended.Done
         → IsMap (pairs_at (table_of (contents_state x)) version) }
     ensures none { (result ≡ ended.UnknownVersion)
-        ↔ (is_known store.now.memory.parents version ≡ false) }
+        ↔ (has_version store.now.memory version ≡ false) }
     ensures end { EndsExport result }
     ensures found { (x : Contents) → StandsWith (D.view disk.old) store.now x
         → ¬ Rose (D.faults disk.old) (D.faults disk.new)
@@ -67,7 +67,7 @@ pub fn export_pairs<K: Sink, D: Disk>(
         (blocks_of_arrays (arrays_asked store.now.memory.parents store.now.levels version))
         (D.reads disk.old) (D.reads disk.new) }
     ensures fits { (x : Contents) (f : Image) → StandsWith (D.view disk.old) store.now x
-        → Exposes (D.view disk.old) f → is_known store.now.memory.parents version ≡ true
+        → Exposes (D.view disk.old) f → has_version store.now.memory version ≡ true
         → AreThirdLive f store.now.memory.parents version
         (arrays_asked store.now.memory.parents store.now.levels version) }
 {

@@ -1,5 +1,5 @@
 -- A command that is read is the command that was spelled, and what was spelled is read again.
-use Rattle.std.proofs.Common.{◌≡◌, ℕ, ◌^◌, ◌<◌, ◌≤◌, true, cond, leb, eqb, List, [], ◌∷◌, ◌++◌, length, Option, Some, None, refl, sym, ap, subst, ◌∙◌, length-append, arith, inl, inr, ◌⊎◌, true≢false}
+use Rattle.std.proofs.Common.{◌≡◌, ℕ, ◌^◌, ◌<◌, ◌≤◌, true, cond, leb, eqb, List, [], ◌∷◌, ◌++◌, length, Option, Some, None, refl, sym, ap, subst, ◌∙◌, length-append, arith, inl, inr, ◌⊎◌}
 use Rattle.std.proofs.lemmas.Bool.{le-leb, eqb-true}
 use Rattle.std.proofs.lemmas.List.{nil_from_length}
 use Rattle.std.proofs.lemmas.Option.{cond_some, same_Some, none-some}
@@ -64,7 +64,10 @@ request_takes opcode fields bytes =
     (by_fields 8 (λ x. NextPairs x.0 x.1) cursor_limit_in _ _ cursor_limit_reads (λ x f. record { text = refl; fits = f }) opcode fields bytes)
     (either_arm Is (eqb opcode 9) _ _
     (by_fields 9 CloseCursor sole_long _ _ sole_long_reads (λ x f. record { text = refl; fits = f }) opcode fields bytes)
-    (either_arm Is (eqb opcode 10) _ _ (no_fields opcode fields) (no_arm Is))))))))))
+    (either_arm Is (eqb opcode 10) _ _ (no_fields opcode fields)
+    (either_arm Is (eqb opcode 11) _ _
+    (by_fields 11 DropVersion sole_number _ _ sole_reads (λ x f. record { text = refl; fits = f }) opcode fields bytes)
+    (no_arm Is)))))))))))
 
 -- what is read is spelled so
 pub command_takes : (body : List ℕ) (tag : ℕ) (request : Request) → AreBytes body → command_in body ≡ Some (tag, request) → HasForm body tag request
@@ -104,7 +107,8 @@ command_again tag (Clone version) tag_fits fits =
 command_again tag (Info version) tag_fits fits =
     front_again tag 6 (be 4 version) (Info version) tag_fits (omega arith) (ap (option_map Info) (sole_reads.again version fits))
 command_again tag Stat tag_fits fits = front_again tag 10 [] Stat tag_fits (omega arith) refl
-command_again tag (DropVersion version) tag_fits fits = absurd (true≢false (sym fits.0))
+command_again tag (DropVersion version) tag_fits fits =
+    front_again tag 11 (be 4 version) (DropVersion version) tag_fits (omega arith) (ap (option_map DropVersion) (sole_reads.again version fits))
 command_again tag (Scan version lo hi limit) tag_fits fits =
     front_again tag 5 (((be 4 version ++ counted lo) ++ counted hi) ++ be 2 limit) (Scan version lo hi limit) tag_fits (omega arith)
     (ap (option_map (λ (x : ((ℕ × List ℕ) × List ℕ) × ℕ). Scan x.0.0.0 x.0.0.1 x.0.1 x.1)) (version_range_reads.again (((version, lo), hi), limit) (((fits.0, fits.1), fits.2), fits.3)))

@@ -109,8 +109,8 @@ unfolding refusal_in
 refusal_takes status =
     arm why.UnknownVersion (refl, tt, refl) _ (arm why.Frozen (refl, tt, refl) _ (arm why.UnknownCursor (refl, tt, refl) _ (arm why.VersionLimit (refl, tt, refl) _
     (arm why.ChangeLimit (refl, tt, refl) _ (arm why.CursorLimit (refl, tt, refl) _ (arm why.Malformed (refl, tt, refl) _ (arm why.KeySize (refl, tt, refl) _
-    (arm why.ValueSize (refl, tt, refl) _ (arm why.ScanSize (refl, tt, refl) _ (arm why.FrameTooLong (refl, tt, refl) _ (arm why.NoMemory (refl, tt, refl) _
-    (arm why.DeviceFault (refl, tt, refl) _ (no_arm Is)))))))))))))
+    (arm why.ValueSize (refl, tt, refl) _ (arm why.ScanSize (refl, tt, refl) _ (arm why.FrameTooLong (refl, tt, refl) _ (arm why.Root (refl, tt, refl) _
+    (arm why.NoMemory (refl, tt, refl) _ (arm why.DeviceFault (refl, tt, refl) _ (no_arm Is))))))))))))))
   where
     Is : Refusal → Type 0
     Is cause = IsReply status [] (reply.Refused cause)
@@ -280,6 +280,7 @@ reply_again tag (reply.Refused why.Malformed) pairs tag_fits fits none = plain_a
 reply_again tag (reply.Refused why.KeySize) pairs tag_fits fits none = plain_again tag (reply.Refused why.KeySize) pairs tag_fits none (omega arith) refl
 reply_again tag (reply.Refused why.ValueSize) pairs tag_fits fits none = plain_again tag (reply.Refused why.ValueSize) pairs tag_fits none (omega arith) refl
 reply_again tag (reply.Refused why.FrameTooLong) pairs tag_fits fits none = plain_again tag (reply.Refused why.FrameTooLong) pairs tag_fits none (omega arith) refl
+reply_again tag (reply.Refused why.Root) pairs tag_fits fits none = plain_again tag (reply.Refused why.Root) pairs tag_fits none (omega arith) refl
 reply_again tag (reply.Refused why.NoMemory) pairs tag_fits fits none = plain_again tag (reply.Refused why.NoMemory) pairs tag_fits none (omega arith) refl
 reply_again tag (reply.Refused why.DeviceFault) pairs tag_fits fits none = plain_again tag (reply.Refused why.DeviceFault) pairs tag_fits none (omega arith) refl
 reply_again tag (reply.Refused (why.Damaged block)) pairs tag_fits fits none =

@@ -2,7 +2,7 @@
 use Rattle.std.specs.Prelude.{ℕ, zero, suc, ◌==◌, nat_le, if◌then◌else◌, Bool, true, false, List, [], ◌∷◌, length, take, drop, Option, Some, None}
 use Rattle.std.specs.Option.{option_and_then, option_map}
 use Rattle.strat_base.specs.Numbers.{number}
-use Rattle.strat_model.specs.Request.{Request, Put, Delete, Get, Clone, Scan, Info, OpenCursor, NextPairs, CloseCursor, Stat}
+use Rattle.strat_model.specs.Request.{Request, Put, Delete, Get, Clone, Scan, Info, OpenCursor, NextPairs, CloseCursor, Stat, DropVersion}
 use Rattle.strat_base.specs.Sizes.{is_value}
 use Rattle.strat_base.specs.declared.limits.TheConstants.{PAIRS_MAX}
 use Rattle.strat_model.specs.declared.replies.Reply.{Reply}
@@ -76,7 +76,8 @@ request_in opcode fields =
     if opcode == 7 then option_map (λ x. OpenCursor x.0.0 x.0.1 x.1) (version_pair_in fields) else
     if opcode == 8 then option_map (λ x. NextPairs x.0 x.1) (cursor_limit_in fields) else
     if opcode == 9 then option_map CloseCursor (sole_long fields) else
-    if opcode == 10 then (if length fields == 0 then Some Stat else None) else None
+    if opcode == 10 then (if length fields == 0 then Some Stat else None) else
+    if opcode == 11 then option_map DropVersion (sole_number fields) else None
 
 -- a tag and a command, all of the bytes
 unfoldable pub command_in : List ℕ → Option (ℕ × Request)
@@ -100,6 +101,7 @@ refusal_in status =
     if status == 24 then Some why.ValueSize else
     if status == 25 then Some why.ScanSize else
     if status == 26 then Some why.FrameTooLong else
+    if status == 27 then Some why.Root else
     if status == 32 then Some why.NoMemory else
     if status == 33 then Some why.DeviceFault else None
 

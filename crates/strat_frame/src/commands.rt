@@ -132,6 +132,15 @@ fn stat_of(fields: &[u8]) -> Option<Command<'_>>
     Some(Command::Stat)
 }
 
+/// The command of opcode 11, by its fields.
+#[tactic(auto, unfolding(crate::specs::Fields::request_in))]
+fn drop_of(fields: &[u8]) -> Option<Command<'_>>
+    ensures { Finds request_of result (request_in 11 fields.now) }
+{
+    let version = sole_u32(fields)?;
+    Some(Command::DropVersion { version })
+}
+
 /// The command of an opcode, by its fields.
 #[tactic(auto, unfolding(crate::specs::Fields::request_in))]
 fn request_for(opcode: u8, fields: &[u8]) -> Option<Command<'_>>
@@ -148,6 +157,7 @@ fn request_for(opcode: u8, fields: &[u8]) -> Option<Command<'_>>
         8 => next_of(fields),
         9 => close_of(fields),
         10 => stat_of(fields),
+        11 => drop_of(fields),
         _ => None,
     }
 }
@@ -263,6 +273,7 @@ fn put_command(command: &Command<'_>, out: &mut OutBuf)
         }
         Command::CloseCursor { cursor } => put_cursor(9, cursor, out),
         Command::Stat => out.put_u8(10),
+        Command::DropVersion { version } => put_version(11, version, out),
     }
 }
 

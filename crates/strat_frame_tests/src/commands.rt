@@ -31,7 +31,7 @@ const LARGEST: Command<'static> = Command::Put {
 };
 
 // Commands, and their frames under one tag.
-const FRAMES: [(Command<'static>, &str); 11] = [
+const FRAMES: [(Command<'static>, &str); 12] = [
     (PUT, "0000000f 01020304 01 00000000 0001 61 0001 31"),
     (PUT_NOTHING, "0000000f 01020304 01 00000201 0002 6162 0000"),
     (
@@ -85,6 +85,10 @@ const FRAMES: [(Command<'static>, &str); 11] = [
         "0000000d 01020304 09 0000000000000001",
     ),
     (Command::Stat, "00000005 01020304 0a"),
+    (
+        Command::DropVersion { version: 1 },
+        "00000009 01020304 0b 00000001",
+    ),
 ];
 
 /// Whether these bytes may be a bound of a range.
@@ -114,7 +118,8 @@ fn sizes_ok(command: &Command<'_>) -> bool
         Command::Clone { .. }
         | Command::Info { .. }
         | Command::CloseCursor { .. }
-        | Command::Stat => true,
+        | Command::Stat
+        | Command::DropVersion { .. } => true,
     }
 }
 
@@ -138,7 +143,7 @@ fn commands_are_written_field_by_field(rt: HostRuntime) -> Result<(), Fail> {
 }
 
 // Bodies, their tags and their commands.
-const BODIES: [(&str, u32, Command<'static>); 15] = [
+const BODIES: [(&str, u32, Command<'static>); 17] = [
     ("00000007 01 00000000 0001 61 0001 31", 7, PUT),
     (
         "ffffffff 01 00000201 0002 6162 0000",
@@ -221,6 +226,18 @@ const BODIES: [(&str, u32, Command<'static>); 15] = [
         },
     ),
     ("0000000b 0a", 11, Command::Stat),
+    (
+        "00000001 0b 00000001",
+        1,
+        Command::DropVersion { version: 1 },
+    ),
+    (
+        "00000002 0b ffffffff",
+        2,
+        Command::DropVersion {
+            version: 4294967295,
+        },
+    ),
 ];
 
 /// Whether a body is read as a command under this tag.
@@ -249,15 +266,15 @@ fn bodies_are_read_as_commands(rt: HostRuntime) -> Result<(), Fail> {
 }
 
 // Bodies that do not have the form of a command, and the tags of their replies. A field too few or a byte too
-// many comes before any size. No command has opcode 11 yet, whatever follows it.
-const MALFORMED: [(&str, u32); 33] = [
+// many comes before any size. No command has opcode 12, whatever follows it.
+const MALFORMED: [(&str, u32); 36] = [
     ("", 0),
     ("aabbcc", 0),
     ("00000009", 9),
     ("00000001 00", 1),
-    ("00000001 0b", 1),
-    ("00000001 0b 00000001", 1),
-    ("00000001 0b 00000001 00", 1),
+    ("00000001 0c", 1),
+    ("00000001 0c 00000001", 1),
+    ("00000001 0c 00000001 00", 1),
     ("00000001 ff", 1),
     ("00000001 01", 1),
     ("00000004 01 00000000 0001 61", 4),
@@ -284,6 +301,9 @@ const MALFORMED: [(&str, u32); 33] = [
     ("00000004 09 00000000000001", 4),
     ("00000004 09 0000000000000001 00", 4),
     ("00000001 0a 00", 1),
+    ("00000001 0b", 1),
+    ("00000001 0b 000001", 1),
+    ("00000001 0b 00000001 00", 1),
 ];
 
 // Bodies with a key of no byte, whatever their version and their value.

@@ -59,7 +59,7 @@ const FRAMES: [(Reply, &str); 8] = [
 ];
 
 // Refusals and their frames.
-const REFUSALS: [(Refusal, &str); 14] = [
+const REFUSALS: [(Refusal, &str); 15] = [
     (Refusal::UnknownVersion, "00000005 00000007 10"),
     (Refusal::Frozen, "00000005 00000007 11"),
     (Refusal::UnknownCursor, "00000005 00000007 12"),
@@ -71,6 +71,7 @@ const REFUSALS: [(Refusal, &str); 14] = [
     (Refusal::ValueSize, "00000005 00000007 18"),
     (Refusal::ScanSize, "00000005 00000007 19"),
     (Refusal::FrameTooLong, "00000005 00000007 1a"),
+    (Refusal::Root, "00000005 00000007 1b"),
     (Refusal::NoMemory, "00000005 00000007 20"),
     (Refusal::DeviceFault, "00000005 00000007 21"),
     (
@@ -199,7 +200,7 @@ fn are_digits_of(
 }
 
 // Bodies and their replies.
-const BODIES: [(&str, Reply); 27] = [
+const BODIES: [(&str, Reply); 28] = [
     ("00000007 00", Reply::Done),
     ("00000007 01 0001 31", Reply::Found),
     ("00000007 02", Reply::Absent),
@@ -264,6 +265,7 @@ const BODIES: [(&str, Reply); 27] = [
     ("00000007 18", Reply::Refused(Refusal::ValueSize)),
     ("00000007 19", Reply::Refused(Refusal::ScanSize)),
     ("00000007 1a", Reply::Refused(Refusal::FrameTooLong)),
+    ("00000007 1b", Reply::Refused(Refusal::Root)),
     ("00000007 20", Reply::Refused(Refusal::NoMemory)),
     ("00000007 21", Reply::Refused(Refusal::DeviceFault)),
     (
@@ -406,7 +408,7 @@ fn is_no_reply(alloc: Global, pairs: &mut PairBuf, digits: &str) -> Result<bool,
 
 // Bodies that are no reply: with a field or a pair too few or a byte too many, a flag that is neither 0 nor 1,
 // or the status of no reply.
-const NO_REPLIES: [&str; 30] = [
+const NO_REPLIES: [&str; 31] = [
     "",
     "00000007",
     "000007 00",
@@ -432,7 +434,8 @@ const NO_REPLIES: [&str; 30] = [
     "00000007 07 00000001 00000002 00000003 00000004 00",
     "00000007 11 00",
     "00000007 12 00",
-    "00000007 1b",
+    "00000007 1b 00",
+    "00000007 1c",
     "00000007 21 00000007",
     "00000007 22",
     "00000007 22 00000007 00",

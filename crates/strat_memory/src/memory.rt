@@ -3,7 +3,7 @@
 
 ghost use Rattle.std.specs.List.{list_all};
 ghost use Rattle.std.specs.Option.{option_copied, option_to_list};
-ghost use Rattle.std.specs.Prelude.{◌≡◌, ◌<◌, ◌≤◌, ℕ, ◌+◌, ◌↔◌, [], ◌∷◌, length, map, option_map, nat_lt, false, Some, None, Contains, IfOk, IfSome, OnOk, OnErr, IsErrOf, IsTrue, is_some};
+ghost use Rattle.std.specs.Prelude.{◌≡◌, ◌<◌, ◌≤◌, ℕ, ◌+◌, ◌↔◌, [], ◌∷◌, ◌++◌, length, map, slice_set, true, option_map, nat_lt, false, Some, None, Contains, IfOk, IfSome, OnOk, OnErr, IsErrOf, IsTrue, is_some};
 ghost use Rattle.strat_array.specs.Told.{TellsFound};
 ghost use Rattle.strat_base.specs.Change.{is_lawful};
 ghost use Rattle.strat_base.specs.ChangeView.{change_of};
@@ -106,6 +106,8 @@ fn prune(tree: &mut Tree, marks: &[u32])
     ensures ok { tree.new ≡ record tree.old { marks = marks_listed marks.now } }
 {
     let mut v = tree.count();
+    // For the proof: each version has a mark.
+    let _ = tree.is_dead(0);
     while v > 1 {
         v -= 1;
         if marks[v as usize] == 1 {
@@ -128,7 +130,10 @@ fn marks_of(alloc: Global, tree: &Tree) -> Result<Versions, NoMemory>
     ensures ok { IfOk result (λ marks. marks_listed marks ≡ tree.now.marks) }
 {
     let mut marks = Versions::new(alloc);
-    for v in 0..tree.count() {
+    let versions = tree.count();
+    // For the proof: each version has a mark.
+    let _ = tree.is_dead(0);
+    for v in 0..versions {
         let mark = if tree.is_dead(v) { 1 } else { 0 };
         if let Err((failed, _)) = marks.push(mark) {
             return Err(failed);
@@ -225,8 +230,8 @@ impl Memory {
             × IsTrue (are_pruned (None ∷ map (λ p. Some p) parents.now) (marks_listed marks.now)) }
         requires room { 1 + length parents.now ≤ self.old.versions_max }
         requires none { (self.old.parents ≡ None ∷ []) × (self.old.entries ≡ [])
-            × (self.old.sealed ≡ None) × (self.old.cursors.opened ≡ []) }
-        requires living { self.old.marks ≡ false ∷ [] }
+            × (self.old.sealed ≡ None) × (self.old.cursors.opened ≡ [])
+            × (self.old.marks ≡ false ∷ []) }
         requires kept { (updates ≤ changes) × (changes ≤ self.old.changes_max) }
         ensures ok { self.new ≡ record self.old {
           parents = None ∷ map (λ p. Some p) parents.now;
@@ -443,6 +448,7 @@ impl Memory {
             × IsTrue (are_known self.now.parents (entries_held result.2.now z))) }
         ensures fits { IsTrue (are_known self.now.parents self.now.entries) }
         ensures found { (result.3.now.parents ≡ self.now.parents) × IsTree result.3.now.parents }
+        ensures same { result.3.now.marks ≡ self.now.marks }
     {
         // For the proof: the parents are a tree.
         let _ = self.tree.count();
@@ -462,6 +468,7 @@ impl Memory {
         ensures len { length result.0.now.list.items ≡ length self.now.entries }
         ensures fits { IsTrue (are_known self.now.parents self.now.entries) }
         ensures found { (result.2.now.parents ≡ self.now.parents) × IsTree result.2.now.parents }
+        ensures same { result.2.now.marks ≡ self.now.marks }
     {
         // For the proof: the parents are a tree.
         let _ = self.tree.count();

@@ -312,6 +312,7 @@ impl Store {
     /// Whether there is such a version, which was not dropped. O(1).
     pub fn known(&self, version: Version) -> bool
         ensures ok { result ≡ has_version self.now.memory version }
+        ensures found { result ≡ true → version < length self.now.memory.parents }
     {
         self.held.memory.has(version)
     }

@@ -5,7 +5,6 @@ ghost use Rattle.std.specs.Prelude.{◌≡◌, ◌≢◌, ◌≤◌, ◌<◌, �
 ghost use Rattle.def_crash.specs.Faults.{Rose};
 ghost use Rattle.def_crash.specs.Image.{Image};
 ghost use Rattle.strat_cursor.specs.Cursors.{is_opened};
-ghost use Rattle.strat_base.specs.Tree.{is_known};
 ghost use Rattle.strat_io.specs.Streams.{Appends};
 ghost use Rattle.strat_model.specs.Answer.{Answer, plain, refusal};
 ghost use Rattle.strat_model.specs.Ended.{status_of};
@@ -20,7 +19,7 @@ ghost use Rattle.def_publish.specs.Standing.{ShowsTable};
 ghost use Rattle.def_recovery.specs.Opening.{reads_as};
 ghost use Rattle.def_state.specs.State.{State, IsPaid};
 ghost use Rattle.strat_memory.specs.Held.{Held};
-ghost use Rattle.strat_memory.specs.Memory.{info_told, stat_told};
+ghost use Rattle.strat_memory.specs.Memory.{info_told, stat_told, has_version};
 ghost use Rattle.strat_memory.specs.Paying.{IsPaidIn};
 ghost use Rattle.strat_loop.specs.Session.{Took, IsAtEnd};
 ghost use Rattle.strat_serve.specs.Serving.{too_long_bytes};
@@ -89,13 +88,13 @@ pub fn bytes_that_are_paid_for_and_sources_that_hide()
 /// the tree, the counts, and that a cursor was opened or closed. Of one that is there pairs or a fault are told.
 pub fn what_memory_decides_is_told()
     ensures none { (f : Image) (s : Held) (v limit : ℕ) (key lo hi : List ℕ) (a : Answer)
-        → is_known s.memory.parents v ≡ false
+        → has_version s.memory v ≡ false
         → (TellsFrom f s (Get v key) a → a ≡ refusal why.UnknownVersion)
         × (TellsFrom f s (Scan v lo hi limit) a → a ≡ refusal why.UnknownVersion)
         × (TellsFrom f s (Info v) a → a ≡ refusal why.UnknownVersion)
         × (TellsFrom f s (OpenCursor v lo hi) a → a ≡ refusal why.UnknownVersion) }
     ensures found { (f : Image) (s : Held) (v limit : ℕ) (key lo hi : List ℕ) (a : Answer)
-        → is_known s.memory.parents v ≡ true
+        → has_version s.memory v ≡ true
         → (TellsFrom f s (Get v key) a → MayTellOfKey a.reply)
         × (TellsFrom f s (Scan v lo hi limit) a → MayTellOfRange a.reply)
         × (TellsFrom f s (Info v) a → a ≡ plain (info_told s.memory v))

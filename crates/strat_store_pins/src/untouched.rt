@@ -1,7 +1,7 @@
 //! What a command leaves of a store and of its disk, as it was told: each fact of this record, used once. Each is the contract of a
 //! function that does nothing.
 
-ghost use Rattle.std.specs.Prelude.{◌≡◌, ◌⊎◌, ℕ, List, [], true, false, None, Some, Contains};
+ghost use Rattle.std.specs.Prelude.{◌≡◌, ◌⊎◌, ◌+◌, ℕ, slice_set, List, [], true, false, None, Some, Contains};
 ghost use Rattle.strat_array.specs.Kept.{IsBlockRead};
 ghost use Rattle.strat_base.specs.Change as change;
 ghost use Rattle.strat_base.specs.Entries.{Entry};
@@ -14,7 +14,7 @@ ghost use Rattle.strat_model.specs.declared.replies.Reply.{Reply};
 ghost use Rattle.strat_model.specs.declared.replies.Reply.TheVariants as reply;
 ghost use Rattle.strat_store.specs.Applying.{IsUntouched, may_write};
 ghost use Rattle.strat_memory.specs.Held.{Held, arrays_held};
-ghost use Rattle.strat_memory.specs.Memory.{Memory, memory_after, refusal_of_change, sealed_now};
+ghost use Rattle.strat_memory.specs.Memory.{Memory, has_version, memory_after, refusal_of_change, sealed_now};
 
 use def_crash::laws::Viewed;
 
@@ -50,14 +50,16 @@ pub fn a_refused_change_leaves_store_and_disk<D: Viewed>()
         × (new.chained ≡ old.chained) × OnlyReads (D.view d) (D.view e) }
 {}
 
-/// A drop of a version is refused as one of a version that is unknown, and leaves store and disk as they were.
-pub fn a_drop_leaves_store_and_disk<D: Viewed>()
-    ensures err { (d e : D) (old new : Held) (v : ℕ) (told : Reply)
-        → IsUntouched (D.view d) (D.view e) (DropVersion v) old told new
-        → (told ≡ reply.Refused why.UnknownVersion) × (new.memory ≡ old.memory)
+/// A drop of version 0 is refused, and leaves store and disk as they were. Any other that memory takes sets one mark and counts
+/// as one change.
+pub fn a_drop_sets_one_mark<D: Viewed>()
+    ensures err { (d e : D) (old new : Held) (told : Reply) → has_version old.memory 0 ≡ true
+        → IsUntouched (D.view d) (D.view e) (DropVersion 0) old told new
+        → (told ≡ reply.Refused why.Root) × (new.memory ≡ old.memory)
         × (new.log ≡ old.log) × (new.chained ≡ old.chained)
         × OnlyReads (D.view d) (D.view e) }
-    ensures same { (m : Memory) (v : ℕ) → memory_after m (change.DropVersion v) ≡ m }
+    ensures same { (m : Memory) (v : ℕ) → memory_after m (change.DropVersion v)
+        ≡ record m { marks = slice_set m.marks v true; changes = m.changes + 1 } }
 {}
 
 /// A change that memory takes is told that it is done, of want of memory, or of a fault.
