@@ -59,7 +59,7 @@ class Dropped(UnknownVersion):
 class Frozen(Refused):
     status = 17
     what = "the version has a child, and takes no puts and deletes and no drop"
-    remedy = "Clone it, and write to the clone. Or drop its children first (`drop --tree`)."
+    remedy = "Clone it, and write to the clone; or drop its children first."
 
 
 class UnknownCursor(Refused):

@@ -376,16 +376,13 @@ class Shell:
         except UnknownVersion as error:
             error.command = f"drop version {version}"
             raise
-        if not is_tree:
-            titled, names = self.titled(version), self.store.drop(version)
-            self._say_dropped(titled, [version], names)
-        else:
-            made = self._drop_tree(version)
-            if made is None:
-                self.say("nothing was dropped")
-                return
-            what = self.titled(version) if len(made.versions) == 1 else f"{len(made.versions):,} versions, {levels.listed(sorted(made.versions))}"
-            self._say_dropped(what, made.versions, made.names)
+        titled = self.titled(version)
+        made = self._drop_tree(version) if is_tree else dropping.Drops([version], self.store.drop(version))
+        if made is None:
+            self.say("nothing was dropped")
+            return
+        several = f"{counted(len(made.versions), 'version')}, {levels.listed(sorted(made.versions))}"
+        self._say_dropped(titled if made.versions == [version] else several, made)
         self._leave(version, parent)
 
     def _drop_tree(self, version: int) -> Optional[dropping.Drops]:
@@ -415,11 +412,12 @@ class Shell:
             raise Stopped("stopped; nothing was done") from None
         return answer.strip().lower() in ("y", "yes")
 
-    def _say_dropped(self, what: str, versions: List[int], names: List[str]) -> None:
+    def _say_dropped(self, what: str, made: dropping.Drops) -> None:
         """Tells what was dropped, and which names are let go of."""
-        one = "its name" if len(versions) == 1 else "the name"
-        gone = f"; {one}{'s' if len(names) > 1 else ''} {', '.join(names)} {'is' if len(names) == 1 else 'are'} let go of" if names else ""
-        self.say(f"dropped {what}{gone}", dropped=sorted(versions), names=names)
+        names, whose = made.names, "its" if len(made.versions) == 1 else "the"
+        is_one = len(names) == 1
+        gone = f"; {whose} {'name' if is_one else 'names'} {', '.join(names)} {'is' if is_one else 'are'} let go of" if names else ""
+        self.say(f"dropped {what}{gone}", dropped=sorted(made.versions), names=names)
 
     def _leave(self, version: int, parent: Optional[int]) -> None:
         """Has the prompt go to the parent of a version that was dropped, where it was at that one or below it."""

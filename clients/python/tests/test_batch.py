@@ -35,6 +35,10 @@ class Versions:
             depth, at = depth + 1, self.parents[at]
         return Info(self.parents[version], depth, self.is_frozen(version))
 
+    def living(self) -> List[int]:
+        """The versions that were not dropped."""
+        return [version for version in range(len(self.pairs)) if version not in self.dropped]
+
     def is_frozen(self, version: int) -> bool:
         """Whether a version has a child that was not dropped."""
         return any(parent == version and child not in self.dropped for child, parent in enumerate(self.parents))
@@ -82,10 +86,11 @@ class Versions:
         return None
 
 
-def drawn(chance: random.Random, versions: int) -> Tuple[str, int, Tuple[bytes, ...]]:
+def drawn(chance: random.Random, plain: Versions) -> Tuple[str, int, Tuple[bytes, ...]]:
     """A command, a version that may be there, and the command's words."""
+    versions = len(plain.pairs)
     command = chance.choices(("put", "delete", "get", "clone", "drop", "info", "stat"), (30, 10, 50, 2, 1, 5, 4))[0]
-    version = chance.randrange(max(0, versions - 6), versions + 1)
+    version = chance.choice((chance.randrange(max(0, versions - 6), versions + 1), chance.choice(plain.living()[-6:])))
     key = b"key/%d" % chance.randrange(60)
     words = {"put": (key, chance.randbytes(chance.choice((0, 3, 60, 1024)))), "delete": (key,), "get": (key,)}
     return command, version, words.get(command, ())
@@ -135,7 +140,7 @@ class BatchTest(StoreCase):
         store = self.made(256, 100000, 150)
         with store.batch(return_exceptions=True) as batch:
             for _ in range(10000):
-                command, version, words = drawn(chance, len(plain.pairs))
+                command, version, words = drawn(chance, plain)
                 getattr(batch, command)(*(() if command == "stat" else (version, *words)))
                 want.append(plain.answer(command, version, *words))
         got = kinds(list(batch.results))
@@ -149,7 +154,7 @@ class BatchTest(StoreCase):
         store.close()
         store = self.opened()
         again = store.batch()
-        living = [version for version in range(len(plain.pairs)) if version not in plain.dropped]
+        living = plain.living()
         self.assertEqual([version for version, info in enumerate(store.versions()) if info is not None], living)
         for version in living:
             for number in range(60):
@@ -349,7 +354,9 @@ class ReadingTest(StoreCase):
                 plain.answer("put", 0, key, b"")
         batch = store.batch(return_exceptions=True)
         for number in range(3000):
-            version, key = chance.randrange(max(0, len(plain.pairs) - 4), len(plain.pairs) + (chance.random() < 0.02)), chance.choice(keys)
+            last = range(max(0, len(plain.pairs) - 4), len(plain.pairs) + 1)
+            version = chance.choice(last if chance.random() < 0.03 else plain.living()[-4:])
+            key = chance.choice(keys)
             draw = chance.choices(("change", "clone", "drop", "page", "stat", "open", "read", "end"), (44, 2, 1, 3, 5, 16, 22, 6))[0]
             if draw == "open":
                 lower, upper = chance.choice((b"", b"", key, key + b"\0")), chance.choice((b"", b"", b"", chance.choice(keys)))

@@ -70,7 +70,7 @@ class RefusalsTest(StoreCase):
         self.assertEqual(self.store.clone(0), 1)
         error = self.refused(errors.Frozen, "put", 0, b"b", b"2")
         self.assertEqual(str(error), f"{self.path}: put b at version 0: the version has a child, and takes no puts and deletes and no "
-                                     "drop. Clone it, and write to the clone. Or drop its children first (`drop --tree`).")
+                                     "drop. Clone it, and write to the clone; or drop its children first.")
         self.refused(errors.Frozen, "delete", 0, b"a")
         self.refused(errors.VersionLimit, "clone", 1)
         self.refused(errors.Root, "drop", 0)

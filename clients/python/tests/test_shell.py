@@ -356,7 +356,7 @@ class DropTest(StoreCase):
         self.assertEqual(carried_out(store, "drop 4", "drop @5", "drop x", "tree", "put a 1 @0"), (
             "dropped version 4\ndropped version 5\ndropped version 3 (x); its name x is let go of\n"
             "0 (here) ─ 1 staging (3 dropped) ─ 2\n", f"castle-shell: line 5: {self.path}: put a at version 0: the version has a child, and takes "
-            "no puts and deletes and no drop. Clone it, and write to the clone. Or drop its children first (`drop --tree`).\n", 1))
+            "no puts and deletes and no drop. Clone it, and write to the clone; or drop its children first.\n", 1))
         store.names.assign({"y": 2, "z": 2})
         self.assertEqual(carried_out(store, "drop 2", "info @1")[0], "dropped version 2 (y, z); its names y, z are let go of\n"
                          "version 1 (staging): a clone of version 0, 1 ancestor, takes puts and deletes\n")
