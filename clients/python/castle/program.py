@@ -7,7 +7,6 @@ system read or wrote is noted within the call that did it.
 
 from __future__ import annotations
 
-import contextlib
 import errno
 import os
 import struct
@@ -270,12 +269,15 @@ class Program:
         if not asked:
             return
         found: List[Result] = []
-        with contextlib.suppress(errors.CastleError), self.lock:  # it may take no more commands
-            self.send(found, lambda: frames.stat(self.tag))
-            for version in asked:
-                self.send(found, lambda: frames.info(self.tag, version))
-            self.settle(found)
-        stat, *places = found or [None]
+        try:
+            with self.lock:
+                self.send(found, lambda: frames.stat(self.tag))
+                for version in asked:
+                    self.send(found, lambda: frames.info(self.tag, version))
+                self.settle(found)
+        except errors.CastleError:
+            return  # it takes no more commands
+        stat, *places = found
         if not isinstance(stat, frames.Stat):
             return
         # one that was asked for before it was made is there now
