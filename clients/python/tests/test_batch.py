@@ -39,6 +39,10 @@ class Versions:
         """The versions that were not dropped."""
         return [version for version in range(len(self.pairs)) if version not in self.dropped]
 
+    def refusal(self, version: int) -> Optional[Type[Refused]]:
+        """What a command of a version is refused with that is not there; None where it is."""
+        return errors.UnknownVersion if version >= len(self.pairs) else errors.Dropped if version in self.dropped else None
+
     def is_frozen(self, version: int) -> bool:
         """Whether a version has a child that was not dropped."""
         return any(parent == version and child not in self.dropped for child, parent in enumerate(self.parents))
@@ -51,10 +55,8 @@ class Versions:
         """What a command gives; a refusal by its class."""
         if command == "stat":
             return Stat(len(self.pairs), self.updates, self.changes, self.cursors)
-        if version >= len(self.pairs):
-            return errors.UnknownVersion
-        if version in self.dropped:
-            return errors.Dropped
+        if self.refusal(version):
+            return self.refusal(version)
         if command == "page":
             found = self.range(version, *words)
             return Page(found[:PIECE], len(found) > PIECE)
@@ -134,6 +136,11 @@ def kinds(results: List[object]) -> List[object]:
     return [type(result) if isinstance(result, Refused) else result for result in results]
 
 
+def alike(got: Sequence[object], want: Sequence[object]) -> Tuple[List[object], List[object]]:
+    """Both, but what was asked of a version before it was made is wanted as it is told at the end of a batch."""
+    return list(got), [one if one is errors.Dropped and other is errors.UnknownVersion else other for one, other in zip(got, want)]
+
+
 class BatchTest(StoreCase):
     def test_ten_thousand_commands_give_what_a_dictionary_of_versions_does(self) -> None:
         chance, plain, want = random.Random(22), Versions(150), []
@@ -145,10 +152,7 @@ class BatchTest(StoreCase):
                 want.append(plain.answer(command, version, *words))
         got = kinds(list(batch.results))
         self.assertEqual(len(got), 10000)
-        for number, (one, other) in enumerate(zip(got, want)):
-            # what was asked of a version before it was made is told as it is at the end
-            before = one is errors.Dropped and other is errors.UnknownVersion
-            self.assertEqual(one, errors.Dropped if before else other, f"command {number}")
+        self.assertEqual(*alike(got, want))
         seen = {kind for kind in want if isinstance(kind, type)}
         self.assertEqual(seen, {errors.UnknownVersion, errors.Dropped, errors.Root, errors.Frozen, errors.VersionLimit})
         store.close()
@@ -355,13 +359,11 @@ class ReadingTest(StoreCase):
         batch = store.batch(return_exceptions=True)
         for number in range(3000):
             last = range(max(0, len(plain.pairs) - 4), len(plain.pairs) + 1)
-            version = chance.choice(last if chance.random() < 0.03 else plain.living()[-4:])
-            key = chance.choice(keys)
+            version, key = chance.choice(last if chance.random() < 0.03 else plain.living()[-4:]), chance.choice(keys)
             draw = chance.choices(("change", "clone", "drop", "page", "stat", "open", "read", "end"), (44, 2, 1, 3, 5, 16, 22, 6))[0]
             if draw == "open":
                 lower, upper = chance.choice((b"", b"", key, key + b"\0")), chance.choice((b"", b"", b"", chance.choice(keys)))
-                fails = (errors.UnknownVersion if version >= len(plain.pairs) else errors.Dropped if version in plain.dropped
-                         else errors.CursorLimit if plain.cursors == 64 else None)
+                fails = plain.refusal(version) or (errors.CursorLimit if plain.cursors == 64 else None)
                 try:
                     readings.append(Reading(store.scan(version, lower, upper), plain, plain.range(version, lower, upper)))
                     self.assertIsNone(fails)
@@ -385,9 +387,7 @@ class ReadingTest(StoreCase):
                 words = words[:1] if command == "delete" else words
                 getattr(batch, command)(*(() if command == "stat" else (version, *words)))
                 want.append(plain.answer(command, version, *words))
-        for number, (one, other) in enumerate(zip(kinds(batch.finish()), want)):
-            before = one is errors.Dropped and other is errors.UnknownVersion  # what is told at the end is what is so then
-            self.assertEqual(one, errors.Dropped if before else other, f"command {number}")
+        self.assertEqual(*alike(kinds(batch.finish()), want))
         self.assertEqual((len(batch.results), seen), (len(want), {None, errors.UnknownVersion, errors.Dropped, errors.CursorLimit}))
         for reading in readings:
             self.assertEqual(*reading.take(1000))

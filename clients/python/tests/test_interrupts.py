@@ -39,12 +39,10 @@ def interrupted(call: Callable[[], object], at: int, names: str, opcodes: bool =
         if frame.f_code.co_filename not in files or event == "call" and is_of_an_end(frame):
             return None
         frame.f_trace_opcodes = opcodes
-        if frame.f_lineno is None:  # of the end of a `with` block
-            return step
         if event == "call":
             begun.difference_update([place for place in begun if place[0] == id(frame)])
-        text = linecache.getline(frame.f_code.co_filename, frame.f_lineno).strip()
-        if text == "try:":
+        text = linecache.getline(frame.f_code.co_filename, frame.f_lineno or 0).strip()
+        if text in ("", "try:"):  # none is of the end of a `with` block
             return step
         if event == "line" and text.startswith("with "):
             place = id(frame), frame.f_lineno
