@@ -163,12 +163,12 @@ def stacked(*specimens_by_number, backwards=False):
 
 # Levels that break rules together
 
-def two_levels(first, second, parents, journal=(), lies=(), marks=()):
-    """Level 1 has the first arrays with their horizon, and level 2 the second ones."""
+def two_levels(first, second, parents, journal=(), lies=(), **told):
+    """Level 1 has the first arrays with their horizon, and level 2 the second ones. Where fields of the manifest are given, it has these."""
     parts = itertools.count(1)
     strata = [Stratum(number, horizon, [found._replace(id=next(parts)) for found in arrays])
               for number, (horizon, arrays) in enumerate((first, second), 1)]
-    return laid_out(strata, parents, journal, lies, marks=marks)
+    return laid_out(strata, parents, journal, lies, **told)
 
 
 def broken_together():
@@ -202,6 +202,17 @@ def broken_together():
     yield None, "its child is not below that horizon", two_levels((2, [above]), (1, [only((0,), says(b"a", 0))]), (0,))
     yield None, "its child was made by the journal", two_levels(
         (1, [only((0,), says(b"b", 0))]), (1, [only((0,), says(b"a", 0))]), (), [(formats.PUT, 0, b"c", b"1"), (formats.CLONE, 0)])
+    closed = (2, [above]), (2, [only((0, 1), says(b"a", 0))])
+    yield None, "its child was dropped", two_levels(*closed, (0,), marks=(0, 1))
+    yield None, "its child was dropped, and the journal has an update", two_levels(
+        *closed, (0,), [(formats.PUT, 0, b"c", b"1")], marks=(0, 1))
+    yield None, "its child is dropped by the journal", two_levels(*closed, (0,), [(formats.DROP, 1), (formats.PUT, 0, b"c", b"1")])
+    yield Breach("j", 2, 0), "of its children below the deeper horizon one is living", two_levels(
+        (3, [only((0, 1, 2), says(b"b", 0))]), late, (0, 0), [(formats.DROP, 2)])
+    yield Breach("j", 2, 0), "the other one is living", two_levels(
+        (3, [only((0, 1, 2), says(b"b", 0))]), late, (0, 0), marks=(0, 1, 0))
+    yield None, "a dropped version has a dropped child below the deeper horizon", two_levels(
+        (3, [only((1, 2), says(b"b", 1))]), late, (0, 1), marks=(0, 1, 1))
 
 
 def doubled(specimen):
