@@ -34,6 +34,7 @@ def bench_as_library(name):
 bench = bench_as_library("run")
 waiting = importlib.import_module("waits")  # found where the bench found it
 clones = bench_as_library("clones")
+drops = bench_as_library("drops")
 
 
 @contextlib.contextmanager
@@ -521,6 +522,85 @@ def wrong_words_of_the_bench_over_clones_are_refused(folder):
         expect("no program", cloned(folder), (2, "", "clones: the program isn't built: run ./castle once\n"))
 
 
+# bench/drops
+
+FEW = ["--clones", "12", "--pairs", "150", "--edits", "3", "--gets", "5", "--scans", "4", "--runs", "2", "--mem", "16"]
+DROPPED = ["version 0 alone", "12 clones made", "all of them dropped", "12 made and dropped in turn"]
+
+
+def dropped(folder, *words):
+    """Status, output and complaints of the bench over a few clones that are dropped."""
+    out, errors = io.StringIO(), io.StringIO()
+    given = changed(sys, "argv", ["drops", *FEW, "--folder", folder, *words])
+    with given, contextlib.redirect_stdout(out), contextlib.redirect_stderr(errors):
+        status = drops.main()
+    return status, out.getvalue(), errors.getvalue()
+
+
+def clones_that_are_dropped_are_measured(folder):
+    ran = subprocess.run([sys.executable, str(TOP / "bench" / "drops"), *FEW, "--folder", folder],
+                         capture_output=True, timeout=60, text=True)
+    expect("its status and progress", (ran.returncode, ran.stderr.splitlines()), (0, [f"drops: {title}" for title in DROPPED]))
+    first, _, second, _, _, _, *rows = ran.stdout.splitlines()
+    expect("machine, date and commit", bool(re.search(r"processors, load \S+;.* Python 3.*; \d{4}-\d\d-\d\d, commit \w+", first)), True)
+    expect("what was done", second, "150 pairs, 12 clones with 3 edits each, M 16")
+    cells = [[cell.strip() for cell in row.strip("|").split("|")] for row in rows]
+    # some of the three drawn keys of an edit are the same
+    made = 12 + sum(map(len, drops.Work(argparse.Namespace(seed=1, pairs=150, clones=12, edits=3, gets=5, scans=4, runs=2)).edits.values()))
+    expect("its rows and changes", [row[:2] for row in cells], [list(row) for row in zip(DROPPED, ("150", str(made), "12", str(made + 12)))])
+    figures = [[float(cell.replace(",", "")) for cell in row[2:]] for row in cells]
+    expect("its figures", ({len(row) for row in figures}, min(map(min, figures)) > 0), ({5}, True))
+    expect("what is left behind", os.listdir(folder), [])
+
+
+def a_wrong_answer_over_drops_is_noticed(folder):
+    """What is asked is changed on its way, once in a frame that comes so late."""
+    expect("no wrong answer", dropped(folder)[0], 0)
+
+    def another(frame):
+        return {model.GET: model.get(int.from_bytes(frame[4:8], "big"), b"none"), model.SCAN: frame[:-4] + b"\0\0\0\1",
+                model.DROP: model.drop(0, 999), model.CLONE: model.get(0, b"none")}.get(frame[8])
+
+    for kind, said in ((model.GET, "gets"), (model.SCAN, "scans"), (model.DROP, "changes"), (model.CLONE, "changes")):
+        for last in (False, True):
+
+            def serve(path, frames, right=drops.run.serve, kind=kind, last=last):
+                places = [place for place, frame in enumerate(frames) if frame[8] == kind]
+                frames = list(frames)
+                if places:
+                    frames[places[-last]] = another(frames[places[-last]])
+                return right(path, frames)
+
+            with changed(drops.run, "serve", serve):
+                status, out, errors = dropped(folder)
+            expect(f"{said}, {last}", (status, out, said in errors.splitlines()[-1]), (1, "", True))
+
+
+def clones_that_are_there_or_not_are_told_apart(folder):
+    """Drops that leave clones there, and clones that are gone before they are dropped."""
+    for title, are_there in (("12 clones made", False), ("all of them dropped", True), ("12 made and dropped in turn", True)):
+
+        def measured(path, work, step, frames, was, right=drops.measured, title=title, are_there=are_there):
+            return right(path, work, step, frames, are_there if step == title else was)
+
+        with changed(drops, "measured", measured):
+            status, out, errors = dropped(folder)
+        expect(title, (status, out, f"drops: {title}: clones: " in errors), (1, "", True))
+
+
+def wrong_words_of_the_bench_over_drops_are_refused(folder):
+    for words in (["--clones", "0"], ["--pairs", "0"], ["--edits", "-1"], ["--gets", "0"], ["--scans", "0"], ["--runs", "0"], ["--mem", "3"],
+                  ["--mem", "4097"], ["--clones", "16384"], ["--pairs", "16777216"], ["--pairs", "x"]):
+        try:
+            dropped(folder, *words)
+        except SystemExit as ended:
+            expect(f"{words}", ended.code, 2)
+        else:
+            raise Wrong(f"{words} are taken")
+    with changed(drops.run, "PROGRAM", os.path.join(folder, "none")):
+        expect("no program", dropped(folder), (2, "", "drops: the program isn't built: run ./castle once\n"))
+
+
 CHECKS = [
     the_bench_finds_both_stores_alike,
     one_wrong_answer_is_noticed_wherever_it_comes,
@@ -555,6 +635,10 @@ CHECKS = [
     clones_without_lmdb_say_so,
     holes_are_no_bytes_on_the_disk,
     wrong_words_of_the_bench_over_clones_are_refused,
+    clones_that_are_dropped_are_measured,
+    a_wrong_answer_over_drops_is_noticed,
+    clones_that_are_there_or_not_are_told_apart,
+    wrong_words_of_the_bench_over_drops_are_refused,
 ]
 
 if __name__ == "__main__":
