@@ -1,5 +1,5 @@
 -- How many blocks the arrays of a plan take.
-use Rattle.std.proofs.Common.{◌≡◌, ◌<◌, ◌≤◌, ◌+◌, ◌*◌, ◌^◌, ◌&&◌, ℕ, suc, Bool, true, false, eqb, leb, ltb, cond, List, [], ◌∷◌, ◌++◌, length, map, filter, flat_map, Some, length-append, refl, sym, ap, ◌∙◌, subst, arith}
+use Rattle.std.proofs.Common.{◌≡◌, ◌<◌, ◌≤◌, ◌+◌, ◌*◌, ◌^◌, ◌&&◌, ℕ, suc, true, eqb, leb, ltb, List, [], ◌∷◌, ◌++◌, length, map, filter, flat_map, Some, length-append, refl, sym, ap, ◌∙◌, subst, arith}
 use Rattle.std.specs.Prelude.{option_map}
 use Rattle.std.specs.List.{list_all, slice_get, sum_by, range_with_len}
 use Rattle.std.proofs.lemmas.Bool.{and_parts, eqb-true, ltb-true}

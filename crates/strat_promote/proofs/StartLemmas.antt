@@ -1,5 +1,5 @@
 -- How a pass is begun.
-use Rattle.std.proofs.Common.{◌≡◌, ◌+◌, ℕ, Bool, true, false, List, [], ◌∷◌, length, map, Some, cond, refl, sym, ap, ◌∙◌, subst, arith}
+use Rattle.std.proofs.Common.{◌≡◌, ◌+◌, ℕ, List, [], ◌∷◌, length, map, Some, refl, sym, ap, ◌∙◌, subst, arith}
 use Rattle.std.specs.List.{list_all, slice_get, Contains}
 use Rattle.std.specs.Ordering.{is_lt}
 use Rattle.strat_array.specs.Progress.{ArrayProgress}

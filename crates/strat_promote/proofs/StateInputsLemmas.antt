@@ -45,7 +45,6 @@ use Rattle.strat_promote.specs.Stages.{IsSteady, IsUnderway, IsMade, stage_write
 use Rattle.strat_promote.specs.StateInputs.{HoldsState, IsBegunOver, IsBegunOverAll, LeavesPaid, treatment_of, job_of_state, job_of_all}
 use Rattle.strat_promote.specs.Steps.{Inputs}
 use Rattle.strat_promote.specs.Treated.{treatment_over}
-use Rattle.strat_promote.specs.declared.treatment.Treatment.{Treatment}
 use Rattle.strat_promote.specs.declared.treatment.Treatment.TheVariants as treatment
 use Rattle.strat_promote.specs.declared.promotion.Promotion.{Promotion}
 use Rattle.strat_promote.specs.declared.stage.Stage.{Stage}

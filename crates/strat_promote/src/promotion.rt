@@ -39,7 +39,7 @@ pub enum Progress {
     More,
 }
 
-/// Level 0 and levels 1 to j, on their way into a new level j. It holds no borrow between two slices.
+/// Level 0 and levels 1 to j, or all levels, on their way into a new level j. It holds no borrow between two slices.
 ///
 /// It goes twice over the entries: once to count them, and once, when the versions are split, to write them. In memory it
 /// holds a block for each array that it reads and for each that it writes, the entries of level 0, the group of one key, 28
@@ -152,9 +152,9 @@ impl Promotion {
 
     /// Goes on until at least `budget` entries were taken in this call and one is left, or until the level is made. What it
     /// takes at once are the entries of one key, so that a call takes fewer than `budget` and these. Level 0, the levels and
-    /// the parents of the versions below the horizon are those that were given to `begin` or `begin_all`; for the second of
-    /// these, so is which of these versions were dropped. Each block of the arrays is read once in each pass, and nothing is written but blocks that were free. The level that is made has the blocks that it
-    /// took, and no others.
+    /// the parents of the versions below the horizon are those that were given to `begin` or `begin_all`; for `begin_all` so
+    /// are the versions that were dropped. Each block of the arrays is read once in each pass, and nothing is written but
+    /// blocks that were free. The level that is made has the blocks that it took, and no others.
     ///
     /// `Device` comes only where the disk failed; `Damaged` names a block of an array that holds no entries, or none that
     /// come after those before it. After an error it is good for nothing but `abandon`. `Unfit`: arrays have more leads than
@@ -171,7 +171,8 @@ impl Promotion {
     ) -> Result<Progress, Obstacle>
         requires kept { IsOpen self.old × AreAllUsed space.old (writers_of self.old) }
         requires fits { IsFed self.old
-            (inputs_given zero.now.list pool.now levels.now tree.now.parents tree.now.marks) × (1 ≤ budget) }
+            (inputs_given zero.now.list pool.now levels.now tree.now.parents tree.now.marks)
+            × (1 ≤ budget) }
         ensures kept { IfOk result (λ p. MatchProgress p (IsOpen self.new
             × (entries_taken self.old + budget ≤ entries_taken self.new))
             ((has_ended self.new ≡ true)

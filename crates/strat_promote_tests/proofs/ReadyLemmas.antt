@@ -2,7 +2,9 @@
 use Rattle.std.proofs.Common.{◌≡◌, ◌≤◌, ◌<◌, ◌+◌, ◌*◌, ◌^◌, ℕ, zero, suc, Bool, true, leb, ltb, ◌&&◌, List, [], ◌∷◌, length, map, get_or, Option, None, Some, inl, inr, refl, ap, ◌∙◌, subst, arith}
 use Rattle.std.specs.List.{list_all, range_with_len, sum, sum_by, Contains}
 use Rattle.std.proofs.lemmas.Bool.{and_parts, and_from, leb-true, ltb-true}
+use Rattle.std.proofs.lemmas.List.{take_all}
 use Rattle.std.proofs.lemmas.List.Folds.{list_all-append}
+use Rattle.std.proofs.Math.Nat.{mul-le-mul_right}
 use Rattle.std.proofs.lemmas.List.Sums.{sum_by-cons}
 use Rattle.strat_array.specs.Within.{AreWithin}
 use Rattle.strat_base.specs.Entries.{is_tagged}
@@ -13,6 +15,7 @@ use Rattle.strat_base.proofs.ListFacts.{Among, all_at, among_range, range_among}
 use Rattle.strat_extent.specs.Blocks.{total_len}
 use Rattle.strat_extent.proofs.BlockLemmas.{total_listed}
 use Rattle.strat_level.specs.Levels.{level_numbered, leads_if_any}
+use Rattle.strat_level.specs.Target.{leads_down_to}
 use Rattle.strat_level.specs.Memtable.{ItemList}
 use Rattle.strat_promote.specs.Job.{arrays_to, AreReadable}
 use Rattle.strat_promote.specs.Opening.{arrays_if_any}
@@ -121,3 +124,15 @@ module _ (n : ℕ) (levels : List (Option LevelDesc)) (plain : are_plain_levels 
   leads_bounded list few =
       sum_with (length list.items) (λ k. leads_if_any (level_numbered levels k)) (range_with_len 1 22) few (omega arith)
       (λ k here. let at = range_among 1 22 k here in leads_here (level_numbered levels k) (plain_level k at.0 (omega (arith, at.1))))
+
+-- the deepest level has room for as many leads as there are in any store
+pub ample_room : (mem n : ℕ) → 4 ≤ mem → n ≤ 2 ^ 24 → n ≤ mem * 2 ^ 22
+ample_room mem n least few =
+    let ample : 4 * 2 ^ 22 ≤ mem * 2 ^ 22 = mul-le-mul_right {m = 4} {n = mem} (2 ^ 22) least in
+    let whole : 2 ^ 24 ≡ 4 * 2 ^ 22 = refl in
+    omega (arith, few, ample, whole)
+
+-- the leads down to the last level are all
+pub leads_of_all : (zero : ItemList) (levels : List (Option LevelDesc)) (n : ℕ) → n ≡ 22 → leads_down_to (leads_listed zero levels) n ≡ sum (leads_listed zero levels)
+leads_of_all zero levels n last =
+    ap (leads_down_to (leads_listed zero levels)) last ∙ ap sum (take_all 23 (leads_listed zero levels) (omega arith))

@@ -1,4 +1,4 @@
-use Rattle.std.proofs.Common.{◌≡◌, ◌++◌, ◌∷◌, [], ℕ, Bool, true, List, length, map, sym, ap, ◌∙◌, subst, arith}
+use Rattle.std.proofs.Common.{◌≡◌, ◌++◌, ◌∷◌, [], ℕ, true, List, length, map, sym, ap, ◌∙◌, subst, arith}
 use Rattle.strat_merge.specs.Gathered.{are_under}
 use Rattle.strat_merge.specs.MergerFields.{views_of}
 use Rattle.strat_merge.specs.Runs.{lefts}
