@@ -4,7 +4,6 @@ use Rattle.std.specs.List.{list_all, range_with_len, sum, sum_by, Contains}
 use Rattle.std.proofs.lemmas.Bool.{and_parts, and_from, leb-true, ltb-true}
 use Rattle.std.proofs.lemmas.List.{take_all}
 use Rattle.std.proofs.lemmas.List.Folds.{list_all-append}
-use Rattle.std.proofs.Math.Nat.{mul-le-mul_right}
 use Rattle.std.proofs.lemmas.List.Sums.{sum_by-cons}
 use Rattle.strat_array.specs.Within.{AreWithin}
 use Rattle.strat_base.specs.Entries.{is_tagged}
@@ -125,14 +124,11 @@ module _ (n : ℕ) (levels : List (Option LevelDesc)) (plain : are_plain_levels 
       sum_with (length list.items) (λ k. leads_if_any (level_numbered levels k)) (range_with_len 1 22) few (omega arith)
       (λ k here. let at = range_among 1 22 k here in leads_here (level_numbered levels k) (plain_level k at.0 (omega (arith, at.1))))
 
--- the deepest level has room for as many leads as there are in any store
-pub ample_room : (mem n : ℕ) → 4 ≤ mem → n ≤ 2 ^ 24 → n ≤ mem * 2 ^ 22
-ample_room mem n least few =
-    let ample : 4 * 2 ^ 22 ≤ mem * 2 ^ 22 = mul-le-mul_right {m = 4} {n = mem} (2 ^ 22) least in
-    let whole : 2 ^ 24 ≡ 4 * 2 ^ 22 = refl in
-    omega (arith, few, ample, whole)
-
 -- the leads down to the last level are all
-pub leads_of_all : (zero : ItemList) (levels : List (Option LevelDesc)) (n : ℕ) → n ≡ 22 → leads_down_to (leads_listed zero levels) n ≡ sum (leads_listed zero levels)
-leads_of_all zero levels n last =
-    ap (leads_down_to (leads_listed zero levels)) last ∙ ap sum (take_all 23 (leads_listed zero levels) (omega arith))
+pub leads_of_all : (list : ItemList) (levels : List (Option LevelDesc)) (n : ℕ) → n ≡ 22 → leads_down_to (leads_listed list levels) n ≡ sum (leads_listed list levels)
+leads_of_all list levels n last =
+    ap (leads_down_to (leads_listed list levels)) last ∙ ap sum (take_all 23 (leads_listed list levels) (omega arith))
+
+-- level 1 has room for twice as many leads as level 0
+pub first_room : (n m mem : ℕ) → n ≡ m → leb n (2 * mem) ≡ true → m ≤ mem * 2 ^ 1
+first_room n m mem same fits = omega (arith, same, leb-true n (2 * mem) fits)
