@@ -7,7 +7,7 @@ use Rattle.strat_model.specs.declared.replies.Refusal.{Refusal}
 use Rattle.strat_model.specs.declared.replies.Refusal.TheVariants as why
 use Rattle.strat_model.specs.Answer.{accepts}
 use Rattle.strat_model.specs.Pairs.{Pairs, set, unset}
-use Rattle.strat_model.specs.Step.{Outcome, step, refuses, update, clone, has_row, is_frozen, pairs_at}
+use Rattle.strat_model.specs.Step.{Outcome, step, refuses, update, clone, drop_version, has_row, is_frozen, pairs_at}
 use Rattle.strat_model.specs.Table.{Table}
 use Rattle.strat_model.proofs.TableLemmas.{chosen}
 use Rattle.def_meaning.specs.StateTable.{request_for}
@@ -32,11 +32,18 @@ clone_counts t v =
     chosen (Counts t) (length t.rows == t.versions_max) _ _ (λ _. refused_counts t why.VersionLimit) (λ _.
     chosen (Counts t) (t.changes == t.changes_max) _ _ (λ _. refused_counts t why.ChangeLimit) (λ _. ((λ h. refl), (λ h. absurd cc)))))
 
+drop_counts : (t : Table) (v : ℕ) → Counts t (drop_version t v)
+drop_counts t v =
+    chosen (Counts t) (not (has_row t v)) _ _ (λ _. refused_counts t why.UnknownVersion) (λ _.
+    chosen (Counts t) (v == 0) _ _ (λ _. refused_counts t why.Root) (λ _.
+    chosen (Counts t) (is_frozen t v) _ _ (λ _. refused_counts t why.Frozen) (λ _.
+    chosen (Counts t) (t.changes == t.changes_max) _ _ (λ _. refused_counts t why.ChangeLimit) (λ _. ((λ h. refl), (λ h. absurd cc))))))
+
 pub change_counts : (t : Table) (c : Change) → Counts t (step t (request_for c))
 change_counts t (change.Put v key value) = update_counts t v (set key value (pairs_at t v))
 change_counts t (change.Delete v key) = update_counts t v (unset key (pairs_at t v))
 change_counts t (change.Clone v) = clone_counts t v
-change_counts t (change.DropVersion v) = refused_counts t why.UnknownVersion
+change_counts t (change.DropVersion v) = drop_counts t v
 
 pub after_counts : (t : Table) (log : List Change) → AreTakenFrom t log → (table_after t log).changes ≡ t.changes + length log
 after_counts t [] taken = omega arith

@@ -137,7 +137,7 @@ pub fn a_trail_of_a_log_leaves_its_prefixes<D: Viewed>()
         → (t : Table) × ShowsTable c t × IsOfLog changes_max versions_max log t }
 {}
 
-/// The bytes of two of a leader's frames, of the first put of a store and of a later clone, and of a follower's answers: the
+/// The bytes of a leader's frames, of the first put of a store, of a later clone and of a drop, and of a follower's answers: the
 /// put was taken; the same comes again; a later one comes too early; two bytes are no change; memory ran out. What becomes
 /// of a change by the reply to it, and the byte that says why it was refused.
 pub fn frames_and_receipts_are_spelled_so()
@@ -153,10 +153,13 @@ pub fn frames_and_receipts_are_spelled_so()
         ≡ 0 ∷ 0 ∷ 0 ∷ 10 ∷ 0 ∷ 0 ∷ 0 ∷ 0 ∷ 3 ∷ 0 ∷ 0 ∷ 0 ∷ 1 ∷ 0 ∷ [] }
     ensures err { receipt_frame (record { number = 5; fate = Refused why.NoMemory; next = 5 })
         ≡ 0 ∷ 0 ∷ 0 ∷ 10 ∷ 0 ∷ 0 ∷ 0 ∷ 5 ∷ 4 ∷ 0 ∷ 0 ∷ 0 ∷ 5 ∷ 32 ∷ [] }
-    ensures later { change_frame (record { number = 258; change = change.Clone 1 })
-        ≡ 0 ∷ 0 ∷ 0 ∷ 9 ∷ 0 ∷ 0 ∷ 1 ∷ 2 ∷ 3 ∷ 0 ∷ 0 ∷ 0 ∷ 1 ∷ [] }
+    ensures later { (change_frame (record { number = 258; change = change.Clone 1 })
+        ≡ 0 ∷ 0 ∷ 0 ∷ 9 ∷ 0 ∷ 0 ∷ 1 ∷ 2 ∷ 3 ∷ 0 ∷ 0 ∷ 0 ∷ 1 ∷ [])
+        × (change_frame (record { number = 3; change = change.DropVersion 1 })
+        ≡ 0 ∷ 0 ∷ 0 ∷ 9 ∷ 0 ∷ 0 ∷ 0 ∷ 3 ∷ 4 ∷ 0 ∷ 0 ∷ 0 ∷ 1 ∷ []) }
     ensures fates { (fate_for reply.Done ≡ Taken) × (fate_for (reply.Made 1) ≡ Taken)
         × (fate_for (reply.Refused why.Frozen) ≡ Refused why.Frozen) }
     ensures causes { (tag_of (170 ∷ 187 ∷ []) ≡ 0) × (cause_byte Taken ≡ 0)
-        × (cause_byte (Refused why.Frozen) ≡ 17) × (cause_byte (Refused (why.Damaged 9)) ≡ 34) }
+        × (cause_byte (Refused why.Frozen) ≡ 17) × (cause_byte (Refused why.Root) ≡ 27)
+        × (cause_byte (Refused (why.Damaged 9)) ≡ 34) }
 {}

@@ -30,7 +30,13 @@ with_a_drop = record with_a_child {
   changes = 5;
 }
 
--- the same with another child of version 0, which was not dropped
+-- the table before that, with a child of the child
+abbrev pub with_a_grandchild : Table
+with_a_grandchild = record with_a_child {
+  rows = row_of None [] ∷ row_of (Some 0) [] ∷ row_of (Some 1) [] ∷ [];
+}
+
+-- the dropped child, with another child of version 0, which was not dropped
 abbrev pub with_two_children : Table
 with_two_children = record with_a_drop {
   rows = row_of None [] ∷ dropped_row (Some 0) ∷ row_of (Some 0) [] ∷ [];

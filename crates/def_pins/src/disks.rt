@@ -4,12 +4,12 @@
 #![tactic(auto, unfolding(strat_base::specs::Numbers::be, strat_base::specs::Numbers::number, def_crash::specs::Image::window, def_crash::specs::Image::over, def_bytes::specs::SuperBlock::slot_of, def_bytes::specs::SuperBlock::slot_in, def_bytes::specs::SuperBlock::zeros, def_bytes::specs::Manifest::all_pass))]
 
 ghost use Rattle.std.specs.Prelude.{◌≡◌, [], ◌∷◌, Some, None, Ok, Err, true, false};
-ghost use Rattle.strat_base.specs.Change.{Put, Clone};
+ghost use Rattle.strat_base.specs.Change.{Put, Clone, DropVersion};
 ghost use Rattle.strat_base.specs.Samples.{says};
 ghost use Rattle.def_crash.specs.Image.{patch};
 ghost use Rattle.def_bytes.specs.SuperBlock.{spelled, fields, newest_in};
 ghost use Rattle.def_recovery.specs.Bad.{fits_behind};
-ghost use Rattle.def_recovery.specs.Disks.{formatted, old_formatted, new_super, chain_super, chain_manifest, published_by};
+ghost use Rattle.def_recovery.specs.Disks.{formatted, old_formatted, new_super, old_super, new_head, chain_super, chain_manifest, published_by, last_dropped};
 ghost use Rattle.def_recovery.specs.Opening.{belongs, accepted_in, recover_manifest, recover_journal, recover};
 ghost use Rattle.def_pins.specs.Formats.{put_of, with_puts, with_parents, after_a_drop};
 ghost use Rattle.def_pins.specs.Disks.{array_at, having, in_block_eight, led_by, after_two_changes, with_second_slot, in_two_blocks, of_format, of_first_format, after_a_change};
@@ -72,21 +72,25 @@ pub fn manifests_belong_up_to_their_bounds()
         × (belongs chain_super (in_block_eight (record (led_by 2 3) { updates = 1 })) ≡ false) }
 {}
 
-/// A manifest with a version that was dropped belongs to no superblock, whichever version it is.
-pub fn manifests_with_drops_belong_to_none()
+/// A manifest with versions that were dropped belongs to its superblock as any other does.
+pub fn manifests_with_drops_belong()
     ensures last { belongs chain_super (in_block_eight
-        (record chain_manifest { marks = false ∷ false ∷ false ∷ true ∷ [] })) ≡ false }
+        (record chain_manifest { marks = last_dropped })) ≡ true }
     ensures first { belongs chain_super (in_block_eight
-        (record chain_manifest { marks = false ∷ true ∷ true ∷ true ∷ [] })) ≡ false }
+        (record chain_manifest { marks = false ∷ true ∷ true ∷ true ∷ [] })) ≡ true }
 {}
 
-/// A disk with a drop is damaged, since no build drops versions yet: in the first block of a manifest with a mark that is set,
-/// and in the block of the flag before a record of a drop, in a store of format 1 as well.
-pub fn disks_with_drops_are_damaged()
-    ensures mark { recover (published_by chain_super
-        (record chain_manifest { marks = false ∷ false ∷ false ∷ true ∷ [] })) ≡ Err 8 }
+/// A mark that is set is read from a manifest, and the record of a drop from the journal, of a store of format 1 as well.
+/// A drop that the table refuses is damage in the block of the flag before its record.
+pub fn drops_are_read_from_disks()
+    ensures mark { recover_manifest (published_by chain_super
+        (record chain_manifest { marks = last_dropped })) chain_super
+        ≡ Ok (record chain_manifest { marks = last_dropped }) }
     ensures journal { recover (patch old_formatted 8192
-        (0xa7 ∷ 3 ∷ 0 ∷ 0 ∷ 0 ∷ 0 ∷ 0xa7 ∷ 4 ∷ 0 ∷ 0 ∷ 0 ∷ 1 ∷ 0 ∷ [])) ≡ Err 2 }
+        (0xa7 ∷ 3 ∷ 0 ∷ 0 ∷ 0 ∷ 0 ∷ 0xa7 ∷ 4 ∷ 0 ∷ 0 ∷ 0 ∷ 1 ∷ 0 ∷ []))
+        ≡ Ok (Some (record new_head { sb = old_super; journal = Clone 0 ∷ DropVersion 1 ∷ [] })) }
+    ensures refused { recover (patch old_formatted 8192
+        (0xa7 ∷ 3 ∷ 0 ∷ 0 ∷ 0 ∷ 0 ∷ 0xa7 ∷ 4 ∷ 0 ∷ 0 ∷ 0 ∷ 0 ∷ 0 ∷ [])) ≡ Err 2 }
 {}
 
 /// A superblock of either format is taken, beside one of the other format too. Of another format it is refused, in either
@@ -121,7 +125,8 @@ pub fn the_chosen_slot_is_judged()
     ensures magic { newest_in (patch formatted 8 (0x32 ∷ [])) ≡ Ok None }
 {}
 
-/// A record that the table refuses in its turn is blamed on the block of its own gate.
+/// A record that the table refuses in its turn is blamed on the block of its own gate. So is a drop, and a change of what was
+/// dropped.
 pub fn refused_records_are_named()
     ensures ok { accepted_in 2 2 (None ∷ []) (false ∷ []) 0
         (record { change = Clone 0; block = 2 } ∷ record { change = Put 1 [] []; block = 3 } ∷ [])
@@ -138,6 +143,19 @@ pub fn refused_records_are_named()
     ensures versions { accepted_in 2 2 (None ∷ []) (false ∷ []) 0
         (record { change = Clone 0; block = 2 } ∷ record { change = Clone 1; block = 3 } ∷ [])
         ≡ Err 3 }
+    ensures drop { accepted_in 9 9 (None ∷ []) (false ∷ []) 0
+        (record { change = Clone 0; block = 2 } ∷ record { change = DropVersion 1; block = 3 }
+        ∷ record { change = Put 0 [] []; block = 4 } ∷ [])
+        ≡ Ok (Clone 0 ∷ DropVersion 1 ∷ Put 0 [] [] ∷ []) }
+    ensures root { accepted_in 9 9 (None ∷ []) (false ∷ []) 0
+        (record { change = Clone 0; block = 2 } ∷ record { change = DropVersion 0; block = 3 } ∷ [])
+        ≡ Err 3 }
+    ensures parent { accepted_in 9 9 (None ∷ []) (false ∷ []) 0
+        (record { change = Clone 0; block = 2 } ∷ record { change = Clone 1; block = 3 }
+        ∷ record { change = DropVersion 1; block = 4 } ∷ []) ≡ Err 4 }
+    ensures dropped { accepted_in 9 9 (None ∷ []) (false ∷ []) 0
+        (record { change = Clone 0; block = 2 } ∷ record { change = DropVersion 1; block = 3 }
+        ∷ record { change = Put 1 [] []; block = 4 } ∷ []) ≡ Err 4 }
 {}
 
 /// Entries fit after earlier ones where they come after the last of them, their versions are there, and there

@@ -104,6 +104,7 @@ pub fn bytes_of_replies()
     ensures cursor { (reply_body 3 (plain (reply.Refused why.UnknownCursor))
         ≡ 0 ∷ 0 ∷ 0 ∷ 3 ∷ 18 ∷ [])
         × (reply_body 3 (plain (reply.Refused why.CursorLimit)) ≡ 0 ∷ 0 ∷ 0 ∷ 3 ∷ 21 ∷ []) }
+    ensures zero { reply_body 2 (plain (reply.Refused why.Root)) ≡ 0 ∷ 0 ∷ 0 ∷ 2 ∷ 27 ∷ [] }
     ensures damaged { reply_body 1 (plain (reply.Refused (why.Damaged 7)))
         ≡ 0 ∷ 0 ∷ 0 ∷ 1 ∷ 34 ∷ 0 ∷ 0 ∷ 0 ∷ 7 ∷ [] }
 {}
@@ -135,7 +136,7 @@ pub fn pages_have_up_to_256_pairs_of_lawful_sizes()
         × (¬ FitsPairs reply.Found []) }
 {}
 
-/// Bodies of cursors' commands have a form, whatever the sizes of these.
+/// Bodies of cursors' commands, and of one that drops a version, have a form, whatever the sizes of these.
 pub fn cursors_have_forms()
     ensures open { HasForm (0 ∷ 0 ∷ 0 ∷ 5 ∷ 7 ∷ 0 ∷ 0 ∷ 0 ∷ 0 ∷ 0 ∷ 0 ∷ 0 ∷ 0 ∷ []) 5
         (OpenCursor 0 [] []) }
@@ -143,12 +144,14 @@ pub fn cursors_have_forms()
         (NextPairs 1 257) }
     ensures close { HasForm (0 ∷ 0 ∷ 0 ∷ 7 ∷ 9 ∷ 0 ∷ 0 ∷ 0 ∷ 0 ∷ 0 ∷ 0 ∷ 0 ∷ 1 ∷ []) 7
         (CloseCursor 1) }
+    ensures drop { HasForm (0 ∷ 0 ∷ 0 ∷ 2 ∷ 11 ∷ 0 ∷ 0 ∷ 0 ∷ 1 ∷ []) 2 (DropVersion 1) }
 {}
 
 /// The greatest numbers of commands: four bytes for a version, eight for a cursor, two for a limit.
 pub fn numbers_of_commands_fit_their_fields()
     ensures version { FitsFields (Clone 4294967295) × (¬ FitsFields (Clone 4294967296))
-        × FitsFields (Info 4294967295) × (¬ FitsFields (Info 4294967296)) }
+        × FitsFields (Info 4294967295) × (¬ FitsFields (Info 4294967296))
+        × FitsFields (DropVersion 4294967295) × (¬ FitsFields (DropVersion 4294967296)) }
     ensures key { FitsFields (Put 4294967295 [] []) × (¬ FitsFields (Put 4294967296 [] []))
         × FitsFields (Delete 4294967295 []) × (¬ FitsFields (Delete 4294967296 []))
         × FitsFields (Get 4294967295 []) × (¬ FitsFields (Get 4294967296 [])) }

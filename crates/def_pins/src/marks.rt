@@ -3,7 +3,7 @@
 
 #![tactic(auto, unfolding(strat_base::specs::Tree::climb))]
 
-ghost use Rattle.std.specs.Prelude.{◌≡◌, ℕ, List, [], ◌∷◌, ◌&&◌, suc, true, false, None, Some};
+ghost use Rattle.std.specs.Prelude.{◌≡◌, List, [], ◌∷◌, ◌&&◌, true, false, None, Some};
 ghost use Rattle.std.specs.List.{list_all};
 ghost use Rattle.strat_base.specs.Change.{Change, Put, Delete, Clone, DropVersion};
 ghost use Rattle.strat_base.specs.Marks.{Marks, is_dropped, has_living_child, are_pruned, none_dropped};
@@ -95,10 +95,45 @@ pub fn marks_decide_what_is_accepted()
         && are_accepted 9 9 (tree_after parents change) (marks_after marks change) 5 journal) }
 {}
 
-/// No drop is accepted by this build, of whatever version.
-pub fn drops_are_not_accepted_yet()
-    ensures { (changes_max versions_max changes v : ℕ) (parents : Parents) (marks : Marks)
-        → is_accepted changes_max versions_max parents marks changes (DropVersion v) ≡ false }
+/// A drop is accepted of a version that may be dropped, however many versions there are: of none that has a living child, was
+/// dropped or was not made, of version 0 never, and not past the most changes.
+pub fn drops_of_open_versions_are_accepted()
+    ensures ok { (is_accepted 5 3 two_children (false ∷ true ∷ false ∷ []) 4 (DropVersion 2) ≡ true)
+        × (is_accepted 5 3 (None ∷ Some 0 ∷ Some 1 ∷ []) (false ∷ false ∷ true ∷ []) 4
+        (DropVersion 1) ≡ true) }
+    ensures frozen { is_accepted 5 3 (None ∷ Some 0 ∷ Some 1 ∷ []) (false ∷ false ∷ false ∷ []) 4
+        (DropVersion 1) ≡ false }
+    ensures dropped { is_accepted 5 3 two_children (false ∷ true ∷ false ∷ []) 4 (DropVersion 1)
+        ≡ false }
+    ensures unknown { is_accepted 5 3 two_children (false ∷ true ∷ false ∷ []) 4 (DropVersion 3)
+        ≡ false }
+    ensures root { (is_accepted 5 3 two_children (false ∷ true ∷ true ∷ []) 4 (DropVersion 0)
+        ≡ false)
+        × (is_accepted 5 3 (None ∷ []) (false ∷ []) 4 (DropVersion 0) ≡ false) }
+    ensures changes { is_accepted 5 3 two_children (false ∷ true ∷ false ∷ []) 5 (DropVersion 2)
+        ≡ false }
+{}
+
+/// After a drop the version is unknown to each later change, and its parent takes updates and may be dropped itself.
+pub fn changes_after_a_drop_find_it_done()
+    ensures parent { (are_accepted 9 9 (None ∷ []) (false ∷ []) 0
+        (Clone 0 ∷ DropVersion 1 ∷ Put 0 [] [] ∷ Delete 0 [] ∷ Clone 0 ∷ []) ≡ true)
+        × (are_accepted 9 9 (None ∷ []) (false ∷ []) 0
+        (Clone 0 ∷ Clone 1 ∷ DropVersion 2 ∷ Put 1 [] [] ∷ DropVersion 1 ∷ []) ≡ true) }
+    ensures update { (are_accepted 9 9 (None ∷ []) (false ∷ []) 0
+        (Clone 0 ∷ DropVersion 1 ∷ Put 1 [] [] ∷ []) ≡ false)
+        × (are_accepted 9 9 (None ∷ []) (false ∷ []) 0
+        (Clone 0 ∷ DropVersion 1 ∷ Delete 1 [] ∷ []) ≡ false) }
+    ensures clone { are_accepted 9 9 (None ∷ []) (false ∷ []) 0
+        (Clone 0 ∷ DropVersion 1 ∷ Clone 1 ∷ []) ≡ false }
+    ensures again { are_accepted 9 9 (None ∷ []) (false ∷ []) 0
+        (Clone 0 ∷ DropVersion 1 ∷ DropVersion 1 ∷ []) ≡ false }
+    ensures frozen { are_accepted 9 9 (None ∷ []) (false ∷ []) 0
+        (Clone 0 ∷ Clone 1 ∷ DropVersion 1 ∷ []) ≡ false }
+    ensures versions { (are_accepted 9 2 (None ∷ []) (false ∷ []) 0
+        (Clone 0 ∷ DropVersion 1 ∷ []) ≡ true)
+        × (are_accepted 9 2 (None ∷ []) (false ∷ []) 0 (Clone 0 ∷ DropVersion 1 ∷ Clone 0 ∷ [])
+        ≡ false) }
 {}
 
 /// A version that the manifest or the journal says was dropped has no map. The others keep theirs, its parent too. One
@@ -114,11 +149,20 @@ pub fn dropped_versions_have_no_map()
     ensures past { is_living drop_of_three 9 ≡ true }
 {}
 
-/// A version whose one child below the horizon was dropped may have leads in shallower levels.
+/// A version whose one child below the horizon was dropped may have leads in shallower levels, and updates in the journal.
 pub fn dropped_children_freeze_nothing()
     ensures living { list_all (is_above_frozen lead_above_frozen) lead_above_frozen.levels
         ≡ false }
     ensures dropped { list_all
         (is_above_frozen (record lead_above_frozen { marks = false ∷ true ∷ [] }))
         lead_above_frozen.levels ≡ true }
+    ensures journal { (list_all
+        (is_above_frozen (record fan { journal = Put 0 [] [] ∷ [] })) fan.levels ≡ false)
+        × (list_all (is_above_frozen (record fan {
+          marks = false ∷ true ∷ true ∷ false ∷ [];
+          journal = Put 0 [] [] ∷ [];
+        })) fan.levels ≡ false)
+        × (list_all (is_above_frozen (record fan {
+          journal = DropVersion 1 ∷ DropVersion 3 ∷ DropVersion 2 ∷ Put 0 [] [] ∷ [];
+        })) fan.levels ≡ true) }
 {}

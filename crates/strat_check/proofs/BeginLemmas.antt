@@ -12,6 +12,7 @@ use Rattle.strat_arena.specs.PoolView.{arena_at}
 use Rattle.strat_arena.specs.declared.pool.PoolEntry.{PoolEntry}
 use Rattle.strat_base.specs.Change.{Change}
 use Rattle.strat_base.specs.Entries.{Entry, is_at}
+use Rattle.strat_base.specs.Marks.{Marks}
 use Rattle.strat_base.specs.Tree.{Parents, IsTree}
 use Rattle.strat_base.proofs.EntryLemmas.{is_at_version, at_key_version}
 use Rattle.strat_base.proofs.ListFacts.{Among, filter_map-append, all_at, all_from, all_same, among_reverse, find_some, find_none}
@@ -23,7 +24,7 @@ use Rattle.def_state.specs.Breach.{Breach, breaches, array_breaches}
 use Rattle.def_state.specs.Setting.{set_all}
 use Rattle.def_state.specs.Sound.{has_child_below, has_ascending_entries}
 use Rattle.def_slice.specs.Lists.{HoldLists}
-use Rattle.def_state.specs.State.{State, versions_of, is_living, journal_updates, update_of}
+use Rattle.def_state.specs.State.{State, versions_of, marks_of, journal_updates, update_of}
 use Rattle.def_state.proofs.UpdateLemmas.{all_among, all_found}
 use Rattle.strat_check.specs.Children.{first_from, lowered_by_items, lowered_by_zeros}
 use Rattle.strat_level.specs.Memtable.{ItemList, entries_held}
@@ -33,11 +34,12 @@ use Rattle.strat_check.specs.declared.level_walk.Findings.{Findings}
 use Rattle.strat_check.specs.declared.places.Broken.{Broken}
 use Rattle.strat_check.proofs.LevelLemmas.{lowest_of, child_told}
 
-pub children_from : (s : State) (parents : Parents) (first : List ℕ) → parents ≡ versions_of s → length first ≡ length parents
-    → ((v : ℕ) → v < length parents → get_or first v (length parents) ≡ first_from parents 0 v) → AreFirstChildren s first
-children_from s parents first same len each =
-    let both : (length first ≡ length (versions_of s)) × ((v : ℕ) → v < length (versions_of s) → get_or first v (length (versions_of s)) ≡ first_from (versions_of s) 0 v) =
-    subst (λ (ps : Parents). (length first ≡ length ps) × ((v : ℕ) → v < length ps → get_or first v (length ps) ≡ first_from ps 0 v)) same (len, each) in
+pub children_from : (s : State) (parents : Parents) (marks : Marks) (first : List ℕ) → parents ≡ versions_of s → marks ≡ marks_of s → length first ≡ length parents
+    → ((v : ℕ) → v < length parents → get_or first v (length parents) ≡ first_from parents marks 0 v) → AreFirstChildren s first
+children_from s parents marks first same marked len each =
+    let both : (length first ≡ length (versions_of s)) × ((v : ℕ) → v < length (versions_of s) → get_or first v (length (versions_of s)) ≡ first_from (versions_of s) (marks_of s) 0 v) =
+    subst (λ (ms : Marks). (length first ≡ length (versions_of s)) × ((v : ℕ) → v < length (versions_of s) → get_or first v (length (versions_of s)) ≡ first_from (versions_of s) ms 0 v)) marked
+    (subst (λ (ps : Parents). (length first ≡ length ps) × ((v : ℕ) → v < length ps → get_or first v (length ps) ≡ first_from ps marks 0 v)) same (len, each)) in
     record { len = both.0; each = both.1 }
 
 all_mapped : {A B : Type 0} (p : B → Bool) (g : A → B) (xs : List A) → list_all p (map g xs) ≡ list_all (λ x. p (g x)) xs
@@ -64,16 +66,16 @@ updates_same t updates =
               ap t (sym (is_at_version e.key e.version some.0 at.1)) ∙ all_at test some.0 (set_all updates) all at.0
         ]
 
--- the least children of the versions with an update
+-- the least living children of the versions with an update
 
-module _ (s : State) (first : List ℕ) (children : AreFirstChildren s first) (tree : IsTree (versions_of s)) (living : (v : ℕ) → is_living s v ≡ true) (h : ℕ) (le : h ≤ length (versions_of s)) where
+module _ (s : State) (first : List ℕ) (children : AreFirstChildren s first) (tree : IsTree (versions_of s)) (h : ℕ) (le : h ≤ length (versions_of s)) where
   lowest_items : (pool : List PoolEntry) (list : ItemList) (updates : List Entry) (n : ℕ) → entries_held pool list ≡ set_all updates
       → leb h (lowered_by_items first n list.items) ≡ (leb h n && list_all (λ (e : Entry). not (has_child_below s h e.version)) updates)
   lowest_items pool list updates n held =
       let pairs : List KeyValue = (arena_at pool list.arena).pairs in
       lowest_of (λ (item : Item). item.version) h first n list.items
       ∙ ap (λ (b : Bool). leb h n && b) (
-      all_same (λ (item : Item). leb h (get_or first item.version h)) (λ item. not (has_child_below s h item.version)) list.items (λ item among. child_told s first children tree living h le item.version)
+      all_same (λ (item : Item). leb h (get_or first item.version h)) (λ item. not (has_child_below s h item.version)) list.items (λ item among. child_told s first children tree h le item.version)
       ∙ sym (all_mapped (λ (e : Entry). not (has_child_below s h e.version)) (entry_of_item pairs) list.items)
       ∙ ap (list_all (λ (e : Entry). not (has_child_below s h e.version))) held
       ∙ updates_same (λ v. not (has_child_below s h v)) updates)
@@ -97,9 +99,9 @@ module _ (s : State) (first : List ℕ) (children : AreFirstChildren s first) (t
       ∙ ap (list_all (λ (e : Entry). not (has_child_below s h e.version))) both
 
 pub found_none : (s : State) (first : List ℕ) (mem : ℕ) (pool : List PoolEntry) (zero : ItemList) (sealed : Option ItemList) (spare : ℕ) (x : Findings) → AreFirstChildren s first → IsTree (versions_of s)
-    → ((v : ℕ) → is_living s v ≡ true) → HoldLists mem s.journal (entries_held pool zero) (option_map (entries_held pool) sealed) spare
+    → HoldLists mem s.journal (entries_held pool zero) (option_map (entries_held pool) sealed) spare
     → x.lowest ≡ lowered_by_zeros first (length (versions_of s)) zero sealed → x.horizon ≡ length (versions_of s) → x.leads ≡ 0 → NoPlaces x.places → IsFound s [] x
-found_none s first mem pool zero sealed spare x children tree living held lowest horizon leads none = record {
+found_none s first mem pool zero sealed spare x children tree held lowest horizon leads none = record {
   firsts = record {
     tagged = none.tagged;
     arrays = record { agreeing = none.arrays.agreeing; dense = none.arrays.dense; led = none.arrays.led; drawn = none.arrays.drawn; described = none.arrays.described };
@@ -108,7 +110,7 @@ found_none s first mem pool zero sealed spare x children tree living held lowest
     settled = none.settled;
   };
   lowest = λ h le.
-      ap (leb h) lowest ∙ lowest_zeros s first children tree living h le mem s.journal pool zero sealed spare held
+      ap (leb h) lowest ∙ lowest_zeros s first children tree h le mem s.journal pool zero sealed spare held
       ∙ ap (list_all (λ (e : Entry). not (has_child_below s h e.version))) (sym (append-nil (journal_updates s)));
   horizon = λ h. ap (leb h) horizon ∙ and_true (leb h (length (versions_of s)));
   leads = leads;

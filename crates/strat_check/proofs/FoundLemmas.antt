@@ -147,7 +147,7 @@ module _ (s : State) (f : Image) (desc : LevelDesc) (on : Level) (done rest : Li
   lowest_more : (h : ℕ) → h ≤ length (versions_of s) → leb h after.lowest ≡ list_all (λ (e : Entry). not (has_child_below s h e.version)) (journal_updates s ++ flat_map level_leads (done ++ on ∷ []))
   lowest_more h le =
       ap (leb h) lowest_is ∙ lowest_own h leads.own first before.lowest (range_with_len 0 (length (versions_of s)))
-      ∙ (λ i. was.lowest h le i && leads_lowered s first children seen.tree next.may.living h le on groups leads seen i)
+      ∙ (λ i. was.lowest h le i && leads_lowered s first children seen.tree h le on groups leads seen i)
       ∙ sym (list_all-append barren (journal_updates s ++ flat_map level_leads done) (level_leads on))
       ∙ ap (list_all barren) (append_assoc (journal_updates s) (flat_map level_leads done) (level_leads on) ∙ ap (λ (es : List Entry). journal_updates s ++ es) (sym (flat_pushed level_leads done on)))
     where

@@ -23,16 +23,15 @@ use Rattle.strat_check.proofs.StoreLemmas.{passed_levels}
 use Rattle.def_crash.specs.Image.{Image}
 use Rattle.def_publish.specs.Occupied.{arrays_in}
 use Rattle.def_recovery.proofs.OpeningLemmas.{map_some, each_some, manifest_tests, level_tests, lawful_found, read_openable}
-use Rattle.def_recovery.proofs.PassedLemmas.{belonging_tests, read_passes}
-use Rattle.def_recovery.specs.Head.{Head, descriptors}
+use Rattle.def_recovery.proofs.PassedLemmas.{belonging_tests}
+use Rattle.def_recovery.specs.Head.{Head, descriptors, head_marks}
 use Rattle.def_recovery.specs.Opened.{array_on, level_on, parents_in}
 use Rattle.def_recovery.specs.Opening.{recover, recover_slot, recover_head, recover_manifest, recover_journal, opened, state_of, reads_as, belongs, has_own_versions}
 use Rattle.def_state.specs.Breach.{Breach, breach, breach_unless, breaches, array_breaches}
 use Rattle.def_state.specs.Level.{TaggedArray, Level, has_disjoint_tags, is_distinct}
 use Rattle.def_state.specs.Sound.{has_ascending_entries, IsWellFormed}
-use Rattle.def_state.specs.State.{State, is_living}
+use Rattle.def_state.specs.State.{State, marks_of}
 use Rattle.def_state.proofs.AppendedLemmas.{length-grown}
-use Rattle.def_state.proofs.UndroppedLemmas.{all_living}
 use Rattle.strat_check.specs.StoreScans.{content_scanned}
 use Rattle.strat_check.specs.Walked.{MayBeTold}
 use Rattle.strat_check.proofs.WalkLemmas.{array_of, level_of, part_few}
@@ -118,6 +117,10 @@ parts_of c h s e =
     let made = map_some (state_with h) (all_some (level_on c) h.manifest.levels) s e in
     (ap (λ (x : State). x.mem) (sym made.2), ap (λ (x : State). x.updates) (sym made.2), ap (λ (x : State). x.parents) (sym made.2), ap (λ (x : State). x.journal) (sym made.2))
 
+-- the versions that were dropped, those that the journal drops among them
+pub marks_said : (c : Image) (h : Head) (s : State) → state_of c h ≡ Some s → head_marks h ≡ marks_of s
+marks_said c h s e = ap marks_of (map_some (state_with h) (all_some (level_on c) h.manifest.levels) s e).2
+
 pub read_as : (c : Image) (h : Head) (s : State) → recover c ≡ Ok (Some h) → state_of c h ≡ Some s → reads_as c ≡ Some s
 read_as c h s found e = ap (λ (r : Read (Option Head)). option_and_then (state_of c) (opened r)) found ∙ e
 
@@ -157,9 +160,6 @@ module _ (c : Image) (h : Head) (s : State) (found : recover c ≡ Ok (Some h)) 
   level_at : (level : Level) → Among level s.levels → (d : LevelDesc) × Among d m.levels × (level_on c d ≡ Some level)
   level_at level among = some_back (level_on c) m.levels s.levels level (levels_of c h s e) among
 
-  pub living : (v : ℕ) → is_living s v ≡ true
-  living = all_living s formed (read_passes c s (read_as c h s found e)).undropped
-
   disjoint : (level : Level) → Among level s.levels → has_disjoint_tags level ≡ true
   disjoint level among =
       let d = level_at level among in
@@ -183,7 +183,6 @@ module _ (c : Image) (h : Head) (s : State) (found : recover c ≡ Ok (Some h)) 
   pub may_be_told : array_breaches s 109 (λ level a. has_ascending_entries a) ≡ [] → sum_by content_scanned s.levels ≤ 2 ^ 48 → MayBeTold s
   may_be_told ascend few = record {
     formed = formed;
-    living = living;
     known = (let grown = length-grown s.parents s.journal in grown);
     counted = λ level has.
         let among = contained_among s.levels level has in

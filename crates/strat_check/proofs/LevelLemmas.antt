@@ -29,12 +29,13 @@ use Rattle.def_split.proofs.CountedLemmas.{own_groups}
 use Rattle.def_split.proofs.ListLemmas.{bool_same, filter_every, filter_none, some_length}
 use Rattle.def_state.specs.Level.{TaggedArray, Level, own_leads, level_leads, tagged_versions, has_live_tagged}
 use Rattle.def_state.specs.Sound.{has_child_below, shallower, has_room, is_numbered_from}
-use Rattle.def_state.specs.State.{State, versions_of, is_living}
+use Rattle.def_state.specs.State.{State, versions_of, marks_of, is_living}
 use Rattle.strat_check.specs.ArrayNumbers.{IsLevelSeen}
-use Rattle.strat_check.specs.Children.{is_child_of, lowered_to_child, lowered_by_own}
+use Rattle.strat_check.specs.Children.{lowered_to_child, lowered_by_own}
 use Rattle.strat_check.specs.LevelNumbers.{marked_with, marked_of, is_quiet}
 use Rattle.strat_check.specs.Sightings.{Sightings}
 use Rattle.strat_check.specs.Walked.{AreFirstChildren}
+use Rattle.strat_tree.specs.Living.{is_living_child}
 use Rattle.strat_check.proofs.ArrayLemmas.{tag_below}
 use Rattle.strat_check.proofs.WalkLemmas.{IsLevelOf, array_of}
 
@@ -141,7 +142,7 @@ shallower_done s done rest on numbered split =
         each level (inr there) =
             no level.number on.number (let lt = numbered_apart 1 (done ++ on ∷ []) rest later on level (among_right done (on ∷ []) on (inl refl)) there in omega (arith, lt))
 
--- the least children of versions
+-- the least living children of versions
 
 leb_refl : (h : ℕ) → leb h h ≡ true
 leb_refl h = le-leb h h (omega arith)
@@ -189,15 +190,8 @@ lowest_own h own first m (v ∷ vs) =
     go true = and_true (leb h m)
     go false = lowered_le h first v m
 
-find_alike : (p q : ℕ → Bool) (xs : List ℕ) → ((x : ℕ) → Among x xs → p x ≡ q x) → find p xs ≡ find q xs
-find_alike p q [] same = refl
-find_alike p q (x ∷ xs) same = λ i. cond (same x (inl refl) i) (Some x) (find_alike p q xs (λ y among. same y (inr among)) i)
-
--- a version that has no child below h has none that is less
-module _ (s : State) (first : List ℕ) (are : AreFirstChildren s first) (tree : IsTree (versions_of s)) (living : (v : ℕ) → is_living s v ≡ true) (h : ℕ) (le : h ≤ length (versions_of s)) where
-  first_is : (v : ℕ) → first_child s v ≡ find (is_child_of (versions_of s) v) (range_with_len 0 (length (versions_of s)))
-  first_is v = find_alike _ (is_child_of (versions_of s) v) (range_with_len 0 (length (versions_of s))) (λ c among. ap (λ (b : Bool). is_child_of (versions_of s) v c && b) (living c) ∙ sym (and_true (is_child_of (versions_of s) v c)))
-
+-- a version that has no living child below h has none that is less
+module _ (s : State) (first : List ℕ) (are : AreFirstChildren s first) (tree : IsTree (versions_of s)) (h : ℕ) (le : h ≤ length (versions_of s)) where
   told : (o : Option ℕ) → leb h (unwrap_or o (length (versions_of s))) ≡ not (option_map_or (λ c. ltb c h) o false)
   told None = le-leb h (length (versions_of s)) le
   told (Some c) = turned
@@ -207,9 +201,8 @@ module _ (s : State) (first : List ℕ) (are : AreFirstChildren s first) (tree :
 
   known_child : (v : ℕ) → v < length (versions_of s) → leb h (get_or first v h) ≡ not (has_child_below s h v)
   known_child v lt =
-      ap (leb h) (get_or_default first v h (length (versions_of s)) (let size = are.len in omega (arith, lt, size)) ∙ are.each v lt ∙ ap (λ (k : ℕ). unwrap_or (find (is_child_of (versions_of s) v) (range_with_len 0 k)) (length (versions_of s))) whole)
-      ∙ told (find (is_child_of (versions_of s) v) (range_with_len 0 (length (versions_of s))))
-      ∙ ap (λ (o : Option ℕ). not (option_map_or (λ c. ltb c h) o false)) (sym (first_is v))
+      ap (leb h) (get_or_default first v h (length (versions_of s)) (let size = are.len in omega (arith, lt, size)) ∙ are.each v lt ∙ ap (λ (k : ℕ). unwrap_or (find (is_living_child (versions_of s) (marks_of s) v) (range_with_len 0 k)) (length (versions_of s))) whole)
+      ∙ told (first_child s v)
       ∙ ap not (sym (child_below s h v le))
     where
       whole : length (versions_of s) - 0 ≡ length (versions_of s)

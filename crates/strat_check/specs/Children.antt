@@ -1,22 +1,20 @@
--- The least children of versions.
-use Rattle.std.specs.Prelude.{ℕ, ◌-◌, ◌==◌, min, Bool, false, if◌then◌else◌, List, Option, length, find, unwrap_or, slice_index, slice_index_or}
+-- The least living children of versions.
+use Rattle.std.specs.Prelude.{ℕ, ◌-◌, ◌==◌, min, if◌then◌else◌, List, Option, length, find, unwrap_or, slice_index, slice_index_or}
 use Rattle.std.specs.List.{fold, range_with_len}
 use Rattle.std.specs.Option.{option_map_or}
 use Rattle.strat_arena.specs.declared.items.Item.{Item}
-use Rattle.strat_base.specs.Tree.{Parents, parent_of}
+use Rattle.strat_base.specs.Marks.{Marks}
+use Rattle.strat_base.specs.Tree.{Parents}
 use Rattle.strat_level.specs.Memtable.{ItemList}
+use Rattle.strat_tree.specs.Living.{is_living_child}
 
--- a version's parent is this one
-abbrev pub is_child_of : Parents → ℕ → ℕ → Bool
-is_child_of parents v c = option_map_or (λ p. p == v) (parent_of parents c) false
-
--- the least child of a version from a number on, or the number of versions
-abbrev pub first_from : Parents → ℕ → ℕ → ℕ
-first_from parents c v =
-    unwrap_or (find (is_child_of parents v) (range_with_len c (length parents - c)))
+-- the least living child of a version from a number on, or the number of versions
+abbrev pub first_from : Parents → Marks → ℕ → ℕ → ℕ
+first_from parents marks c v =
+    unwrap_or (find (is_living_child parents marks v) (range_with_len c (length parents - c)))
     (length parents)
 
--- the lesser of a number and the least child of a version
+-- the lesser of a number and the least living child of a version
 abbrev pub lowered_to_child : List ℕ → ℕ → ℕ → ℕ
 lowered_to_child first n v = min (slice_index_or first v n) n
 
@@ -24,7 +22,7 @@ lowered_to_child first n v = min (slice_index_or first v n) n
 abbrev pub lowered_by_own : List ℕ → List ℕ → ℕ → ℕ → ℕ
 lowered_by_own own first n v = if slice_index own v == 0 then n else lowered_to_child first n v
 
--- the least of a number and of the least children of the versions of items
+-- the least of a number and of the least living children of the versions of items
 abbrev pub lowered_by_items : List ℕ → ℕ → List Item → ℕ
 lowered_by_items first n items = fold (λ k item. lowered_to_child first k item.version) n items
 

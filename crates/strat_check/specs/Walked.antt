@@ -1,12 +1,12 @@
 -- What was found of levels and their arrays, one after the other.
-use Rattle.std.specs.Prelude.{◌≡◌, ◌≤◌, ◌<◌, ℕ, ◌-◌, ◌^◌, ◌&&◌, nat_le, not, min, true, List, ◌∷◌, ◌++◌, length, map, flat_map, sum_by, slice_get, slice_index_or, Some}
+use Rattle.std.specs.Prelude.{◌≡◌, ◌≤◌, ◌<◌, ℕ, ◌-◌, ◌^◌, ◌&&◌, nat_le, not, min, List, ◌∷◌, ◌++◌, length, map, flat_map, sum_by, slice_get, slice_index_or, Some}
 use Rattle.std.specs.List.{list_all, Contains}
 use Rattle.strat_base.specs.Entries.{Entry, is_ascending}
 use Rattle.def_check.specs.Told.{MayBeCounted}
 use Rattle.def_split.specs.Groups.{grouped_entries}
 use Rattle.def_state.specs.Level.{TaggedArray, Level, own_leads, level_leads, has_live_tagged, agrees, is_dense, is_led, is_drawn}
 use Rattle.def_state.specs.Sound.{has_child_below, has_room, has_old_horizon, is_above_frozen, is_described, IsWellFormed}
-use Rattle.def_state.specs.State.{State, versions_of, is_living, journal_updates}
+use Rattle.def_state.specs.State.{State, versions_of, marks_of, journal_updates}
 use Rattle.strat_check.specs.ArrayNumbers.{IsLevelSeen}
 use Rattle.strat_check.specs.Places.{place_of, first_array_breach, first_in_arrays, first_in_levels}
 use Rattle.strat_check.specs.Scanned.{have_low_versions}
@@ -90,7 +90,8 @@ pub record AreFirsts (s : State) (levels : List Level) (p : Places) : Type 0 whe
 -- what was found of the first levels of a state
 pub record IsFound (s : State) (levels : List Level) (x : Findings) : Type 0 where
   pub firsts : AreFirsts s levels x.places
-  -- no version of an update in the journal or of a lead of these levels has a child below a horizon of at most so many
+  -- no version of an update in the journal or of a lead of these levels has a living child below a
+  -- horizon of at most so many
   pub lowest : (h : ℕ) → h ≤ length (versions_of s) → nat_le h x.lowest
       ≡ list_all (λ e. not (has_child_below s h e.version))
       (journal_updates s ++ flat_map level_leads levels)
@@ -102,7 +103,6 @@ pub record IsFound (s : State) (levels : List Level) (x : Findings) : Type 0 whe
 -- what recovery gives of a state, whatever its blocks hold, where its arrays ascend
 pub record MayBeTold (s : State) : Type 0 where
   pub formed : IsWellFormed s
-  pub living : (v : ℕ) → is_living s v ≡ true
   pub known : length s.parents ≤ length (versions_of s)
   pub counted : (level : Level) → Contains s.levels level → MayBeCounted level
   pub old : (level : Level) → Contains s.levels level → level.horizon ≤ length s.parents
@@ -124,8 +124,9 @@ pub record HaveRoomFor (parents : Parents) (t : Tables) : Type 0 where
   pub leads_placed : IsPreorder (length parents) parents t.leads.order
   pub array_placed : IsPreorder (length parents) parents t.array.order
 
--- the least child of each version of a state
+-- the least living child of each version of a state
 pub record AreFirstChildren (s : State) (first : List ℕ) : Type 0 where
   pub len : length first ≡ length (versions_of s)
   pub each : (v : ℕ) → v < length (versions_of s)
-      → slice_index_or first v (length (versions_of s)) ≡ first_from (versions_of s) 0 v
+      → slice_index_or first v (length (versions_of s))
+      ≡ first_from (versions_of s) (marks_of s) 0 v

@@ -43,8 +43,8 @@ pub struct ArraysTold {
     pub leads: u64,
 }
 
-/// What was found of the levels so far: the first breaches of their rules, the least child of a version that has an update in
-/// the journal or a lead in one of them, the least horizon, and how many leads they have.
+/// What was found of the levels so far: the first breaches of their rules, the least living child of a version that has an
+/// update in the journal or a lead in one of them, the least horizon, and how many leads they have.
 #[derive(Clone, Copy)]
 pub struct Findings {
     pub places: Places,
@@ -53,7 +53,7 @@ pub struct Findings {
     pub leads: u64,
 }
 
-/// The tables of a check: what is counted of a level and of one array at a time, and the least child of each version.
+/// The tables of a check: what is counted of a level and of one array at a time, and the least living child of each version.
 #[derive(Drop)]
 pub struct Tables {
     pub leads: Sights,

@@ -161,7 +161,7 @@ fn scan_levels<D: Disk>(
     Ok(found)
 }
 
-/// What is found before any level: the least child of a version with an update in the journal. Takes 116 bytes a
+/// What is found before any level: the least living child of a version with an update in the journal. Takes 116 bytes a
 /// version; the only error is want of memory. O(versions + items of level 0 and of a sealed one).
 fn begin(alloc: Global, store: &Reading) -> Result<(Tables, Findings), NoMemory>
     ensures ok { IfOk result (λ r. (f : Image) (s : State) → state_of f store.now ≡ Some s

@@ -1,5 +1,5 @@
 -- What a follower says to a body is a receipt, and the table goes on as that tells.
-use Rattle.std.proofs.Common.{◌≡◌, ◌≤◌, ◌+◌, ℕ, Bool, true, true≢false, if◌then◌else◌, List, [], ◌∷◌, ◌++◌, map, refl, sym, ap, ◌∙◌, subst, inl, inr}
+use Rattle.std.proofs.Common.{◌≡◌, ◌≤◌, ◌+◌, ℕ, Bool, true, if◌then◌else◌, List, [], ◌∷◌, ◌++◌, map, refl, sym, ap, ◌∙◌, subst, inl, inr}
 use Rattle.std.specs.List.{flat_map}
 use Rattle.std.proofs.lemmas.Bool.{cases_Bool}
 use Rattle.strat_base.specs.Change.{Change}
@@ -36,12 +36,6 @@ next_changes mem at after c place =
       | inr denied ↦ ap (λ (b : Bool). if b then at.table.changes + 1 else at.table.changes) denied ∙ ap (λ (t : Table). t.changes) (sym (counts.1 denied) ∙ sym table)
     ]
 
--- no store drops a version
-drop_denied : (mem : ℕ) (at : Position) (c : Change) (version : ℕ) → c ≡ change.DropVersion version
-    → IsAfter mem at (request_for c) at × (fate_for (step at.table (request_for c)).answer.reply ≡ kept.Refused why.UnknownVersion)
-drop_denied mem at c version e = subst (λ (x : Change). IsAfter mem at (request_for x) at × (fate_for (step at.table (request_for x)).answer.reply ≡ kept.Refused why.UnknownVersion)) (sym e)
-    (record { table = refl; fill = λ made. absurd (true≢false (sym made)); same = λ _. refl }, refl)
-
 -- a change is a change
 is_one : (c : Change) → is_change (request_for c) ≡ true
 is_one (change.Put v k x) = refl
@@ -56,25 +50,11 @@ module _ (mem : ℕ) (at : Position) (body : List ℕ) (said : Said) where
     where
       go : PassesBy at.table.changes body by.receipt → IsReceived mem at body said after
       go (inl none) = record { receipt = by.receipt; receives = inl (record { none = none.none; receipt = none.receipt; same = same }); sent = by.sent }
-      go (inr (inl out)) = record {
+      go (inr out) = record {
         receipt = by.receipt;
         receives = inr (inl (record { n = out.n; spelled = out.spelled; turn = out.turn; number = out.number; next = out.next; same = same }));
         sent = by.sent;
       }
-      go (inr (inr drops)) =
-          let denied = drop_denied mem at drops.n.change drops.version drops.drops in
-          record {
-            receipt = by.receipt;
-            receives = inr (inr (inl (record {
-              n = drops.n;
-              spelled = drops.spelled;
-              turn = drops.turn;
-              place = subst (IsAfter mem at (request_for drops.n.change)) (sym same) denied.0;
-              receipt = drops.receipt
-                  ∙ (λ i. record { number = drops.n.number; fate = sym denied.1 i; next = (sym same i).table.changes });
-            })));
-            sent = by.sent;
-          }
 
   -- one that asks for the next change, which the table was given
   given : (after : Position) (request : Request) (asks : AsksNext at.table.changes body said.tag request) → said.sent ≡ receipt_frame (receipt_after at.table.changes said.tag said.answer.reply)

@@ -1,13 +1,12 @@
 -- The protocol of a follower: bodies are changes with their numbers, and each has a receipt.
 use Rattle.std.specs.Prelude.{◌≡◌, ◌<◌, ◌⊎◌, ℕ, ◌+◌, if◌then◌else◌, List, []}
-use Rattle.strat_base.specs.Change.{DropVersion}
 use Rattle.strat_model.specs.declared.replies.Refusal.TheVariants as why
 use Rattle.strat_model.specs.declared.replies.Reply.{Reply}
 use Rattle.strat_model.specs.Answer.{accepts, refusal}
 use Rattle.strat_model.specs.Request.{Request}
 use Rattle.strat_model.specs.Spelling.{tag_of}
 use Rattle.def_meaning.specs.StateTable.{request_for}
-use Rattle.def_follow.specs.Following.{Receipt, Old, Gap, Malformed, Refused, fate_for, receipt_frame}
+use Rattle.def_follow.specs.Following.{Receipt, Old, Gap, Malformed, fate_for, receipt_frame}
 use Rattle.def_follow.specs.Numbered.{Numbered, SpellsNumbered}
 use Rattle.strat_loop.specs.Speech.{Said, Speech}
 
@@ -40,23 +39,9 @@ pub record IsOutOfTurn (changes : ℕ) (body : List ℕ) (r : Receipt) : Type 0 
   pub number : r.number ≡ n.number
   pub next : r.next ≡ changes
 
--- it is the next one and drops a version, which no store does yet
-pub record DropsNext (changes : ℕ) (body : List ℕ) (r : Receipt) : Type 0 where
-  pub n : Numbered
-  pub spelled : SpellsNumbered body n
-  pub turn : n.number ≡ changes
-  pub version : ℕ
-  pub drops : n.change ≡ DropVersion version
-  pub receipt : r ≡ record {
-    number = n.number;
-    fate = Refused why.UnknownVersion;
-    next = changes;
-  }
-
 -- a body asks for nothing, for one of these reasons, and has this receipt
 abbrev pub PassesBy : ℕ → List ℕ → Receipt → Type 0
-PassesBy changes body r =
-    IsNoChange changes body r ⊎ IsOutOfTurn changes body r ⊎ DropsNext changes body r
+PassesBy changes body r = IsNoChange changes body r ⊎ IsOutOfTurn changes body r
 
 -- this was said to such a body: the receipt was sent, and no store was asked
 pub record IsPassedBy (changes : ℕ) (body : List ℕ) (said : Said) : Type 0 where

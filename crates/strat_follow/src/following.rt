@@ -76,12 +76,7 @@ impl Protocol for Follower {
                 return None;
             }
         }
-        let Some(command) = command_for(&change) else {
-            let fate = Fate::Refused(Refusal::UnknownVersion);
-            write_receipt(number, fate, changes, out);
-            return None;
-        };
-        Some((number, command))
+        Some((number, command_for(&change)))
     }
 
     fn tell(

@@ -11,7 +11,7 @@ ghost use Rattle.strat_model.specs.declared.replies.Refusal.{Refusal};
 ghost use Rattle.strat_model.specs.declared.replies.Refusal.TheVariants as why;
 ghost use Rattle.strat_model.specs.declared.replies.Reply.TheVariants as reply;
 ghost use Rattle.strat_model.specs.Answer.{plain, refusal};
-ghost use Rattle.strat_model.specs.Request.{Clone};
+ghost use Rattle.strat_model.specs.Request.{Clone, DropVersion};
 ghost use Rattle.strat_model.specs.Run.{Exchange, Position};
 ghost use Rattle.strat_model.specs.Spelling.{IsRefusedAs};
 ghost use Rattle.strat_model.specs.Table.{Table, bare};
@@ -89,20 +89,24 @@ pub fn a_leader_stops_at_its_journal_for_the_sink<D: Viewed>()
         → ShowsTable f t → FollowsFrom (D.view d) (D.view e) f (t ∷ []) 0 }
 {}
 
-/// What is sent for single bodies, in bytes: by a leader for a first put, behind 258 changes for a clone, and for one that was
-/// refused; by a follower for a change that was taken, and one for which memory ran out. Neither sends anything for a frame
-/// that is too long.
+/// What is sent for single bodies, in bytes: by a leader for a first put, behind 258 changes for a clone, for a drop, and for
+/// one that was refused; by a follower for a change that was taken, one for which memory ran out, and a drop of version 0.
+/// Neither sends anything for a frame that is too long.
 pub fn answers_are_spelled_so()
     ensures sent { change_frames 0
         (change.Put 0 (97 ∷ []) (49 ∷ []) ∷ change.Delete 0 (97 ∷ []) ∷ [])
         ≡ 0 ∷ 0 ∷ 0 ∷ 14 ∷ 0 ∷ 0 ∷ 0 ∷ 0 ∷ 1 ∷ 0 ∷ 0 ∷ 0 ∷ 0 ∷ 1 ∷ 97 ∷ 0 ∷ 1 ∷ 49
         ∷ 0 ∷ 0 ∷ 0 ∷ 11 ∷ 0 ∷ 0 ∷ 0 ∷ 1 ∷ 2 ∷ 0 ∷ 0 ∷ 0 ∷ 0 ∷ 1 ∷ 97 ∷ [] }
-    ensures later { leads.tells 258 7 (Clone 1) (plain (reply.Made 2))
-        ≡ 0 ∷ 0 ∷ 0 ∷ 9 ∷ 0 ∷ 0 ∷ 1 ∷ 2 ∷ 3 ∷ 0 ∷ 0 ∷ 0 ∷ 1 ∷ [] }
+    ensures later { (leads.tells 258 7 (Clone 1) (plain (reply.Made 2))
+        ≡ 0 ∷ 0 ∷ 0 ∷ 9 ∷ 0 ∷ 0 ∷ 1 ∷ 2 ∷ 3 ∷ 0 ∷ 0 ∷ 0 ∷ 1 ∷ [])
+        × (leads.tells 3 7 (DropVersion 1) (plain reply.Done)
+        ≡ 0 ∷ 0 ∷ 0 ∷ 9 ∷ 0 ∷ 0 ∷ 0 ∷ 3 ∷ 4 ∷ 0 ∷ 0 ∷ 0 ∷ 1 ∷ []) }
     ensures none { leads.tells 258 7 (Clone 1) (refusal why.VersionLimit) ≡ [] }
     ensures ok { follows.tells 4 4 (Clone 1) (plain (reply.Made 2))
         ≡ 0 ∷ 0 ∷ 0 ∷ 10 ∷ 0 ∷ 0 ∷ 0 ∷ 4 ∷ 0 ∷ 0 ∷ 0 ∷ 0 ∷ 5 ∷ 0 ∷ [] }
-    ensures err { follows.tells 5 5 (Clone 1) (refusal why.NoMemory)
-        ≡ 0 ∷ 0 ∷ 0 ∷ 10 ∷ 0 ∷ 0 ∷ 0 ∷ 5 ∷ 4 ∷ 0 ∷ 0 ∷ 0 ∷ 5 ∷ 32 ∷ [] }
+    ensures err { (follows.tells 5 5 (Clone 1) (refusal why.NoMemory)
+        ≡ 0 ∷ 0 ∷ 0 ∷ 10 ∷ 0 ∷ 0 ∷ 0 ∷ 5 ∷ 4 ∷ 0 ∷ 0 ∷ 0 ∷ 5 ∷ 32 ∷ [])
+        × (follows.tells 5 5 (DropVersion 0) (refusal why.Root)
+        ≡ 0 ∷ 0 ∷ 0 ∷ 10 ∷ 0 ∷ 0 ∷ 0 ∷ 5 ∷ 4 ∷ 0 ∷ 0 ∷ 0 ∷ 5 ∷ 27 ∷ []) }
     ensures end { (leads.too_long ≡ []) × (follows.too_long ≡ []) }
 {}

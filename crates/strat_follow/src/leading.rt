@@ -45,6 +45,7 @@ fn change_in<'a>(command: &Command<'a>) -> Option<Change<'a>>
         }),
         Command::Delete { version, key } => Some(Change::Delete { version, key }),
         Command::Clone { version } => Some(Change::Clone { version }),
+        Command::DropVersion { version } => Some(Change::DropVersion { version }),
         _ => None,
     }
 }

@@ -1,7 +1,7 @@
 //! Changes with their numbers, as bodies of frames.
 
-ghost use Rattle.std.specs.Prelude.{◌≡◌, ℕ, IfSome, IfNone, IsTrue, true};
-ghost use Rattle.strat_base.specs.Change.{DropVersion, is_lawful};
+ghost use Rattle.std.specs.Prelude.{◌≡◌, IfSome, IfNone, IsTrue, true};
+ghost use Rattle.strat_base.specs.Change.{is_lawful};
 ghost use Rattle.strat_base.specs.ChangeView.{change_of};
 ghost use Rattle.strat_model.specs.Command.{request_of};
 ghost use Rattle.strat_model.specs.Spelling.{has_lawful_sizes, tag_of};
@@ -32,26 +32,24 @@ pub(crate) fn read_numbered(body: &[u8]) -> Option<(u32, Change<'_>)>
     Some((number, change))
 }
 
-/// The command that asks for a change. None asks to drop a version.
-pub(crate) fn command_for<'a>(change: &Change<'a>) -> Option<Command<'a>>
+/// The command that asks for a change.
+pub(crate) fn command_for<'a>(change: &Change<'a>) -> Command<'a>
     requires fits { IsTrue (is_lawful (change_of change.now)) }
-    ensures ok { IfSome result (λ c. request_of c ≡ request_for (change_of change.now)) }
-    ensures fits { IfSome result (λ c. has_lawful_sizes (request_of c) ≡ true) }
-    ensures none { IfNone result ((version : ℕ)
-        × (change_of change.now ≡ DropVersion version)) }
+    ensures ok { request_of result ≡ request_for (change_of change.now) }
+    ensures fits { has_lawful_sizes (request_of result) ≡ true }
 {
     match *change {
         Change::Put {
             version,
             key,
             value,
-        } => Some(Command::Put {
+        } => Command::Put {
             version,
             key,
             value,
-        }),
-        Change::Delete { version, key } => Some(Command::Delete { version, key }),
-        Change::Clone { version } => Some(Command::Clone { version }),
-        Change::DropVersion { version: _ } => None,
+        },
+        Change::Delete { version, key } => Command::Delete { version, key },
+        Change::Clone { version } => Command::Clone { version },
+        Change::DropVersion { version } => Command::DropVersion { version },
     }
 }

@@ -65,6 +65,7 @@ tells (reply.Refused why.KeySize) = tells_none (reply.Refused why.KeySize) refl 
 tells (reply.Refused why.ValueSize) = tells_none (reply.Refused why.ValueSize) refl refl
 tells (reply.Refused why.ScanSize) = tells_none (reply.Refused why.ScanSize) refl refl
 tells (reply.Refused why.FrameTooLong) = tells_none (reply.Refused why.FrameTooLong) refl refl
+tells (reply.Refused why.Root) = tells_none (reply.Refused why.Root) refl refl
 tells (reply.Refused why.NoMemory) = tells_none (reply.Refused why.NoMemory) refl refl
 tells (reply.Refused why.DeviceFault) = record {
   spent = refl;

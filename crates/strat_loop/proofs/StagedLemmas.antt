@@ -99,7 +99,7 @@ counts_on : (m : Memory) (c : Change) → is_none (refusal_of_change m c) ≡ tr
 counts_on m (Put version key value) taken = refl
 counts_on m (Delete version key) taken = refl
 counts_on m (Clone version) taken = refl
-counts_on m (DropVersion version) taken = absurd (true≢false (sym taken))
+counts_on m (DropVersion version) taken = refl
 
 -- a change that a store says it staged
 pub staged_by : (old new : Held) (r : Request) → may_stage old r ≡ true → ((c : Change) → change_wanted r ≡ Some c → new ≡ with_staged old c)

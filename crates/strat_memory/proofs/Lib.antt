@@ -2,6 +2,7 @@ pub mod BelongingLemmas
 pub mod MemoryLawLemmas
 pub mod MemoryLemmas
 pub mod PoolLemmas
+pub mod PruneLemmas
 pub mod PageLemmas
 pub mod IdLemmas
 pub mod OwnLemmas

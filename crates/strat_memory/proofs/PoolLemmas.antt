@@ -24,6 +24,7 @@ use Rattle.strat_cursor.proofs.HoldingLemmas.{pool_few, shares_few}
 use Rattle.strat_cursor.proofs.RowLemmas.{pool_pinned, pool_held, tree_pinned}
 use Rattle.def_meaning.specs.TableOver.{are_known}
 use Rattle.strat_memory.specs.Memory.{SealedLevel}
+use Rattle.strat_manifest.specs.ManifestView.{marks_listed}
 use Rattle.strat_memory.specs.MemoryFields.{lists_beside, own_arenas, sealed_seen, IsSealedBelow, StandInPool, StandsBeside}
 use Rattle.strat_memory.specs.declared.memory.Sealed.{Sealed}
 
@@ -118,7 +119,7 @@ ReadsBeside old new others = (z : Memtable) → Among z others → entries_held 
 pub sealed_same : (old new : List PoolEntry) (sealed : Option Sealed) (next : Option Memtable) → ReadsBeside old new (lists_beside sealed next)
     → option_map (sealed_seen new) sealed ≡ option_map (sealed_seen old) sealed
 sealed_same old new None next reads = refl
-sealed_same old new (Some s) next reads = λ i. Some (record { entries = reads s.zero (inl refl) i; versions = s.versions; updates = s.updates; changes = s.changes })
+sealed_same old new (Some s) next reads = λ i. Some (record { entries = reads s.zero (inl refl) i; versions = s.versions; marks = marks_listed s.marks; updates = s.updates; changes = s.changes })
 
 pub sealed_below : (old new : List PoolEntry) (parents later : Parents) (sealed : Option Sealed) (next : Option Memtable) → length parents ≤ length later → ReadsBeside old new (lists_beside sealed next)
     → IfSome sealed (IsSealedBelow old parents) → IfSome sealed (IsSealedBelow new later)

@@ -3,7 +3,7 @@
 
 ghost use Rattle.std.specs.List.{list_all};
 ghost use Rattle.std.specs.Option.{option_copied, option_to_list};
-ghost use Rattle.std.specs.Prelude.{◌≡◌, ◌<◌, ◌≤◌, ℕ, ◌+◌, ◌↔◌, [], ◌∷◌, length, map, option_map, nat_lt, false, Some, None, Contains, IfOk, IfSome, OnOk, OnErr, IsErrOf, IsTrue, is_some};
+ghost use Rattle.std.specs.Prelude.{◌≡◌, ◌<◌, ◌≤◌, ℕ, ◌+◌, ◌↔◌, [], ◌∷◌, ◌++◌, length, map, slice_set, true, option_map, nat_lt, false, Some, None, Contains, IfOk, IfSome, OnOk, OnErr, IsErrOf, IsTrue, is_some};
 ghost use Rattle.strat_array.specs.Told.{TellsFound};
 ghost use Rattle.strat_base.specs.Change.{is_lawful};
 ghost use Rattle.strat_base.specs.ChangeView.{change_of};
@@ -106,6 +106,8 @@ fn prune(tree: &mut Tree, marks: &[u32])
     ensures ok { tree.new ≡ record tree.old { marks = marks_listed marks.now } }
 {
     let mut v = tree.count();
+    // For the proof: each version has a mark.
+    let _ = tree.is_dead(0);
     while v > 1 {
         v -= 1;
         if marks[v as usize] == 1 {
@@ -128,7 +130,10 @@ fn marks_of(alloc: Global, tree: &Tree) -> Result<Versions, NoMemory>
     ensures ok { IfOk result (λ marks. marks_listed marks ≡ tree.now.marks) }
 {
     let mut marks = Versions::new(alloc);
-    for v in 0..tree.count() {
+    let versions = tree.count();
+    // For the proof: each version has a mark.
+    let _ = tree.is_dead(0);
+    for v in 0..versions {
         let mark = if tree.is_dead(v) { 1 } else { 0 };
         if let Err((failed, _)) = marks.push(mark) {
             return Err(failed);

@@ -79,6 +79,10 @@ fn clone_of(version: u32) -> Command<'static> {
     Command::Clone { version }
 }
 
+fn drop_of(version: u32) -> Command<'static> {
+    Command::DropVersion { version }
+}
+
 fn info(parent: Option<u32>, depth: u32, frozen: bool) -> Reply {
     Reply::Info {
         parent,
@@ -123,7 +127,8 @@ fn sizes_ok(command: &Command<'_>) -> bool
         Command::Clone { .. }
         | Command::Info { .. }
         | Command::CloseCursor { .. }
-        | Command::Stat => true,
+        | Command::Stat
+        | Command::DropVersion { .. } => true,
     }
 }
 
@@ -313,6 +318,88 @@ fn a_cursor_keeps_the_pairs_of_its_moment(rt: HostRuntime) -> Result<(), Fail> {
         done(close),
         refused(close, Refusal::UnknownCursor),
         refused(next, Refusal::UnknownCursor),
+    ];
+    assert!(rt; follow(rt.alloc(), 100, 10, &lines)?);
+    Ok(())
+}
+
+#[test]
+fn a_version_that_was_dropped_is_unknown(rt: HostRuntime) -> Result<(), Fail> {
+    let lines = [
+        done(put(0, "a", "1")),
+        answered(clone_of(0), Reply::Made { version: 1 }, &[]),
+        done(put(1, "b", "2")),
+        done(drop_of(1)),
+        done(put(0, "c", "3")),
+        refused(get(1, "a"), Refusal::UnknownVersion),
+        refused(drop_of(0), Refusal::Root),
+    ];
+    assert!(rt; follow(rt.alloc(), 100, 10, &lines)?);
+    Ok(())
+}
+
+#[test]
+fn every_command_knows_a_dropped_version_no_more(rt: HostRuntime) -> Result<(), Fail> {
+    let lines = [
+        answered(clone_of(0), Reply::Made { version: 1 }, &[]),
+        done(drop_of(1)),
+        refused(put(1, "a", "1"), Refusal::UnknownVersion),
+        refused(delete(1, "a"), Refusal::UnknownVersion),
+        refused(get(1, "a"), Refusal::UnknownVersion),
+        refused(scan(1, "", "", 2), Refusal::UnknownVersion),
+        refused(open(1), Refusal::UnknownVersion),
+        refused(clone_of(1), Refusal::UnknownVersion),
+        refused(Command::Info { version: 1 }, Refusal::UnknownVersion),
+        refused(drop_of(1), Refusal::UnknownVersion),
+    ];
+    assert!(rt; follow(rt.alloc(), 100, 10, &lines)?);
+    Ok(())
+}
+
+#[test]
+fn a_parent_is_frozen_while_a_child_lives(rt: HostRuntime) -> Result<(), Fail> {
+    let lines = [
+        answered(clone_of(0), Reply::Made { version: 1 }, &[]),
+        answered(clone_of(0), Reply::Made { version: 2 }, &[]),
+        done(drop_of(1)),
+        refused(put(0, "a", "1"), Refusal::Frozen),
+        answered(Command::Info { version: 0 }, info(None, 0, true), &[]),
+        done(drop_of(2)),
+        answered(Command::Info { version: 0 }, info(None, 0, false), &[]),
+        answered(Command::Stat, stat(3, 4), &[]),
+        answered(clone_of(0), Reply::Made { version: 3 }, &[]),
+    ];
+    assert!(rt; follow(rt.alloc(), 100, 10, &lines)?);
+    Ok(())
+}
+
+#[test]
+fn refusals_of_a_drop_are_told_in_order(rt: HostRuntime) -> Result<(), Fail> {
+    let lines = [
+        refused(drop_of(0), Refusal::Root),
+        answered(clone_of(0), Reply::Made { version: 1 }, &[]),
+        answered(clone_of(1), Reply::Made { version: 2 }, &[]),
+        refused(drop_of(3), Refusal::UnknownVersion),
+        refused(drop_of(0), Refusal::Root),
+        refused(drop_of(1), Refusal::Frozen),
+        refused(drop_of(2), Refusal::ChangeLimit),
+    ];
+    assert!(rt; follow(rt.alloc(), 2, 10, &lines)?);
+    Ok(())
+}
+
+#[test]
+fn a_cursor_outlives_its_version(rt: HostRuntime) -> Result<(), Fail> {
+    let next = Command::NextPairs {
+        cursor: 1,
+        limit: 256,
+    };
+    let lines = [
+        done(put(0, "a", "1")),
+        answered(clone_of(0), Reply::Made { version: 1 }, &[]),
+        answered(open(1), Reply::Opened { cursor: 1 }, &[]),
+        done(drop_of(1)),
+        answered(next, Reply::Pairs { more: false }, &[("a", "1")]),
     ];
     assert!(rt; follow(rt.alloc(), 100, 10, &lines)?);
     Ok(())

@@ -11,7 +11,7 @@ ghost use Rattle.strat_level.specs.Memtable.{entries_held, ListStands};
 ghost use Rattle.def_slice.specs.Lists.{HoldLists};
 ghost use Rattle.strat_gate.specs.SuperView.{super_of};
 ghost use Rattle.strat_manifest.specs.ManifestView.{manifest_of};
-ghost use Rattle.def_recovery.specs.Head.{head_versions, journal_count, head_changes, head_updates};
+ghost use Rattle.def_recovery.specs.Head.{head_versions, head_marks, journal_count, head_changes, head_updates};
 ghost use Rattle.def_recovery.specs.Opening.{recover};
 ghost use Rattle.strat_open.specs.declared.attach_fault.AttachFault.TheVariants as fault;
 
@@ -91,9 +91,10 @@ impl Reading {
         self.found.journal.count()
     }
 
-    /// The versions, those that the journal made among them.
+    /// The versions, those that the journal made among them, and which of them were dropped.
     pub fn tree(&self) -> &Tree
-        ensures ok { (result.now.parents ≡ head_versions self.now) × IsTree result.now.parents }
+        ensures ok { (result.now.parents ≡ head_versions self.now)
+            × (result.now.marks ≡ head_marks self.now) × IsTree result.now.parents }
     {
         let (_, _, tree) = self.found.memory.parts();
         tree

@@ -135,7 +135,8 @@ fn replay(memory: &mut Memory, logged: &[Logged]) -> Result<(), Trouble>
     ensures fits { OnOk result (IsTrue (list_all is_lawful (map (λ l. l.change) logged.now))) }
     ensures damaged { IfErr result (λ e. (b : ℕ) × (e ≡ Damaged b)
         × (accepted_in memory.old.changes_max memory.old.versions_max
-        memory.old.parents memory.old.marks memory.old.changes (map logged_of logged.now) ≡ Err b)) }
+        memory.old.parents memory.old.marks memory.old.changes (map logged_of logged.now)
+        ≡ Err b)) }
 {
     for record in logged {
         redo(memory, record)?;
@@ -182,7 +183,8 @@ fn replay_both(
     ensures fits { OnOk result (IsTrue (list_all is_lawful (map (λ l. l.change) logged.now))) }
     ensures damaged { (block : ℕ) → IsErrOf result (Damaged block)
         → accepted_in memory.old.changes_max memory.old.versions_max
-        memory.old.parents memory.old.marks memory.old.changes (map logged_of logged.now) ≡ Err block }
+        memory.old.parents memory.old.marks memory.old.changes (map logged_of logged.now)
+        ≡ Err block }
     ensures err { IsErrOf result Device → ⊥ }
 {
     replay(memory, &logged[..mem as usize])?;

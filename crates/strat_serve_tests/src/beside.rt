@@ -50,6 +50,26 @@ fn often_alike(alloc: Global, disk: &mut MemDisk) -> Result<bool, NoMemory> {
     )
 }
 
+/// Whether 300 commands about versions that are dropped are, in three openings.
+fn dropped_alike(alloc: Global, disk: &mut MemDisk) -> Result<bool, NoMemory> {
+    let mut beside = fresh_beside(alloc)?;
+    Ok(
+        opens_alike(alloc, disk, &mut beside, Script::Dropping, 0, 100)
+            && opens_alike(alloc, disk, &mut beside, Script::Dropping, 100, 200)
+            && opens_alike(alloc, disk, &mut beside, Script::Dropping, 200, 300),
+    )
+}
+
+#[test]
+fn a_store_drops_versions_as_the_plain_table_does(rt: HostRuntime) -> Result<(), Fail> {
+    let Some(mut disk) = new_store(rt.alloc(), 4, 300, 40) else {
+        assert!(rt; false);
+        return Ok(());
+    };
+    assert!(rt; dropped_alike(rt.alloc(), &mut disk)?);
+    Ok(())
+}
+
 #[test]
 fn a_store_answers_as_the_plain_table_does(rt: HostRuntime) -> Result<(), Fail> {
     let Some(mut disk) = new_store(rt.alloc(), 64, 300, 40) else {

@@ -20,7 +20,11 @@ pub enum Script {
     Paging,
     /// Changes that are all accepted, over several versions.
     Changes,
-    /// These changes, with a command about a cursor after each two: openings, pages and closings, all accepted.
+    /// Changes that are all accepted, of which many drop versions.
+    Drops,
+    /// These changes, and after each a command that looks at a version of theirs or is refused.
+    Dropping,
+    /// The first changes, with a command about a cursor after each two: openings, pages and closings, all accepted.
     Slicing,
     /// Puts of thirteen keys at version 0.
     Thirteen,
@@ -34,7 +38,7 @@ pub enum Script {
     LookWorked,
 }
 
-/// How many of the changes a run makes: they end with nine versions.
+/// How many of the changes a run makes: they end with nine versions, and those with drops with eleven, three of which live.
 pub const CHANGES: u32 = 40;
 /// How many commands these are with those about cursors between them.
 pub const SLICING: u32 = 60;
@@ -213,6 +217,100 @@ pub fn changes_among(n: u32) -> u32 {
     n.saturating_sub(n / 3)
 }
 
+/// A value at a key of a version.
+fn put_at(version: u32, n: u32) -> Command<'static> {
+    Command::Put {
+        version,
+        key: key_of(n),
+        value: VALUES[(n / 4 % 4) as usize],
+    }
+}
+
+/// The versions that eight changes with drops are about: the one that they begin from, and the two that they make, one below
+/// the other. Of three such pairs the last one stays, and the next three begin from its second version.
+fn about_drops(n: u32) -> (u32, u32, u32) {
+    let made = n / 8 * 2;
+    (n / 24 * 6, made + 1, made + 2)
+}
+
+/// Change number n of eight that make two versions, one below the other, and drop both, each before its parent is changed
+/// again.
+fn make_and_drop(n: u32) -> Command<'static> {
+    let (from, child, below) = about_drops(n);
+    match n % 8 {
+        0 => Command::Clone { version: from },
+        2 => Command::Clone { version: child },
+        3 => put_at(below, n),
+        4 => Command::DropVersion { version: below },
+        6 => Command::DropVersion { version: child },
+        7 => put_at(from, n),
+        _ => put_at(child, n),
+    }
+}
+
+/// The same of eight that leave both.
+fn make_and_leave(n: u32) -> Command<'static> {
+    let (from, child, below) = about_drops(n);
+    match n % 8 {
+        0 => Command::Clone { version: from },
+        1 => put_at(child, n),
+        2 => Command::Clone { version: child },
+        4 => Command::Delete {
+            version: below,
+            key: key_of(n),
+        },
+        _ => put_at(below, n),
+    }
+}
+
+/// Change number n of those with drops.
+fn drops(n: u32) -> Command<'static> {
+    if n / 8 % 3 == 2 {
+        make_and_leave(n)
+    } else {
+        make_and_drop(n)
+    }
+}
+
+/// A command behind change number n of those with drops: a look at one of their versions, or one that is refused.
+fn behind_drops(n: u32) -> Command<'static> {
+    let (from, child, below) = about_drops(n);
+    let lo: &'static [u8] = b"";
+    let (hi, limit) = (lo, 256);
+    match n % 8 {
+        0 => put_at(from, n),
+        1 => Command::Info { version: from },
+        2 => Command::DropVersion { version: child },
+        3 => Command::Scan {
+            version: below,
+            lo,
+            hi,
+            limit,
+        },
+        4 => Command::Get {
+            version: below,
+            key: key_of(n),
+        },
+        5 => Command::Scan {
+            version: child,
+            lo,
+            hi,
+            limit,
+        },
+        6 => Command::Info { version: child },
+        _ => Command::DropVersion { version: 0 },
+    }
+}
+
+/// Command number n of the changes with drops and the commands between them.
+fn dropping(n: u32) -> Command<'static> {
+    if n % 2 == 0 {
+        drops(n / 2)
+    } else {
+        behind_drops(n / 2)
+    }
+}
+
 /// Asks what is told of one of ten versions, for one of four keys there, or for the counts.
 fn look(n: u32) -> Command<'static> {
     let version = n % 48 / 5;
@@ -261,6 +359,8 @@ pub fn command(script: Script, n: u32) -> Command<'static> {
         Script::Paging => paging(n),
         Script::Changes => change(n),
         Script::Slicing => slicing(n),
+        Script::Drops => drops(n),
+        Script::Dropping => dropping(n),
         Script::Thirteen => Command::Put {
             version: 0,
             key: thirteen(n),
@@ -294,7 +394,8 @@ fn may_be_given(command: &Command<'_>) -> bool
         Command::Clone { .. }
         | Command::Info { .. }
         | Command::CloseCursor { .. }
-        | Command::Stat => true,
+        | Command::Stat
+        | Command::DropVersion { .. } => true,
     }
 }
 

@@ -191,6 +191,28 @@ fn a_crash_leaves_a_prefix_of_changes_over_levels(rt: HostRuntime) {
     assert!(rt; stops(rt.alloc(), &store, plan).is_some_and(|calls| calls > 200));
 }
 
+/// The changes with drops, alone.
+fn changes_with_drops() -> Plan {
+    Plan {
+        run: Run::Changes,
+        script: Script::Drops,
+        most: CHANGES,
+        look: Script::Look,
+        looks: LOOKS,
+        batch: 1,
+    }
+}
+
+#[test]
+fn a_crash_leaves_a_prefix_of_changes_with_drops(rt: HostRuntime) {
+    let Some(store) = new_store(rt.alloc(), 4, 300, 40) else {
+        assert!(rt; false);
+        return;
+    };
+    let plan = changes_with_drops();
+    assert!(rt; stops(rt.alloc(), &store, plan).is_some_and(|calls| calls > 160));
+}
+
 // It takes five: a promotion is up to three slices.
 #[test]
 fn a_crash_leaves_a_prefix_of_changes_over_slices(rt: HostRuntime) {
@@ -234,6 +256,7 @@ fn a_store_is_opened_at_each_fill(rt: HostRuntime) {
     };
     assert!(rt; opens_after_each(rt.alloc(), &four, plan));
     assert!(rt; opens_after_each(rt.alloc(), &five, plan));
+    assert!(rt; opens_after_each(rt.alloc(), &four, changes_with_drops()));
 }
 
 /// Whether the newest superblock on a disk says the format that the store was made in if it is the first one, and otherwise

@@ -91,6 +91,7 @@ pub changes_left : (asked : Command) → change_wanted (request_of asked) ≡ No
 changes_left (command.Put v key value) none get scan info stat opens pages closes = let e : Some (change.Put v key.now value.now) ≡ None = none in cc
 changes_left (command.Delete v key) none get scan info stat opens pages closes = let e : Some (change.Delete v key.now) ≡ None = none in cc
 changes_left (command.Clone v) none get scan info stat opens pages closes = let e : Some (change.Clone v) ≡ None = none in cc
+changes_left (command.DropVersion v) none get scan info stat opens pages closes = let e : Some (change.DropVersion v) ≡ None = none in cc
 changes_left (command.Get v key) none get scan info stat opens pages closes = get v key refl
 changes_left (command.Scan v lo hi limit) none get scan info stat opens pages closes = scan v lo hi limit refl
 changes_left (command.Info v) none get scan info stat opens pages closes = info v refl

@@ -14,7 +14,7 @@ use Rattle.strat_base.specs.declared.failures.Trouble.TheVariants as trouble
 use Rattle.def_crash.proofs.BlockLemmas.{keeps_trans}
 use Rattle.def_crash.specs.Blocks.{AgreeOn, KeepsTaken}
 use Rattle.def_crash.specs.Image.{Image}
-use Rattle.def_crash.specs.Moments.{DiskView, Exposes, Since, Passes, TearsOnly, OnlyReads}
+use Rattle.def_crash.specs.Moments.{DiskView, Exposes, Passes, TearsOnly, OnlyReads}
 use Rattle.strat_cursor.proofs.RetiredLemmas.{retired_rest}
 use Rattle.strat_cursor.specs.Cursors.{retired_all}
 use Rattle.strat_cursor.specs.Held.{AreRowsOf, HeldCursor, HeldCursors}

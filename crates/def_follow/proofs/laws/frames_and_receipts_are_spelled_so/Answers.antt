@@ -28,10 +28,10 @@ returns-clause-end c = refl
 
 pub returns-clause-later : goal.returns-clause-later
 unfolding numbers.be
-returns-clause-later c = refl
+returns-clause-later c = (refl, refl)
 
 pub returns-clause-fates : goal.returns-clause-fates
 returns-clause-fates c = (refl, refl, refl)
 
 pub returns-clause-causes : goal.returns-clause-causes
-returns-clause-causes c = (refl, refl, refl, refl)
+returns-clause-causes c = (refl, refl, refl, refl, refl)

@@ -19,7 +19,6 @@ returns c = record {
     next_most = omega arith;
     written_most = omega arith;
     compacted_most = omega arith;
-    undropped = refl;
     distinct = refl;
     tested = (
       record {

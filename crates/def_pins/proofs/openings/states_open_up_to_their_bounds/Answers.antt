@@ -19,7 +19,6 @@ returns c = record {
     next_most = omega arith;
     written_most = omega arith;
     compacted_most = omega arith;
-    undropped = refl;
     distinct = refl;
     tested = (
       record {
@@ -39,6 +38,32 @@ returns c = record {
   none = λ p. let le : 1 ≤ 0 = p.next_least in omega (arith, le);
   written = λ p. let le : 134217729 ≤ 134217728 = p.written_most in omega (arith, le);
   compacted = λ p. let le : 134217729 ≤ 134217728 = p.compacted_most in omega (arith, le);
-  marks = λ p. true≢false (sym p.undropped);
+  marks = record {
+    limits = record {
+      mem_least = omega arith;
+      mem_most = omega arith;
+      changes_least = omega arith;
+      changes_most = omega arith;
+      versions_least = omega arith;
+      versions_most = omega arith;
+    };
+    few_updates = omega arith;
+    few_changes = omega arith;
+    few_versions = omega arith;
+    next_least = omega arith;
+    next_most = omega arith;
+    written_most = omega arith;
+    compacted_most = omega arith;
+    distinct = refl;
+    tested = (
+      record {
+        aged = omega arith;
+        each = (record { numbered = omega arith; below_next = omega arith; tagged = omega arith; rising = refl; counted = omega arith; sized = refl }, tt);
+        ordered = refl;
+      },
+      tt,
+    );
+    sized = refl;
+  };
   journal = λ p. true≢false (sym p.sized);
 }

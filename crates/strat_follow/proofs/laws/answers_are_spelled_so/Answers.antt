@@ -8,7 +8,7 @@ returns-clause-sent c = refl
 
 pub returns-clause-later : goal.returns-clause-later
 unfolding numbers.be
-returns-clause-later c = refl
+returns-clause-later c = (refl, refl)
 
 pub returns-clause-ok : goal.returns-clause-ok
 unfolding numbers.be
@@ -16,4 +16,4 @@ returns-clause-ok c = refl
 
 pub returns-clause-err : goal.returns-clause-err
 unfolding numbers.be
-returns-clause-err c = refl
+returns-clause-err c = (refl, refl)

@@ -26,7 +26,7 @@ pub returns-clause-ok : goal.returns-clause-ok
 returns-clause-ok c =
     memory_redone (super_of c.args.sb.now) (chained_of c.args.published.now).manifest c.in_ok-memory.memory c.in_ok-memory.ensures.ok c.replay.new.memory
     (map (λ l. l.change) c.args.logged.now)
-    (accepted_in_turn c.in_ok-memory.memory.changes_max c.in_ok-memory.memory.versions_max c.in_ok-memory.memory.parents [] c.in_ok-memory.memory.changes
+    (accepted_in_turn c.in_ok-memory.memory.changes_max c.in_ok-memory.memory.versions_max c.in_ok-memory.memory.parents c.in_ok-memory.memory.marks c.in_ok-memory.memory.changes
     (map logged_of c.args.logged.now) (map (λ l. l.change) c.args.logged.now) c.in_ok-replay.ensures.found)
     (omega (arith, c.requires.room, length-map c.args.logged.now (λ l. l.change)))
     c.in_ok-replay.ensures.ok

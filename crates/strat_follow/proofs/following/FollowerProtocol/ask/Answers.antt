@@ -25,7 +25,7 @@ returns-in-Old-clause-none c =
     let r : Receipt = record { number = c.in-Some.number; fate = kept.Old; next = c.args.changes } in (
       record { tag = c.in-Some.number; answer = refusal why.Malformed; sent = c.write_receipt-in-Old.new.out },
       record {
-        declines = record { receipt = r; passes = inr (inl (record { n = n; spelled = (c.in-Some.ensures).ok; turn = inl (old_is c.args.changes c.in-Some.number (sym (c.in-Old.ensures)), refl); number = refl; next = refl })); tag = refl; answer = refl; sent = c.write_receipt-in-Old.ensures.ok };
+        declines = record { receipt = r; passes = inr (record { n = n; spelled = (c.in-Some.ensures).ok; turn = inl (old_is c.args.changes c.in-Some.number (sym (c.in-Old.ensures)), refl); number = refl; next = refl }); tag = refl; answer = refl; sent = c.write_receipt-in-Old.ensures.ok };
         calm = refl;
       },
       refl,
@@ -37,20 +37,7 @@ returns-in-Gap-clause-none c =
     let r : Receipt = record { number = c.in-Some.number; fate = kept.Gap; next = c.args.changes } in (
       record { tag = c.in-Some.number; answer = refusal why.Malformed; sent = c.write_receipt-in-Gap.new.out },
       record {
-        declines = record { receipt = r; passes = inr (inl (record { n = n; spelled = (c.in-Some.ensures).ok; turn = inr (gap_is c.args.changes c.in-Some.number (sym (c.in-Gap.ensures)), refl); number = refl; next = refl })); tag = refl; answer = refl; sent = c.write_receipt-in-Gap.ensures.ok };
-        calm = refl;
-      },
-      refl,
-    )
-
-pub returns-in_default-command_for-clause-none : goal.returns-in_default-command_for-clause-none
-returns-in_default-command_for-clause-none c =
-    let n : Numbered = record { number = c.in-Some.number; change = change_of c.in-Some.change } in
-    let r : Receipt = record { number = c.in-Some.number; fate = kept.Refused why.UnknownVersion; next = c.args.changes } in
-    let drops = (c.in_default-command_for.ensures).none in (
-      record { tag = c.in-Some.number; answer = refusal why.Malformed; sent = c.write_receipt-in_default-command_for.new.out },
-      record {
-        declines = record { receipt = r; passes = inr (inr (record { n = n; spelled = (c.in-Some.ensures).ok; turn = take_is c.args.changes c.in-Some.number (sym (c.in-Take.ensures)); version = drops.0; drops = drops.1; receipt = refl })); tag = refl; answer = refl; sent = c.write_receipt-in_default-command_for.ensures.ok };
+        declines = record { receipt = r; passes = inr (record { n = n; spelled = (c.in-Some.ensures).ok; turn = inr (gap_is c.args.changes c.in-Some.number (sym (c.in-Gap.ensures)), refl); number = refl; next = refl }); tag = refl; answer = refl; sent = c.write_receipt-in-Gap.ensures.ok };
         calm = refl;
       },
       refl,

@@ -39,15 +39,18 @@ invariant_of-self c =
     })
 
 pub returns-in-Some : goal.returns-in-Some
-returns-in-Some c = record {
-  ok = rw (← c.self.view_is) (λ i. record (memory_held c.self.inside) {
-    parents = ap (λ (t : TreeView). t.parents) c.number.ensures.ok i;
-    entries = entries c i;
-    sealed = option_map (sealed_seen c.release.new.pool) (c.take.ensures.after i);
-    cursors = record (memory_held c.self.inside).cursors {
-      opened = left_held c.self.inside.pool c.release.new.pool c.in-Some.sealed.zero.list.arena c.release.ensures.ok c.release.ensures.kept c.release.ensures.same
-          c.self.inside.tree.parents c.self.inside.zero (lists_beside None c.self.inside.next) c.self.inside.cursors.opened (stood c).level (stood c).beside.1 (stood c).pinned
-          (without_sealed_shares c.self.inside.pool c.self.inside.tree.parents c.self.inside.zero c.in-Some.sealed c.self.inside.next c.self.inside.cursors.opened (stood c)) i;
-    };
-  });
-}
+returns-in-Some c =
+    let r : After-number = (goal.at.returns-in-Some c).After-number in
+    record {
+      ok = rw (← c.self.view_is) (λ i. record (memory_held c.self.inside) {
+        parents = ap (λ (t : TreeView). t.parents) c.number.ensures.ok i;
+        marks = ap (λ (t : TreeView). t.marks) c.number.ensures.ok i;
+        entries = entries r i;
+        sealed = option_map (sealed_seen c.release.new.pool) (c.take.ensures.after i);
+        cursors = record (memory_held c.self.inside).cursors {
+          opened = left_held c.self.inside.pool c.release.new.pool c.in-Some.sealed.zero.list.arena c.release.ensures.ok c.release.ensures.kept c.release.ensures.same
+              c.self.inside.tree.parents c.self.inside.zero (lists_beside None c.self.inside.next) c.self.inside.cursors.opened (stood r).level (stood r).beside.1 (stood r).pinned
+              (without_sealed_shares c.self.inside.pool c.self.inside.tree.parents c.self.inside.zero c.in-Some.sealed c.self.inside.next c.self.inside.cursors.opened (stood r)) i;
+        };
+      });
+    }
