@@ -36,6 +36,7 @@ begun_any : (zero other : ItemList) (levels : List (Option LevelDesc)) (mem n id
 begun_any zero other levels mem n id p same b = record {
   target = subst (λ (k : ℕ). IsTarget (k ∷ map (λ m. leads_if_any (level_numbered levels m)) (range_with_len 1 22)) mem p.task.target) (sym same) b.target;
   fits = b.fits;
+  reach = b.reach;
   horizon = b.horizon;
   first = b.first;
   purges = b.purges;

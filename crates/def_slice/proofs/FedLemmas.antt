@@ -33,9 +33,9 @@ module _ (x : Contents) (sealed : List Entry) (levels : List (Option LevelDesc))
     zero = stands;
     low = (λ i. list_all (λ (e : Entry). ltb e.version (horizon_is i)) (lent.zero i)) ∙ may.low;
     arrays =
-        subst (λ (n : ℕ). AreReadable n (arrays_to inputs.levels p.task.target)) (sym horizon_is)
-        (subst (λ (ls : List (Option LevelDesc)). AreReadable (length (versions_of (sealed_state x))) (arrays_to ls p.task.target)) (sym lent.levels_are) (may.arrays p.task.target));
-    target = omega (arith, ap (λ (t : Task). t.target) same.task, begun.fits);
+        subst (λ (n : ℕ). AreReadable n (arrays_to inputs.levels p.task.reach)) (sym horizon_is)
+        (subst (λ (ls : List (Option LevelDesc)). AreReadable (length (versions_of (sealed_state x))) (arrays_to ls p.task.reach)) (sym lent.levels_are) (may.arrays p.task.reach));
+    reach = omega (arith, ap (λ (t : Task). t.reach) same.task, begun.reach, begun.fits);
     some = omega (arith, horizon_is, may.some);
     known = omega (arith, horizon_is, known);
     first = omega (arith, ap (λ (t : Task). t.first) same.task, begun.first, may.first);

@@ -1,5 +1,5 @@
 -- How many entries the arrays of a promotion have.
-use Rattle.std.proofs.Common.{◌≡◌, ◌≤◌, ◌+◌, ◌^◌, ℕ, Bool, true, false, cond, List, [], ◌∷◌, length, map, filter, Some, length-append, ap, arith}
+use Rattle.std.proofs.Common.{◌≡◌, ◌≤◌, ◌+◌, ◌^◌, ℕ, Bool, List, [], ◌∷◌, length, map, filter, Some, length-append, ap, arith}
 use Rattle.std.specs.List.{slice_get}
 use Rattle.strat_array.specs.Progress.{ArrayProgress}
 use Rattle.strat_base.specs.Entries.{Entry}
@@ -10,11 +10,15 @@ use Rattle.def_split.specs.Groups.{grouped_entries}
 use Rattle.def_split.specs.Plan.{Plan}
 use Rattle.def_split.specs.Planned.{is_taken}
 use Rattle.def_promote.specs.Merging.{MergesTo, rest_of}
-use Rattle.def_promote.specs.Purge.{is_needed, purged}
+use Rattle.def_promote.specs.Purge.{is_needed}
+use Rattle.def_promote.specs.Thin.{is_telling}
 use Rattle.strat_split.specs.PlanSeen.{plan_seen}
 use Rattle.strat_promote.specs.Job.{Job, runs_in, groups_kept, part_content}
+use Rattle.strat_promote.specs.Treated.{groups_treated}
 use Rattle.strat_promote.specs.Written.{IsWriting}
 use Rattle.strat_promote.specs.declared.second_pass.Writing.{Writing}
+use Rattle.strat_promote.specs.declared.treatment.Treatment.{Treatment}
+use Rattle.strat_promote.specs.declared.treatment.Treatment.TheVariants as treatment
 use Rattle.strat_promote.proofs.BudgetLemmas.{goes_with, next_fits}
 use Rattle.strat_promote.proofs.PassLemmas.{filter_fewer}
 
@@ -30,20 +34,21 @@ merged_fewer runs (group ∷ groups) left steps =
 
 -- no more is kept of groups than they have
 pub kept_fewer : (job : Job) (groups : List (List Entry)) → length (grouped_entries (groups_kept job groups)) ≤ length (grouped_entries groups)
-kept_fewer job groups = go job.purges
+kept_fewer job groups = go job.treatment
   where
-    each : (gs : List (List Entry)) → length (grouped_entries (map (purged job.parents) gs)) ≤ length (grouped_entries gs)
-    each [] = omega arith
-    each (g ∷ gs) =
-        let rest = each gs in
-        let one = length-append (purged job.parents g) (grouped_entries (map (purged job.parents) gs)) in
+    each : (test : List Entry → Entry → Bool) (gs : List (List Entry)) → length (grouped_entries (map (λ g. filter (test g) g) gs)) ≤ length (grouped_entries gs)
+    each test [] = omega arith
+    each test (g ∷ gs) =
+        let rest = each test gs in
+        let one = length-append (filter (test g) g) (grouped_entries (map (λ g. filter (test g) g) gs)) in
         let two = length-append g (grouped_entries gs) in
-        let fewer = filter_fewer (is_needed job.parents g) g in
+        let fewer = filter_fewer (test g) g in
         omega (arith, rest, one, two, fewer)
 
-    go : (purges : Bool) → length (grouped_entries (cond purges (map (purged job.parents) groups) groups)) ≤ length (grouped_entries groups)
-    go false = omega arith
-    go true = each groups
+    go : (t : Treatment) → length (grouped_entries (groups_treated job.parents job.marks t groups)) ≤ length (grouped_entries groups)
+    go treatment.Keep = omega arith
+    go treatment.Purge = each (is_needed job.parents) groups
+    go treatment.Thin = each (is_telling job.parents job.marks) groups
 
 -- no part takes more of groups than they have
 part_fewer : (parents : Parents) (plan : Plan) (groups : List (List Entry)) (q : ℕ) → length (part_content parents plan groups q) ≤ length (grouped_entries groups)

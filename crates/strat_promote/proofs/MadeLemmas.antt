@@ -1,5 +1,5 @@
 -- The level of a promotion is made once all groups were written and the arrays are sealed.
-use Rattle.std.proofs.Common.{◌≡◌, ◌<◌, ◌+◌, ℕ, zero, suc, Bool, true, false, cond, ltb, inl, inr, List, [], ◌∷◌, length, map, Option, Some, None, refl, sym, ap, ◌∙◌, subst, arith}
+use Rattle.std.proofs.Common.{◌≡◌, ◌<◌, ◌+◌, ℕ, zero, suc, Bool, true, ltb, inl, inr, List, [], ◌∷◌, length, map, filter, Option, Some, None, refl, sym, ap, ◌∙◌, subst, arith}
 use Rattle.std.specs.List.{list_all, slice_get, Contains}
 use Rattle.std.proofs.lemmas.Bool.{ltb-true, lt-ltb}
 use Rattle.std.proofs.lemmas.List.{length-map}
@@ -7,6 +7,7 @@ use Rattle.std.proofs.lemmas.List.Elements.{Contains-append_right}
 use Rattle.std.proofs.lemmas.Option.{slice_get_within}
 use Rattle.strat_array.specs.Progress.{ArrayProgress}
 use Rattle.strat_base.specs.Entries.{Entry, is_tagged}
+use Rattle.strat_base.specs.Marks.{Marks}
 use Rattle.strat_base.specs.Tree.{Parents}
 use Rattle.strat_base.specs.declared.descriptors.ArrayDesc.{ArrayDesc}
 use Rattle.strat_base.specs.declared.descriptors.Extent.{Extent}
@@ -21,9 +22,11 @@ use Rattle.def_split.specs.Groups.{grouped_entries, AreGroups, array_of_groups}
 use Rattle.def_split.specs.Plan.{horizon_of}
 use Rattle.def_split.proofs.ListLemmas.{map_among}
 use Rattle.def_promote.specs.Merging.{Merges}
-use Rattle.def_promote.specs.Purge.{is_needed, purged}
+use Rattle.def_promote.specs.Purge.{is_needed}
+use Rattle.def_promote.specs.Thin.{is_telling}
 use Rattle.def_promote.proofs.MergingLemmas.{merged}
 use Rattle.def_promote.proofs.PromotedLemmas.{over_are}
+use Rattle.def_promote.proofs.ThinLemmas.{thinned_are}
 use Rattle.def_promote.proofs.UnionLemmas.{found_among}
 use Rattle.strat_split.specs.PlanSeen.{part_seen, plan_seen}
 use Rattle.strat_split.specs.declared.parts.Plan.{Plan}
@@ -34,9 +37,12 @@ use Rattle.strat_promote.specs.Job.{Job, runs_in, groups_kept, arrays_to, part_c
 use Rattle.strat_promote.specs.Leads.{leads_in}
 use Rattle.strat_promote.specs.Stages.{IsArrayMade, IsPlanMade, IsMade}
 use Rattle.strat_promote.specs.Steps.{Inputs, IsReadySource, IsTaskIn}
+use Rattle.strat_promote.specs.Treated.{groups_treated}
 use Rattle.strat_promote.specs.Written.{IsAllWritten}
 use Rattle.strat_promote.specs.declared.second_pass.Writing.{Writing}
 use Rattle.strat_promote.specs.declared.step.Task.{Task}
+use Rattle.strat_promote.specs.declared.treatment.Treatment.{Treatment}
+use Rattle.strat_promote.specs.declared.treatment.Treatment.TheVariants as treatment
 
 contains_from : {X : Type 0} (xs : List X) (x : X) → Among x xs → Contains xs x
 contains_from [] x among = absurd among
@@ -53,24 +59,31 @@ no_items [] none = refl
 no_items (x ∷ xs) none = absurd (cc)
 
 -- what is kept of groups are groups of some of their entries
-module _ (parents : Parents) where
-  kept_among : (groups : List (List Entry)) (e : Entry) → Among e (grouped_entries (map (purged parents) groups)) → Among e (grouped_entries groups)
+module _ (test : List Entry → Entry → Bool) where
+  kept_among : (groups : List (List Entry)) (e : Entry) → Among e (grouped_entries (map (λ g. filter (test g) g) groups)) → Among e (grouped_entries groups)
   kept_among [] e among = absurd among
   kept_among (group ∷ groups) e among =
-      elim (among_split (purged parents group) (grouped_entries (map (purged parents) groups)) e among) [
-        | inl here ↦ among_left group (grouped_entries groups) e (filter_among (is_needed parents group) group e here).0
+      elim (among_split (filter (test group) group) (grouped_entries (map (λ g. filter (test g) g) groups)) e among) [
+        | inl here ↦ among_left group (grouped_entries groups) e (filter_among (test group) group e here).0
         | inr there ↦ among_right group (grouped_entries groups) e (kept_among groups e there)
       ]
 
-  pub kept_low : (purges : Bool) (n : ℕ) (groups : List (List Entry)) → ((e : Entry) → Among e (grouped_entries groups) → e.version < n)
-      → list_all (λ (e : Entry). ltb e.version n) (grouped_entries (cond purges (map (purged parents) groups) groups)) ≡ true
-  kept_low false n groups low = all_from (λ (e : Entry). ltb e.version n) (grouped_entries groups) (λ e among. lt-ltb e.version n (low e among))
-  kept_low true n groups low =
-      all_from (λ (e : Entry). ltb e.version n) (grouped_entries (map (purged parents) groups)) (λ e among. lt-ltb e.version n (low e (kept_among groups e among)))
+  tested_low : (n : ℕ) (groups : List (List Entry)) → ((e : Entry) → Among e (grouped_entries groups) → e.version < n)
+      → list_all (λ (e : Entry). ltb e.version n) (grouped_entries (map (λ g. filter (test g) g) groups)) ≡ true
+  tested_low n groups low =
+      all_from (λ (e : Entry). ltb e.version n) (grouped_entries (map (λ g. filter (test g) g) groups)) (λ e among. lt-ltb e.version n (low e (kept_among groups e among)))
 
-  pub kept_groups : (purges : Bool) (groups : List (List Entry)) → AreGroups groups → AreGroups (cond purges (map (purged parents) groups) groups)
-  kept_groups false groups grouped = grouped
-  kept_groups true groups grouped = over_are parents [] groups grouped
+module _ (parents : Parents) (marks : Marks) where
+  pub kept_low : (t : Treatment) (n : ℕ) (groups : List (List Entry)) → ((e : Entry) → Among e (grouped_entries groups) → e.version < n)
+      → list_all (λ (e : Entry). ltb e.version n) (grouped_entries (groups_treated parents marks t groups)) ≡ true
+  kept_low treatment.Keep n groups low = all_from (λ (e : Entry). ltb e.version n) (grouped_entries groups) (λ e among. lt-ltb e.version n (low e among))
+  kept_low treatment.Purge n groups low = tested_low (is_needed parents) n groups low
+  kept_low treatment.Thin n groups low = tested_low (is_telling parents marks) n groups low
+
+  pub kept_groups : (t : Treatment) (groups : List (List Entry)) → AreGroups groups → AreGroups (groups_treated parents marks t groups)
+  kept_groups treatment.Keep groups grouped = grouped
+  kept_groups treatment.Purge groups grouped = over_are parents [] groups grouped
+  kept_groups treatment.Thin groups grouped = thinned_are parents marks groups grouped
 
 -- what was merged was in a run
 pub merged_from : (runs groups : List (List Entry)) → Merges runs groups → (e : Entry) → Among e (grouped_entries groups) → Among e (grouped_entries runs)
@@ -91,7 +104,7 @@ module _ (f : Image) (task : Task) (inputs : Inputs) (job : Job) (ready : IsRead
       let array = map_among (leads_in f) job.arrays run.0 run.1 in
       let a = array.0 in
       let passes = filter_among (λ (d : Entry). is_tagged a.versions d.version) _ e (subst (λ (es : List Entry). Among e es) array.2 run.2) in
-      let one : Among a (arrays_to inputs.levels task.target) = subst (λ (xs : List ArrayDesc). Among a xs) told.over.arrays_are array.1 in
+      let one : Among a (arrays_to inputs.levels task.reach) = subst (λ (xs : List ArrayDesc). Among a xs) told.over.arrays_are array.1 in
       ready.arrays.low a e.version (contains_from _ a one) passes.1
 
   pub input_low : (e : Entry) → Among e (grouped_entries (runs_in f job)) → e.version < task.horizon
@@ -150,14 +163,14 @@ module _ {R : Type 0} (view : R → RunView) (f g : Image) (disk now : DiskView)
       → IsDescribed (plan_seen w.filling.plan) task.target new made → IsMade f g job task.target first made
   level_made task inputs made ready is filling described =
       let horizon : horizon_of (plan_seen w.filling.plan) ≡ task.horizon = filling.labels in
-      let low = kept_low job.parents job.purges task.horizon written.all (λ e among. input_low f task inputs job ready is e (merged_from (runs_in f job) written.all written.merged e among)) in
+      let low = kept_low job.parents job.marks job.treatment task.horizon written.all (λ e among. input_low f task inputs job ready is e (merged_from (runs_in f job) written.all written.merged e among)) in
       record {
         groups = written.all;
         plan = plan_seen w.filling.plan;
         merged = written.merged;
         horizon = horizon ∙ sym is.horizon;
         split = record {
-          grouped = kept_groups job.parents job.purges written.all (merged (runs_in f job) written.all written.merged).1;
+          grouped = kept_groups job.parents job.marks job.treatment written.all (merged (runs_in f job) written.all written.merged).1;
           low = subst (λ (n : ℕ). list_all (λ (e : Entry). ltb e.version n) (grouped_entries (groups_kept job written.all)) ≡ true) (sym horizon) low;
           own_is = λ v below. refl;
           live_is = λ v below. refl;

@@ -1,12 +1,13 @@
 -- One more group of a pass.
-use Rattle.std.proofs.Common.{◌≡◌, ◌<◌, ◌≤◌, ◌+◌, ◌-◌, ◌^◌, ◌||◌, ℕ, suc, Bool, true, false, leb, ltb, cond, is_some, inl, inr, List, [], ◌∷◌, ◌++◌, length, map, filter, Option, None, option_and_then, refl, sym, ap, ◌∙◌, subst, arith}
+use Rattle.std.proofs.Common.{◌≡◌, ◌<◌, ◌≤◌, ◌+◌, ◌-◌, ◌^◌, ◌||◌, ◌&&◌, not, ℕ, suc, Bool, true, false, leb, ltb, cond, is_some, inl, inr, List, [], ◌∷◌, ◌++◌, length, map, filter, Option, None, option_and_then, refl, sym, ap, ◌∙◌, subst, arith}
 use Rattle.std.specs.List.{slice_get, find, Contains}
 use Rattle.std.specs.Option.{option_map_or}
 use Rattle.std.proofs.lemmas.Bool.{ltb-true, leb-true, le-leb}
 use Rattle.std.proofs.lemmas.List.{length-map, map-append}
 use Rattle.def_crash.specs.Image.{Image}
 use Rattle.strat_base.specs.Tree.{Parents, parent_of, IsTree}
-use Rattle.strat_base.specs.Entries.{Entry, is_at}
+use Rattle.strat_base.specs.Entries.{Entry, is_at, is_same_value}
+use Rattle.strat_base.specs.Marks.{Marks, is_dropped}
 use Rattle.strat_base.specs.declared.descriptors.ArrayDesc.{ArrayDesc}
 use Rattle.strat_base.proofs.ListFacts.{Among, all_at, all_from}
 use Rattle.strat_base.proofs.ResultFacts.{option_cases}
@@ -23,12 +24,17 @@ use Rattle.def_split.proofs.ListLemmas.{filter_same}
 use Rattle.def_promote.proofs.MergingLemmas.{merged_more}
 use Rattle.std.proofs.Math.Nat.{min-eq_left}
 use Rattle.def_promote.specs.Purge.{is_valued, is_needed, purged}
+use Rattle.def_promote.specs.Thin.{value_above, is_telling, thinned}
+use Rattle.def_state.specs.Maps.{value_over}
 use Rattle.strat_merge.specs.Gathered.{are_under, TakesNext, CountsTaken}
 use Rattle.strat_merge.specs.Runs.{RunView, IsEntryRun, lefts, blocks_left, IsBadFor, NoneLeft}
-use Rattle.strat_promote.specs.Job.{Job, runs_in, input_count, groups_kept}
+use Rattle.strat_promote.specs.Job.{Job, runs_in, input_count, IsJobIn, groups_kept}
 use Rattle.def_promote.specs.Merging.{MergesTo, Merges}
 use Rattle.strat_promote.specs.Counted.{AreReadOf, AreRunsOf}
-use Rattle.strat_promote.specs.Taken.{group_kept, TakesKept}
+use Rattle.strat_promote.specs.Taken.{TakesKept}
+use Rattle.strat_promote.specs.Treated.{group_kept, groups_treated}
+use Rattle.strat_promote.specs.declared.treatment.Treatment.{Treatment}
+use Rattle.strat_promote.specs.declared.treatment.Treatment.TheVariants as treatment
 
 -- a greater number is above the versions of runs, too
 pub under_more : (n m : ℕ) (runs : List RunView) → n ≤ m → are_under n runs ≡ true → are_under m runs ≡ true
@@ -49,10 +55,31 @@ none_left view law f (r ∷ runs) none =
     ended (x ∷ es) e = absurd (cc)
 
 -- what is kept of entries does not depend on versions that were made later
-pub kept_same : (purges : Bool) (n : ℕ) (parents others : Parents) → IsTree parents → SameParents n parents others → (entries : List Entry)
-    → ((e : Entry) → Among e entries → e.version < n) → group_kept parents purges entries ≡ group_kept others purges entries
-kept_same false n parents others rooted same entries low = refl
-kept_same true n parents others rooted same entries low =
+pub kept_same : (t : Treatment) (n : ℕ) (parents others : Parents) (marks later : Marks) → IsTree parents → SameParents n parents others
+    → (t ≡ treatment.Thin → (v : ℕ) → v < n → is_dropped marks v ≡ is_dropped later v) → (entries : List Entry)
+    → ((e : Entry) → Among e entries → e.version < n) → group_kept parents marks t entries ≡ group_kept others later t entries
+kept_same treatment.Keep n parents others marks later rooted same marked entries low = refl
+kept_same treatment.Thin n parents others marks later rooted same marked entries low =
+    filter_same (is_telling parents marks entries) (is_telling others later entries) entries (λ e among.
+    λ i. not (marked refl e.version (low e among) i) && not (is_same_value e.value (seen e (low e among) i)))
+  where
+    found : List ℕ → List ℕ → Option (List ℕ)
+    found key us = option_and_then (λ (d : Entry). d.value) (first_some (λ u. find (is_at key u) entries) us)
+
+    above : Parents → List ℕ → (Option ℕ) → Option (List ℕ)
+    above tree key o = option_and_then (λ p. value_over tree entries p key) o
+
+    seen : (e : Entry) → e.version < n → value_above parents entries e.version e.key ≡ value_above others entries e.version e.key
+    seen e lt =
+        elim (option_cases (parent_of parents e.version)) [
+          | inl none ↦ ap (above parents e.key) none ∙ sym (ap (above others e.key) (sym (same e.version lt) ∙ none))
+          | inr some ↦
+              let older : some.0 < e.version = parent_older parents rooted e.version some.0 some.1 in
+              let there : value_over parents entries some.0 e.key ≡ value_over others entries some.0 e.key =
+              sym (ap (found e.key) (path_same others parents rooted n (λ v known. sym (same v known)) some.0 (omega (arith, older, lt)))) in
+              ap (above parents e.key) some.1 ∙ there ∙ sym (ap (above others e.key) (sym (same e.version lt) ∙ some.1))
+        ]
+kept_same treatment.Purge n parents others marks later rooted same marked entries low =
     filter_same (is_needed parents entries) (is_needed others entries) entries (λ e among. ap (λ (t : Bool). is_some e.value || t) (seen e (low e among)))
   where
     found : List ℕ → List ℕ → Bool
@@ -78,17 +105,18 @@ versions_of_items pairs [] = refl
 versions_of_items pairs (item ∷ items) = ap (λ (vs : List ℕ). item.version ∷ vs) (versions_of_items pairs items)
 
 -- one more group is kept
-pub kept_more : (job : Job) (groups : List (List Entry)) (group : List Entry) → groups_kept job (groups ++ group ∷ []) ≡ groups_kept job groups ++ group_kept job.parents job.purges group ∷ []
-kept_more job groups group = go job.purges
+pub kept_more : (job : Job) (groups : List (List Entry)) (group : List Entry) → groups_kept job (groups ++ group ∷ []) ≡ groups_kept job groups ++ group_kept job.parents job.marks job.treatment group ∷ []
+kept_more job groups group = go job.treatment
   where
-    go : (purges : Bool) → cond purges (map (purged job.parents) (groups ++ group ∷ [])) (groups ++ group ∷ []) ≡ cond purges (map (purged job.parents) groups) groups ++ group_kept job.parents purges group ∷ []
-    go true = map-append (purged job.parents) groups (group ∷ [])
-    go false = refl
+    go : (t : Treatment) → groups_treated job.parents job.marks t (groups ++ group ∷ []) ≡ groups_treated job.parents job.marks t groups ++ group_kept job.parents job.marks t group ∷ []
+    go treatment.Keep = refl
+    go treatment.Purge = map-append (purged job.parents) groups (group ∷ [])
+    go treatment.Thin = map-append (thinned job.parents job.marks) groups (group ∷ [])
 
 pub versions_more : (job : Job) (groups : List (List Entry)) (group : List Entry)
-    → group_versions (groups_kept job (groups ++ group ∷ [])) ≡ group_versions (groups_kept job groups) ++ map (λ (e : Entry). e.version) (group_kept job.parents job.purges group) ∷ []
+    → group_versions (groups_kept job (groups ++ group ∷ [])) ≡ group_versions (groups_kept job groups) ++ map (λ (e : Entry). e.version) (group_kept job.parents job.marks job.treatment group) ∷ []
 versions_more job groups group =
-    ap group_versions (kept_more job groups group) ∙ map-append (λ (g : List Entry). map (λ (e : Entry). e.version) g) (groups_kept job groups) (group_kept job.parents job.purges group ∷ [])
+    ap group_versions (kept_more job groups group) ∙ map-append (λ (g : List Entry). map (λ (e : Entry). e.version) g) (groups_kept job groups) (group_kept job.parents job.marks job.treatment group ∷ [])
 
 -- runs of which some entries were taken
 pub read_fewer : (f : Image) (arrays : List ArrayDesc) (old new : List RunView) → ((b : ℕ) → Contains (blocks_left new) b → Contains (blocks_left old) b)
@@ -104,17 +132,18 @@ filter_fewer {X} p (x ∷ xs) = go (p x) (filter_fewer p xs)
     go false rest = omega (arith, rest)
 
 -- no more is kept of a group than it has
-pub kept_fits : (tree : Parents) (purges : Bool) (n : ℕ) (old new : List (List Entry)) (pairs : List KeyValue) (items : List Item) → (taken : TakesKept tree purges n old new (entries_of pairs items))
+pub kept_fits : (tree : Parents) (marks : Marks) (t : Treatment) (n : ℕ) (old new : List (List Entry)) (pairs : List KeyValue) (items : List Item) → (taken : TakesKept tree marks t n old new (entries_of pairs items))
     → length items ≤ length taken.group
-kept_fits tree purges n old new pairs items taken =
+kept_fits tree marks t n old new pairs items taken =
     let size : length (entries_of pairs items) ≡ length items = length-map items (entry_of_item pairs) in
     let same = ap (λ (es : List Entry). length es) taken.kept in
-    let fewer = go purges taken.group in
+    let fewer = go t taken.group in
     omega (arith, size, same, fewer)
   where
-    go : (b : Bool) (group : List Entry) → length (group_kept tree b group) ≤ length group
-    go false group = omega arith
-    go true group = filter_fewer (is_needed tree group) group
+    go : (t : Treatment) (group : List Entry) → length (group_kept tree marks t group) ≤ length group
+    go treatment.Keep group = omega arith
+    go treatment.Purge group = filter_fewer (is_needed tree group) group
+    go treatment.Thin group = filter_fewer (is_telling tree marks group) group
 
 -- one more group was taken from the runs of a job
 pub runs_more : (f : Image) (job : Job) (groups : List (List Entry)) (old new : List RunView) (before now : ℕ) (group : List Entry) → AreRunsOf f job groups old before
@@ -151,13 +180,13 @@ count_stays lists same before now is small counts =
     omega (arith, size, same')
 
 -- one more group of a job was counted
-pub counted_more : (f : Image) (job : Job) (groups : List (List Entry)) (tree : Parents) (pairs : List KeyValue) (items : List Item) (old new : Tallies) (lefts' next : List (List Entry))
-    → IsTree job.parents → SameParents job.horizon job.parents tree → (taken : TakesKept tree job.purges job.horizon lefts' next (entries_of pairs items))
+pub counted_more : (f : Image) (job : Job) (groups : List (List Entry)) (tree : Parents) (marks : Marks) (pairs : List KeyValue) (items : List Item) (old new : Tallies) (lefts' next : List (List Entry))
+    → IsJobIn tree marks job → (taken : TakesKept tree marks job.treatment job.horizon lefts' next (entries_of pairs items))
     → (IsTally job.parents (group_versions (groups_kept job groups)) old → IsTally job.parents (group_versions (groups_kept job groups) ++ item_versions items ∷ []) new)
     → IsTally job.parents (group_versions (groups_kept job groups)) old → IsTally job.parents (group_versions (groups_kept job (groups ++ taken.group ∷ []))) new
-counted_more f job groups tree pairs items old new lefts' next rooted same taken adds tally =
-    let kept : entries_of pairs items ≡ group_kept job.parents job.purges taken.group = taken.kept ∙ sym (kept_same job.purges job.horizon job.parents tree rooted same taken.group (λ e among. ltb-true e.version job.horizon (all_at (λ (d : Entry). ltb d.version job.horizon) e taken.group taken.low among))) in
-    let versions : map (λ (e : Entry). e.version) (group_kept job.parents job.purges taken.group) ≡ item_versions items =
+counted_more f job groups tree marks pairs items old new lefts' next within taken adds tally =
+    let kept : entries_of pairs items ≡ group_kept job.parents job.marks job.treatment taken.group = taken.kept ∙ sym (kept_same job.treatment job.horizon job.parents tree job.marks marks within.rooted within.same within.marked taken.group (λ e among. ltb-true e.version job.horizon (all_at (λ (d : Entry). ltb d.version job.horizon) e taken.group taken.low among))) in
+    let versions : map (λ (e : Entry). e.version) (group_kept job.parents job.marks job.treatment taken.group) ≡ item_versions items =
     ap (λ (es : List Entry). map (λ (e : Entry). e.version) es) (sym kept) ∙ versions_of_items pairs items in
     let all : group_versions (groups_kept job (groups ++ taken.group ∷ [])) ≡ group_versions (groups_kept job groups) ++ item_versions items ∷ [] =
     versions_more job groups taken.group ∙ ap (λ (vs : List ℕ). group_versions (groups_kept job groups) ++ vs ∷ []) versions in

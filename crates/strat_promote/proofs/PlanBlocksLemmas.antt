@@ -1,5 +1,5 @@
 -- How many blocks the arrays of a plan take.
-use Rattle.std.proofs.Common.{◌≡◌, ◌<◌, ◌≤◌, ◌+◌, ◌*◌, ◌^◌, ◌&&◌, ℕ, suc, Bool, true, false, eqb, leb, ltb, cond, List, [], ◌∷◌, ◌++◌, length, map, filter, flat_map, Some, length-append, refl, sym, ap, ◌∙◌, subst, arith}
+use Rattle.std.proofs.Common.{◌≡◌, ◌<◌, ◌≤◌, ◌+◌, ◌*◌, ◌^◌, ◌&&◌, ℕ, suc, true, eqb, leb, ltb, List, [], ◌∷◌, ◌++◌, length, map, filter, flat_map, Some, length-append, refl, sym, ap, ◌∙◌, subst, arith}
 use Rattle.std.specs.Prelude.{option_map}
 use Rattle.std.specs.List.{list_all, slice_get, sum_by, range_with_len}
 use Rattle.std.proofs.lemmas.Bool.{and_parts, eqb-true, ltb-true}
@@ -24,6 +24,10 @@ use Rattle.def_split.proofs.LawLemmas.{groups_described}
 use Rattle.def_split.proofs.ListLemmas.{among_map, distinct_labelled, distinct_range}
 use Rattle.def_split.specs.Planned.{is_taken}
 use Rattle.def_promote.specs.Merging.{MergesTo, Merges, rest_of}
+use Rattle.def_promote.specs.Thin.{thinned}
+use Rattle.strat_promote.specs.Treated.{groups_treated}
+use Rattle.strat_promote.specs.declared.treatment.Treatment.{Treatment}
+use Rattle.strat_promote.specs.declared.treatment.Treatment.TheVariants as treatment
 use Rattle.def_promote.specs.Purge.{purged}
 use Rattle.def_promote.proofs.MergingLemmas.{merged}
 use Rattle.def_promote.proofs.UniqueLemmas.{next_needs_some, one_group_next, one_key_next}
@@ -97,7 +101,7 @@ merged_front (a ∷ all) (g ∷ groups) runs done left one none two =
 -- a part takes more of more groups
 front_content : (job : Job) (plan : Plan) (groups rest : List (List Entry)) (q : ℕ)
     → length (part_content job.parents plan (groups_kept job groups) q) ≤ length (part_content job.parents plan (groups_kept job (groups ++ rest)) q)
-front_content job plan groups rest q = go job.purges
+front_content job plan groups rest q = go job.treatment
   where
     takes : List Entry → List Entry
     takes group = filter (is_taken job.parents plan group q) group
@@ -105,11 +109,15 @@ front_content job plan groups rest q = go job.purges
     joined : (xs ys : List (List Entry)) → length (flat_map takes xs) ≤ length (flat_map takes (xs ++ ys))
     joined xs ys = omega (arith, ap (λ (es : List Entry). length es) (flat_map-append takes xs ys), length-append (flat_map takes xs) (flat_map takes ys))
 
-    go : (purges : Bool) → length (flat_map takes (cond purges (map (purged job.parents) groups) groups)) ≤ length (flat_map takes (cond purges (map (purged job.parents) (groups ++ rest)) (groups ++ rest)))
-    go false = joined groups rest
-    go true =
-        let parts = ap (λ (gs : List (List Entry)). length (flat_map takes gs)) (map-append (purged job.parents) groups rest) in
-        omega (arith, joined (map (purged job.parents) groups) (map (purged job.parents) rest), parts)
+    each : (keep : List Entry → List Entry) → length (flat_map takes (map keep groups)) ≤ length (flat_map takes (map keep (groups ++ rest)))
+    each keep =
+        let parts = ap (λ (gs : List (List Entry)). length (flat_map takes gs)) (map-append keep groups rest) in
+        omega (arith, joined (map keep groups) (map keep rest), parts)
+
+    go : (t : Treatment) → length (flat_map takes (groups_treated job.parents job.marks t groups)) ≤ length (flat_map takes (groups_treated job.parents job.marks t (groups ++ rest)))
+    go treatment.Keep = joined groups rest
+    go treatment.Purge = each (purged job.parents)
+    go treatment.Thin = each (thinned job.parents job.marks)
 
 -- a block has an entry
 block_some : (bytes : List ℕ) (entries : List Entry) → block_in bytes ≡ Some entries → 0 < length entries
@@ -156,9 +164,9 @@ module _ {R : Type 0} (f : Image) (task : Task) (inputs : Inputs) (job : Job) (f
   splits : SplitsGroups job.parents kept (own_at (group_versions kept)) (keys_at job.parents (group_versions kept)) plan
   splits =
       let horizon : horizon_of plan ≡ task.horizon = filling.labels in
-      let low = kept_low job.parents job.purges task.horizon all (λ e among. input_low f task inputs job ready told e (merged_from (runs_in f job) all merges e among)) in
+      let low = kept_low job.parents job.marks job.treatment task.horizon all (λ e among. input_low f task inputs job ready told e (merged_from (runs_in f job) all merges e among)) in
       record {
-        grouped = kept_groups job.parents job.purges all (merged (runs_in f job) all merges).1;
+        grouped = kept_groups job.parents job.marks job.treatment all (merged (runs_in f job) all merges).1;
         low = subst (λ (n : ℕ). list_all (λ (e : Entry). ltb e.version n) (grouped_entries kept) ≡ true) (sym horizon) low;
         own_is = λ v below. refl;
         live_is = λ v below. refl;

@@ -1,11 +1,12 @@
 -- What was made of a state's runs takes their place.
-use Rattle.std.proofs.Common.{◌≡◌, ◌<◌, ◌+◌, ℕ, zero, suc, Bool, true, cond, eqb, ◌&&◌, List, [], ◌∷◌, ◌++◌, length, map, flat_map, Option, Some, None, refl, sym, ap, ◌∙◌, subst, arith}
+use Rattle.std.proofs.Common.{◌≡◌, ◌<◌, ◌+◌, ℕ, zero, suc, true, eqb, ◌&&◌, List, [], ◌∷◌, ◌++◌, length, map, flat_map, Option, Some, None, refl, sym, ap, ◌∙◌, subst, arith}
 use Rattle.std.specs.List.{list_all, slice_get, range_with_len, filter_map}
 use Rattle.std.specs.Option.{option_map, option_map_or, option_and_then, option_to_list}
 use Rattle.std.proofs.lemmas.Bool.{and_parts, eqb-true, ne_eqb}
 use Rattle.std.proofs.lemmas.List.{map-append}
 use Rattle.strat_base.specs.Change.{Change}
 use Rattle.strat_base.specs.Entries.{Entry, is_ascending, lead_entries}
+use Rattle.strat_base.specs.Marks.{Marks}
 use Rattle.strat_base.specs.Tree.{Parents}
 use Rattle.strat_base.specs.declared.descriptors.ArrayDesc.{ArrayDesc}
 use Rattle.strat_base.specs.declared.descriptors.LevelDesc.{LevelDesc}
@@ -13,14 +14,16 @@ use Rattle.strat_base.proofs.ListFacts.{Among, all_at, all_from, among_left, amo
 use Rattle.def_crash.specs.Image.{Image}
 use Rattle.def_bytes.specs.Arrays.{all_some, blocks_of, entries_on}
 use Rattle.def_split.specs.Groups.{grouped_entries, group_versions, SplitsGroups, array_of_groups, level_of_groups}
-use Rattle.def_split.specs.Plan.{Part, part_at, members}
+use Rattle.def_split.specs.Plan.{Part, horizon_of, part_at, members}
 use Rattle.def_split.proofs.LawLemmas.{groups_described}
 use Rattle.def_split.proofs.ListLemmas.{among_map}
 use Rattle.def_promote.specs.Merging.{runs_taken, Merges}
 use Rattle.def_promote.specs.Promoted.{promoted, level_if, Takeable, PromotesGroups, fresh_of_groups}
-use Rattle.def_promote.specs.Purge.{purged, entries_over, groups_over}
+use Rattle.def_promote.specs.Compacted.{HasRoomForAll, thinned_in, Compacts, compact_level, CompactsGroups, compact_level_of_groups, compacted_to}
+use Rattle.def_promote.specs.Purge.{entries_over, groups_over}
 use Rattle.def_promote.specs.Replaced.{Replaces}
 use Rattle.def_promote.specs.Sealed.{sealed_at, grown_by}
+use Rattle.def_promote.proofs.CompactedLemmas.{merged_compact, compaction_says, compaction_sound, compaction_small, compaction_paid, groups_compact, compact_groups}
 use Rattle.def_promote.proofs.MergingLemmas.{merged, runs_union}
 use Rattle.def_promote.proofs.PromotedLemmas.{groups_replace}
 use Rattle.def_promote.proofs.ReplacedLemmas.{replaced_says, replaced_sound}
@@ -35,7 +38,9 @@ use Rattle.def_state.specs.State.{State, versions_of, journal_updates}
 use Rattle.def_state.proofs.SoundLemmas.{sound_tree, ordered}
 use Rattle.strat_promote.specs.Job.{Job, runs_in, groups_kept}
 use Rattle.strat_promote.specs.Leads.{leads_in}
-use Rattle.strat_promote.specs.Replacing.{IsJobOf, LeavesTheSame}
+use Rattle.strat_promote.specs.Replacing.{IsJobOf, IsJobOfAll, LeavesTheSame, LeavesLittle}
+use Rattle.strat_promote.specs.Treated.{treatment_over, groups_treated}
+use Rattle.strat_promote.specs.declared.treatment.Treatment.{Treatment}
 use Rattle.strat_promote.specs.Stages.{IsArrayMade, IsLevelMade, IsPlanMade, IsMade}
 use Rattle.strat_promote.proofs.LeadLemmas.{read_whole}
 
@@ -91,11 +96,11 @@ arrays_there (None ∷ levels) = arrays_there levels
 arrays_there (Some level ∷ levels) = ap (λ (xs : List ArrayDesc). level.arrays ++ xs) (arrays_there levels)
 
 -- what is kept of groups where no level lies deeper
-kept_over : (parents : Parents) (purges : Bool) (kept : List Level) (groups : List (List Entry)) → purges ≡ eqb (length kept) 0
-    → cond purges (map (purged parents) groups) groups ≡ groups_over parents kept groups
-kept_over parents purges [] groups is = ap (λ (b : Bool). cond b (map (purged parents) groups) groups) is
-kept_over parents purges (level ∷ kept) groups is =
-    ap (λ (b : Bool). cond b (map (purged parents) groups) groups) (is ∙ ne_eqb (length (level ∷ kept)) 0 (λ e. omega (arith, e)))
+treated_over : (parents : Parents) (marks : Marks) (t : Treatment) (kept : List Level) (groups : List (List Entry)) → t ≡ treatment_over (eqb (length kept) 0)
+    → groups_treated parents marks t groups ≡ groups_over parents kept groups
+treated_over parents marks t [] groups is = ap (λ (x : Treatment). groups_treated parents marks x groups) is
+treated_over parents marks t (level ∷ kept) groups is =
+    ap (λ (x : Treatment). groups_treated parents marks x groups) (is ∙ ap treatment_over (ne_eqb (length (level ∷ kept)) 0 (λ e. omega (arith, e))))
 
 -- what is made of each of some items, which are counted from a number
 all_made : {A B : Type 0} (f : A → Option B) (h : ℕ → B) (xs : List A) (k n : ℕ) → length xs ≡ n → ((q : ℕ) → q < n → (x : A) × (slice_get xs q ≡ Some x) × (f x ≡ Some (h (k + q))))
@@ -124,18 +129,66 @@ one_level : (parts : List Part) (level : Level) → 0 < length parts → level_i
 one_level [] level some = absurd (omega (arith, some))
 one_level (part ∷ parts) level some = refl
 
+-- what was made of groups of which some are kept
+module _ (f g : Image) (s : State) (j first : ℕ) (job : Job) (made : Option LevelDesc) (m : IsMade f g job j first made) (over : List (List Entry))
+    (parents : job.parents ≡ versions_of s) (over_is : groups_kept job m.groups ≡ over) where
+  over_splits : SplitsGroups (versions_of s) over (own_at (group_versions over)) (keys_at (versions_of s) (group_versions over)) m.plan
+  over_splits =
+      subst (λ (p : Parents). SplitsGroups p over (own_at (group_versions over)) (keys_at p (group_versions over)) m.plan) parents
+      (subst (λ (gs : List (List Entry)). SplitsGroups job.parents gs (own_at (group_versions gs)) (keys_at job.parents (group_versions gs)) m.plan) over_is m.split)
+
+  module _ (rules : IsOrdered s) where
+    counted : (q : ℕ) → q < length m.plan.parts → (part_at m.plan q).entries ≡ length (array_of_groups (versions_of s) over m.plan first q).content
+    counted q within =
+        let t : TaggedArray = array_of_groups (versions_of s) over m.plan first q in
+        let there : Among t (level_of_groups (versions_of s) over m.plan j first).arrays =
+        among_map (array_of_groups (versions_of s) over m.plan first) (range_with_len 0 (length m.plan.parts)) q (among_range 0 (length m.plan.parts) q (omega arith) (omega (arith, within))) in
+        let described = all_at (λ (a : TaggedArray). (eqb a.entries (length a.content) && eqb a.leads (length (own_leads a))) && eqb a.least (least_live (versions_of s) a)) t
+        (level_of_groups (versions_of s) over m.plan j first).arrays (groups_described (versions_of s) (sound_tree s rules.formed) over _ _ m.plan j first over_splits) there in
+        eqb-true t.entries (length t.content)
+        (and_parts (eqb t.entries (length t.content)) (eqb t.leads (length (own_leads t)))
+        (and_parts (eqb t.entries (length t.content) && eqb t.leads (length (own_leads t))) (eqb t.least (least_live (versions_of s) t)) described).0).0
+
+    -- the arrays of a level that was made are those of its plan
+    over_arrays : (level : LevelDesc) → IsLevelMade g job j first m.groups m.plan level → (q : ℕ) → q < length m.plan.parts
+        → (a : ArrayDesc) × (slice_get level.arrays q ≡ Some a) × IsArrayMade g (array_of_groups (versions_of s) over m.plan first q) a
+    over_arrays level is q within =
+        let a = is.each q within in
+        let same : array_of_groups job.parents (groups_kept job m.groups) m.plan first q ≡ array_of_groups (versions_of s) over m.plan first q =
+        λ i. array_of_groups (parents i) (over_is i) m.plan first q in
+        (a.0, a.1, subst (λ (t : TaggedArray). IsArrayMade g t a.0) same a.2)
+
+    level_read : horizon_of m.plan ≡ job.horizon → (level : LevelDesc) → IsLevelMade g job j first m.groups m.plan level → level_on g level ≡ Some (level_of_groups (versions_of s) over m.plan j first)
+    level_read horizon level is =
+        let arrays : all_some (array_on g) level.arrays ≡ Some (map (array_of_groups (versions_of s) over m.plan first) (range_with_len 0 (length m.plan.parts))) =
+        all_made (array_on g) (array_of_groups (versions_of s) over m.plan first) level.arrays 0 (length m.plan.parts) is.len (λ q within.
+        let a = over_arrays level is q within in
+        let here : 0 + q ≡ q = omega arith in
+        (a.0, a.1, made_on g _ a.0 a.2 (counted q within) ∙ ap (λ (k : ℕ). Some (array_of_groups (versions_of s) over m.plan first k)) (sym here))) in
+        ap (λ o. option_map (λ arrays. record { number = level.number; horizon = level.horizon; arrays = arrays }) o) arrays
+        ∙ (λ i. Some (record {
+          number = is.number i;
+          horizon = (is.horizon ∙ sym horizon) i;
+          arrays = map (array_of_groups (versions_of s) over m.plan first) (range_with_len 0 (length m.plan.parts));
+        }))
+
+    fresh_read : (desc : Option LevelDesc) → IsPlanMade g job j first m.groups m.plan desc
+        → all_some (level_on g) (option_to_list desc) ≡ Some (level_if m.plan.parts (level_of_groups (versions_of s) over m.plan j first))
+    fresh_read None none = ap (λ (parts : List Part). Some (level_if parts (level_of_groups (versions_of s) over m.plan j first))) (sym none)
+    fresh_read (Some level) is =
+        ap (λ o. option_and_then (λ y. option_map (λ ys. y ∷ ys) (Some [])) o) (level_read m.horizon level is)
+        ∙ ap (λ (levels : List Level). Some levels) (sym (one_level m.plan.parts (level_of_groups (versions_of s) over m.plan j first) is.some))
+
+    over_read : all_some (level_on g) (option_to_list made) ≡ Some (level_if m.plan.parts (level_of_groups (versions_of s) over m.plan j first))
+    over_read = fresh_read made m.level
+
 -- what was made of the runs of a state
 module _ (f g : Image) (s : State) (j first : ℕ) (taken kept : List Level) (job : Job) (made : Option LevelDesc) (m : IsMade f g job j first made) (of : IsJobOf f s taken kept job) where
   abbrev over : List (List Entry)
   over = groups_over (versions_of s) kept m.groups
 
-  over_is : groups_kept job m.groups ≡ over
-  over_is = ap (λ (p : Parents). cond job.purges (map (purged p) m.groups) m.groups) of.parents ∙ kept_over (versions_of s) job.purges kept m.groups of.purges
-
-  splits : SplitsGroups (versions_of s) over (own_at (group_versions over)) (keys_at (versions_of s) (group_versions over)) m.plan
-  splits =
-      subst (λ (p : Parents). SplitsGroups p over (own_at (group_versions over)) (keys_at p (group_versions over)) m.plan) of.parents
-      (subst (λ (gs : List (List Entry)). SplitsGroups job.parents gs (own_at (group_versions gs)) (keys_at job.parents (group_versions gs)) m.plan) over_is m.split)
+  over_are : groups_kept job m.groups ≡ over
+  over_are = ap (λ (p : Parents). groups_treated p job.marks job.treatment m.groups) of.parents ∙ treated_over (versions_of s) job.marks job.treatment kept m.groups of.purges
 
   merges : Merges (runs_taken s taken) m.groups
   merges = subst (λ (runs : List (List Entry)). Merges runs m.groups) of.runs m.merged
@@ -148,54 +201,19 @@ module _ (f g : Image) (s : State) (j first : ℕ) (taken kept : List Level) (jo
         union = runs_union s taken (grouped_entries m.groups) union.0;
         grouped = union.1;
         horizon = m.horizon ∙ of.horizon;
-        split = splits;
+        split = over_splits f g s j first job made m over of.parents over_are;
       }
 
   module _ (rules : IsOrdered s) where
-    counted : (q : ℕ) → q < length m.plan.parts → (part_at m.plan q).entries ≡ length (array_of_groups (versions_of s) over m.plan first q).content
-    counted q within =
-        let t : TaggedArray = array_of_groups (versions_of s) over m.plan first q in
-        let there : Among t (level_of_groups (versions_of s) over m.plan j first).arrays =
-        among_map (array_of_groups (versions_of s) over m.plan first) (range_with_len 0 (length m.plan.parts)) q (among_range 0 (length m.plan.parts) q (omega arith) (omega (arith, within))) in
-        let described = all_at (λ (a : TaggedArray). (eqb a.entries (length a.content) && eqb a.leads (length (own_leads a))) && eqb a.least (least_live (versions_of s) a)) t
-        (level_of_groups (versions_of s) over m.plan j first).arrays (groups_described (versions_of s) (sound_tree s rules.formed) over _ _ m.plan j first splits) there in
-        eqb-true t.entries (length t.content)
-        (and_parts (eqb t.entries (length t.content)) (eqb t.leads (length (own_leads t)))
-        (and_parts (eqb t.entries (length t.content) && eqb t.leads (length (own_leads t))) (eqb t.least (least_live (versions_of s) t)) described).0).0
-
-    level_read : (level : LevelDesc) → IsLevelMade g job j first m.groups m.plan level → level_on g level ≡ Some (level_of_groups (versions_of s) over m.plan j first)
-    level_read level is =
-        let arrays : all_some (array_on g) level.arrays ≡ Some (map (array_of_groups (versions_of s) over m.plan first) (range_with_len 0 (length m.plan.parts))) =
-        all_made (array_on g) (array_of_groups (versions_of s) over m.plan first) level.arrays 0 (length m.plan.parts) is.len (λ q within.
-        let a = is.each q within in
-        let same : array_of_groups job.parents (groups_kept job m.groups) m.plan first q ≡ array_of_groups (versions_of s) over m.plan first q =
-        λ i. array_of_groups (of.parents i) (over_is i) m.plan first q in
-        let here : 0 + q ≡ q = omega arith in
-        (a.0, a.1, made_on g _ a.0 (subst (λ (t : TaggedArray). IsArrayMade g t a.0) same a.2) (counted q within) ∙ ap (λ (k : ℕ). Some (array_of_groups (versions_of s) over m.plan first k)) (sym here))) in
-        ap (λ o. option_map (λ arrays. record { number = level.number; horizon = level.horizon; arrays = arrays }) o) arrays
-        ∙ (λ i. Some (record {
-          number = is.number i;
-          horizon = (is.horizon ∙ sym m.horizon) i;
-          arrays = map (array_of_groups (versions_of s) over m.plan first) (range_with_len 0 (length m.plan.parts));
-        }))
-
-    fresh_read : (desc : Option LevelDesc) → IsPlanMade g job j first m.groups m.plan desc → all_some (level_on g) (option_to_list desc) ≡ Some (fresh_of_groups s j kept m.groups m.plan first)
-    fresh_read None none = ap (λ (parts : List Part). Some (level_if parts (level_of_groups (versions_of s) over m.plan j first))) (sym none)
-    fresh_read (Some level) is =
-        ap (λ o. option_and_then (λ y. option_map (λ ys. y ∷ ys) (Some [])) o) (level_read level is)
-        ∙ ap (λ (levels : List Level). Some levels) (sym (one_level m.plan.parts (level_of_groups (versions_of s) over m.plan j first) is.some))
-
     -- the arrays of a level that was made are those of its plan
     pub made_arrays : (level : LevelDesc) → IsLevelMade g job j first m.groups m.plan level → (q : ℕ) → q < length m.plan.parts
         → (a : ArrayDesc) × (slice_get level.arrays q ≡ Some a) × (a.id ≡ first + q) × (a.versions ≡ members m.plan q) × (a.entries ≡ (part_at m.plan q).entries)
     made_arrays level is q within =
-        let a = is.each q within in
-        let same : array_of_groups job.parents (groups_kept job m.groups) m.plan first q ≡ array_of_groups (versions_of s) over m.plan first q =
-        λ i. array_of_groups (of.parents i) (over_is i) m.plan first q in
-        (a.0, a.1, a.2.id, a.2.versions, a.2.entries ∙ ap (λ (t : TaggedArray). length t.content) same ∙ sym (counted q within))
+        let a = over_arrays f g s j first job made m over of.parents over_are rules level is q within in
+        (a.0, a.1, a.2.id, a.2.versions, a.2.entries ∙ sym (counted f g s j first job made m over of.parents over_are rules q within))
 
     pub made_read : all_some (level_on g) (option_to_list made) ≡ Some (fresh_of_groups s j kept m.groups m.plan first)
-    made_read = fresh_read made m.level
+    made_read = over_read f g s j first job made m over of.parents over_are rules
 
     -- it replaces what was taken
     pub made_replaces : (takes : Takeable s j taken kept) → Replaces s j taken kept (fresh_of_groups s j kept m.groups m.plan first) (grouped_entries m.groups) (entries_over (versions_of s) kept (grouped_entries m.groups))
@@ -229,4 +247,38 @@ module _ (f g : Image) (s : State) (before rest : List Change) (j first : ℕ) (
         read = made_read f g (sealed_at s before) j first taken kept job made m of old;
         says = λ written next_array. follows_says s sound before rest parts j taken kept made_of entries over replaces written next_array;
         sound = λ written next_array. follows_sound s sound before rest parts j taken kept made_of entries over replaces written next_array;
+      }
+
+-- what was made of all runs of a state
+module _ (f g : Image) (s : State) (j first : ℕ) (job : Job) (made : Option LevelDesc) (m : IsMade f g job j first made) (of : IsJobOfAll f s job) where
+  abbrev thin : List (List Entry)
+  thin = map (thinned_in s) m.groups
+
+  thin_are : groups_kept job m.groups ≡ thin
+  thin_are = λ i. groups_treated (of.parents i) (of.marks i) (of.thins i) m.groups
+
+  pub made_compacts : HasRoomForAll s j → CompactsGroups s j m.groups (own_at (group_versions thin)) (keys_at (versions_of s) (group_versions thin)) m.plan
+  made_compacts room =
+      merged_compact s j m.groups (own_at (group_versions thin)) (keys_at (versions_of s) (group_versions thin)) m.plan room
+      (subst (λ (runs : List (List Entry)). Merges runs m.groups) of.runs m.merged) (m.horizon ∙ of.horizon) (over_splits f g s j first job made m thin of.parents thin_are)
+
+  pub compact_read : IsOrdered s → all_some (level_on g) (option_to_list made) ≡ Some (compact_level_of_groups s j m.groups m.plan first)
+  compact_read rules = over_read f g s j first job made m thin of.parents thin_are rules
+
+  -- the state with the level alone says the same, and stores little
+  pub made_little : IsSound s → HasRoomForAll s j → LeavesLittle g made s j (λ fresh compacted next_array. compacted_to s fresh compacted next_array)
+  made_little sound room =
+      let rules : IsOrdered s = ordered s sound in
+      let own = own_at (group_versions thin) in
+      let seen = keys_at (versions_of s) (group_versions thin) in
+      let entries = grouped_entries m.groups in
+      let is : Compacts s j entries m.plan = groups_compact s rules j m.groups own seen m.plan first (made_compacts room) in
+      let same : compact_level_of_groups s j m.groups m.plan first ≡ compact_level s j entries m.plan first = compact_groups s rules j m.groups own seen m.plan first (made_compacts room) in
+      record {
+        fresh = compact_level s j entries m.plan first;
+        read = compact_read rules ∙ ap (λ (levels : List Level). Some levels) same;
+        says = λ compacted next_array. compaction_says s rules j entries m.plan first is compacted next_array;
+        sound = λ compacted next_array. compaction_sound s sound j entries m.plan first is compacted next_array;
+        small = λ compacted next_array. compaction_small s rules j entries m.plan first is compacted next_array;
+        paid = λ paid some target compacted next_array. compaction_paid s rules j entries m.plan first is some paid target compacted next_array;
       }

@@ -53,7 +53,7 @@ task_stays f g task inputs job agree is =
       over = record { zero_is = is.over.zero_is; arrays_are = is.over.arrays_are; few = omega (arith, size, few) };
       tree = is.tree;
       horizon = is.horizon;
-      purges = is.purges;
+      treatment = is.treatment;
     }
 
 -- what is made of runs is made of the same runs in an earlier image
@@ -93,10 +93,10 @@ pub record IsSlicing (task : Task) (inputs : Inputs) (limit count : ℕ) (start 
   pub calm : failed ≡ faults
   pub goes : (f g : Image) (job : Job) → Exposes start f → Exposes now g → IsTaskIn f task inputs job → AreUsed s (blocks_listed job.arrays) → IsUnderway f job task.first old
       → IsUnderway g job task.first new × IsHeld f job limit (stage_consumed new) × (count ≤ how_far new)
-  pub readable : (f g : Image) → Exposes start f → Exposes now g → AreUsed s (blocks_listed (arrays_to inputs.levels task.target)) → IsReadOf f (arrays_to inputs.levels task.target) old
-      → IsReadOf g (arrays_to inputs.levels task.target) new
-  pub due : read + blocks_due (arrays_to inputs.levels task.target) new ≤ reads + blocks_due (arrays_to inputs.levels task.target) old
-  pub among : IsReadFrom (arrays_to inputs.levels task.target) old → IsReadFrom (arrays_to inputs.levels task.target) new
+  pub readable : (f g : Image) → Exposes start f → Exposes now g → AreUsed s (blocks_listed (arrays_to inputs.levels task.reach)) → IsReadOf f (arrays_to inputs.levels task.reach) old
+      → IsReadOf g (arrays_to inputs.levels task.reach) new
+  pub due : read + blocks_due (arrays_to inputs.levels task.reach) new ≤ reads + blocks_due (arrays_to inputs.levels task.reach) old
+  pub among : IsReadFrom (arrays_to inputs.levels task.reach) old → IsReadFrom (arrays_to inputs.levels task.reach) new
 
 module _ (task : Task) (inputs : Inputs) (limit count : ℕ) (start mid now : DiskView) (s t u : SpaceView) (old stage new : Stage) (faults failed after reads read last : ℕ)
     (slicing : IsSlicing task inputs limit count start mid s t old stage faults failed reads read)
@@ -166,20 +166,20 @@ module _ (task : Task) (inputs : Inputs) (limit count : ℕ) (start mid now : Di
       (went.0, omega (arith, lt, same), went.1)
 
   -- what was read of some arrays is so after one more step
-  pub slice_reads : ((f g : Image) → Exposes mid f → Exposes now g → AreUsed t (blocks_listed (arrays_to inputs.levels task.target)) → IsReadOf f (arrays_to inputs.levels task.target) stage
-      → IsReadOf g (arrays_to inputs.levels task.target) new)
-      → (f g : Image) → Exposes start f → Exposes now g → AreUsed s (blocks_listed (arrays_to inputs.levels task.target)) → IsReadOf f (arrays_to inputs.levels task.target) old
-      → IsReadOf g (arrays_to inputs.levels task.target) new
+  pub slice_reads : ((f g : Image) → Exposes mid f → Exposes now g → AreUsed t (blocks_listed (arrays_to inputs.levels task.reach)) → IsReadOf f (arrays_to inputs.levels task.reach) stage
+      → IsReadOf g (arrays_to inputs.levels task.reach) new)
+      → (f g : Image) → Exposes start f → Exposes now g → AreUsed s (blocks_listed (arrays_to inputs.levels task.reach)) → IsReadOf f (arrays_to inputs.levels task.reach) old
+      → IsReadOf g (arrays_to inputs.levels task.reach) new
   slice_reads stays f g told tells blocks reads =
       let between = still_told start mid f slicing.torn.time told in
-      stays between.0 g between.1 tells (still_used (blocks_listed (arrays_to inputs.levels task.target)) blocks) (slicing.readable f between.0 told between.1 blocks reads)
+      stays between.0 g between.1 tells (still_used (blocks_listed (arrays_to inputs.levels task.reach)) blocks) (slicing.readable f between.0 told between.1 blocks reads)
 
   -- a block that is bad after some steps was bad before
-  pub slice_blames : (b : ℕ) → ((f : Image) → Exposes mid f → IsReadOf f (arrays_to inputs.levels task.target) stage → IsBadInput f (arrays_to inputs.levels task.target) b)
-      → (f : Image) → Exposes start f → AreUsed s (blocks_listed (arrays_to inputs.levels task.target)) → IsReadOf f (arrays_to inputs.levels task.target) old
-      → IsBadInput f (arrays_to inputs.levels task.target) b
+  pub slice_blames : (b : ℕ) → ((f : Image) → Exposes mid f → IsReadOf f (arrays_to inputs.levels task.reach) stage → IsBadInput f (arrays_to inputs.levels task.reach) b)
+      → (f : Image) → Exposes start f → AreUsed s (blocks_listed (arrays_to inputs.levels task.reach)) → IsReadOf f (arrays_to inputs.levels task.reach) old
+      → IsBadInput f (arrays_to inputs.levels task.reach) b
   slice_blames b blames f told used read =
-      let arrays : List ArrayDesc = arrays_to inputs.levels task.target in
+      let arrays : List ArrayDesc = arrays_to inputs.levels task.reach in
       let between = still_told start mid f slicing.torn.time told in
       let agree = inputs_agree s (blocks_listed arrays) start mid f between.0 used slicing.torn told between.1 in
       bad_input_same between.0 f arrays b (agree_back (blocks_listed arrays) f between.0 agree) (blames between.0 between.1 (slicing.readable f between.0 told between.1 used read))
@@ -203,10 +203,10 @@ module _ (task : Task) (inputs : Inputs) (limit count : ℕ) (start mid now : Di
       → (stage_consumed new < 2 ^ 64 - 1 → (stage_consumed new < limit) ⊎ IsTakenUp new)
       → ((f g : Image) (job : Job) → Exposes mid f → Exposes now g → IsTaskIn f task inputs job → AreUsed t (blocks_listed job.arrays) → IsUnderway f job task.first stage
       → StepsOn f g task job (stage_consumed stage) new step.More × GoesFurther stage new step.More)
-      → ((f g : Image) → Exposes mid f → Exposes now g → AreUsed t (blocks_listed (arrays_to inputs.levels task.target)) → IsReadOf f (arrays_to inputs.levels task.target) stage
-      → IsReadOf g (arrays_to inputs.levels task.target) new)
-      → last + blocks_due (arrays_to inputs.levels task.target) new ≤ read + blocks_due (arrays_to inputs.levels task.target) stage
-      → (IsReadFrom (arrays_to inputs.levels task.target) stage → IsReadFrom (arrays_to inputs.levels task.target) new)
+      → ((f g : Image) → Exposes mid f → Exposes now g → AreUsed t (blocks_listed (arrays_to inputs.levels task.reach)) → IsReadOf f (arrays_to inputs.levels task.reach) stage
+      → IsReadOf g (arrays_to inputs.levels task.reach) new)
+      → last + blocks_due (arrays_to inputs.levels task.reach) new ≤ read + blocks_due (arrays_to inputs.levels task.reach) stage
+      → (IsReadFrom (arrays_to inputs.levels task.reach) stage → IsReadFrom (arrays_to inputs.levels task.reach) new)
       → IsSlicing task inputs limit (count + 1) start now s u old new faults after reads last
   slicing_next steady used calm ahead does stays due among =
       let before = slicing.due in

@@ -1,5 +1,5 @@
 -- How a pass is begun.
-use Rattle.std.proofs.Common.{◌≡◌, ◌+◌, ℕ, Bool, true, false, List, [], ◌∷◌, length, map, Some, cond, refl, sym, ap, ◌∙◌, subst, arith}
+use Rattle.std.proofs.Common.{◌≡◌, ◌+◌, ℕ, List, [], ◌∷◌, length, map, Some, refl, sym, ap, ◌∙◌, subst, arith}
 use Rattle.std.specs.List.{list_all, slice_get, Contains}
 use Rattle.std.specs.Ordering.{is_lt}
 use Rattle.strat_array.specs.Progress.{ArrayProgress}
@@ -13,22 +13,25 @@ use Rattle.strat_live.specs.Tallies.{Tallies}
 use Rattle.strat_merge.specs.Runs.{RunView, lefts, blocks_left, IsBadFor}
 use Rattle.def_split.specs.Groups.{grouped_entries, group_versions}
 use Rattle.def_split.specs.Plan.{Plan}
-use Rattle.def_promote.specs.Purge.{purged}
 use Rattle.strat_promote.specs.Counted.{AreReadOf, AreRunsOf}
 use Rattle.strat_promote.specs.Filled.{AreReadyFor}
 use Rattle.strat_promote.specs.Job.{Job, runs_in, input_count, blocks_listed, groups_kept, part_content, IsBadInput}
 use Rattle.strat_promote.specs.Leads.{leads_in}
 use Rattle.strat_promote.specs.Passes.{IsJobOver}
 use Rattle.strat_promote.specs.Planning.{AreNew}
+use Rattle.strat_promote.specs.Treated.{groups_treated}
 use Rattle.strat_promote.specs.Turning.{AreAllNew}
+use Rattle.strat_promote.specs.declared.treatment.Treatment.{Treatment}
+use Rattle.strat_promote.specs.declared.treatment.Treatment.TheVariants as treatment
 
 -- what is kept of no groups is none
 pub nothing_kept : (job : Job) → groups_kept job [] ≡ []
-nothing_kept job = go job.purges
+nothing_kept job = go job.treatment
   where
-    go : (purges : Bool) → cond purges (map (purged job.parents) []) [] ≡ []
-    go true = refl
-    go false = refl
+    go : (t : Treatment) → groups_treated job.parents job.marks t [] ≡ []
+    go treatment.Keep = refl
+    go treatment.Purge = refl
+    go treatment.Thin = refl
 
 -- the runs that were opened are read of their arrays
 pub read_begun : {R : Type 0} (view : R → RunView) (f : Image) (arrays : List ArrayDesc) (runs opened : List R) → runs ≡ opened

@@ -7,11 +7,14 @@ use Rattle.strat_arena.specs.declared.items.Item.{Item}
 use Rattle.strat_base.specs.Entries.{Entry, is_of}
 use Rattle.strat_base.specs.EntryBytes.{fits_fields}
 use Rattle.strat_live.specs.Group.{is_descending}
+use Rattle.strat_base.specs.Marks.{Marks}
 use Rattle.strat_base.specs.Tree.{Parents}
 use Rattle.strat_live.specs.Counting.{are_below}
 use Rattle.strat_merge.specs.Gathered.{IsGroup, TakesNext, are_under}
 use Rattle.strat_merge.specs.Runs.{RunView}
-use Rattle.strat_promote.specs.Taken.{IsTakenGroup, group_kept, TakesKept}
+use Rattle.strat_promote.specs.Taken.{IsTakenGroup, TakesKept}
+use Rattle.strat_promote.specs.Treated.{group_kept}
+use Rattle.strat_promote.specs.declared.treatment.Treatment.{Treatment}
 
 -- a test of all entries is one of all items
 pub items_pass : (p : Entry → Bool) (pairs : List KeyValue) (items : List Item) → list_all p (entries_of pairs items) ≡ list_all (λ item. p (entry_of_item pairs item)) items
@@ -41,8 +44,8 @@ pub entries_below : (n : ℕ) (pairs : List KeyValue) (items : List Item) → ar
 entries_below n pairs items low = items_pass (λ (e : Entry). ltb e.version n) pairs items ∙ low
 
 -- what was taken of runs, and what is kept of it
-pub taken_kept : (parents : Parents) (purges : Bool) (n : ℕ) (lefts next : List (List Entry)) (old new : List RunView) (pairs : List KeyValue) (items kept : List Item) (key : List ℕ)
-    → IsGroup old new pairs items key → are_under n old ≡ true → TakesNext lefts next (entries_of pairs items) → entries_of pairs kept ≡ group_kept parents purges (entries_of pairs items)
-    → TakesKept parents purges n lefts next (entries_of pairs kept)
-taken_kept parents purges n lefts next old new pairs items kept key group under takes keeps =
+pub taken_kept : (parents : Parents) (marks : Marks) (t : Treatment) (n : ℕ) (lefts next : List (List Entry)) (old new : List RunView) (pairs : List KeyValue) (items kept : List Item) (key : List ℕ)
+    → IsGroup old new pairs items key → are_under n old ≡ true → TakesNext lefts next (entries_of pairs items) → entries_of pairs kept ≡ group_kept parents marks t (entries_of pairs items)
+    → TakesKept parents marks t n lefts next (entries_of pairs kept)
+taken_kept parents marks t n lefts next old new pairs items kept key group under takes keeps =
     record { group = entries_of pairs items; taken = takes; low = entries_below n pairs items (group.low n under); kept = keeps }

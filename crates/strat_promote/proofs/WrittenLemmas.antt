@@ -1,5 +1,5 @@
 -- One more group of the second pass.
-use Rattle.std.proofs.Common.{◌≡◌, ◌<◌, ◌≤◌, ◌+◌, ◌^◌, ℕ, zero, suc, Bool, true, false, ltb, cond, inl, inr, List, [], ◌∷◌, ◌++◌, length, map, filter, Some, None, refl, sym, ap, ◌∙◌, subst, arith}
+use Rattle.std.proofs.Common.{◌≡◌, ◌<◌, ◌≤◌, ◌+◌, ◌^◌, ℕ, zero, suc, Bool, true, ltb, cond, inl, inr, List, [], ◌∷◌, ◌++◌, length, map, filter, Some, None, refl, sym, ap, ◌∙◌, subst, arith}
 use Rattle.std.specs.List.{list_all, slice_get, count_by, Contains}
 use Rattle.std.proofs.lemmas.Bool.{ltb-true}
 use Rattle.std.proofs.lemmas.Grind.{flat_map-append}
@@ -10,7 +10,8 @@ use Rattle.strat_arena.specs.ArenaView.{KeyValue}
 use Rattle.strat_arena.specs.Items.{entry_of_item, entries_of}
 use Rattle.strat_arena.specs.declared.items.Item.{Item}
 use Rattle.strat_base.specs.Entries.{Entry, is_of, lead_entries}
-use Rattle.strat_base.specs.Tree.{Parents, IsTree}
+use Rattle.strat_base.specs.Marks.{Marks}
+use Rattle.strat_base.specs.Tree.{Parents}
 use Rattle.strat_base.specs.declared.descriptors.ArrayDesc.{ArrayDesc}
 use Rattle.strat_base.proofs.ListFacts.{Among, all_at, among_right, get_among}
 use Rattle.def_crash.specs.Blocks.{AgreeOn}
@@ -31,6 +32,7 @@ use Rattle.def_split.specs.Plan as defined
 use Rattle.def_split.specs.Planned.{is_taken}
 use Rattle.def_promote.specs.Merging.{MergesTo, Merges}
 use Rattle.def_promote.specs.Purge.{purged}
+use Rattle.def_promote.specs.Thin.{thinned}
 use Rattle.def_promote.proofs.UniqueLemmas.{one_merge, merge_goes_on}
 use Rattle.strat_split.specs.Dealing.{items_taken, IsSplitFor}
 use Rattle.strat_split.specs.PlanSeen.{plan_seen}
@@ -41,7 +43,10 @@ use Rattle.strat_promote.specs.Counted.{AreReadOf, AreRunsOf}
 use Rattle.strat_promote.specs.Filled.{DealsOut, SameFilling}
 use Rattle.strat_promote.specs.Job.{Job, runs_in, input_count, blocks_listed, IsBadInput, IsJobIn, groups_kept, part_content}
 use Rattle.strat_promote.specs.Leads.{leads_in}
-use Rattle.strat_promote.specs.Taken.{group_kept, TakesKept}
+use Rattle.strat_promote.specs.Taken.{TakesKept}
+use Rattle.strat_promote.specs.Treated.{group_kept, groups_treated}
+use Rattle.strat_promote.specs.declared.treatment.Treatment.{Treatment}
+use Rattle.strat_promote.specs.declared.treatment.Treatment.TheVariants as treatment
 use Rattle.strat_promote.specs.Written.{IsWriting, IsAllWritten}
 use Rattle.strat_promote.specs.declared.second_pass.Writing.{Writing}
 use Rattle.strat_promote.proofs.LeadLemmas.{entries_same, misfit_same}
@@ -117,13 +122,14 @@ module _ (f g : Image) where
 
 -- The group that was taken is the next of all.
 
-kept_behind : (job : Job) (groups rest : List (List Entry)) (group : List Entry) → groups_kept job (groups ++ group ∷ rest) ≡ groups_kept job groups ++ group_kept job.parents job.purges group ∷ groups_kept job rest
-kept_behind job groups rest group = go job.purges
+kept_behind : (job : Job) (groups rest : List (List Entry)) (group : List Entry) → groups_kept job (groups ++ group ∷ rest) ≡ groups_kept job groups ++ group_kept job.parents job.marks job.treatment group ∷ groups_kept job rest
+kept_behind job groups rest group = go job.treatment
   where
-    go : (purges : Bool) → cond purges (map (purged job.parents) (groups ++ group ∷ rest)) (groups ++ group ∷ rest)
-        ≡ cond purges (map (purged job.parents) groups) groups ++ group_kept job.parents purges group ∷ cond purges (map (purged job.parents) rest) rest
-    go true = map-append (purged job.parents) groups (group ∷ rest)
-    go false = refl
+    go : (t : Treatment) → groups_treated job.parents job.marks t (groups ++ group ∷ rest)
+        ≡ groups_treated job.parents job.marks t groups ++ group_kept job.parents job.marks t group ∷ groups_treated job.parents job.marks t rest
+    go treatment.Keep = refl
+    go treatment.Purge = map-append (purged job.parents) groups (group ∷ rest)
+    go treatment.Thin = map-append (thinned job.parents job.marks) groups (group ∷ rest)
 
 some_counted : {X : Type 0} (p : X → Bool) (xs : List X) (x : X) → Among x xs → p x ≡ true → 0 < count_by p xs
 some_counted p [] x among is = elim among [ ]
@@ -132,21 +138,21 @@ some_counted {X} p (y ∷ xs) x (inl same) is =
     omega (arith, sum_by-cons (λ (z : X). cond (p z) 1 0) y xs, one)
 some_counted {X} p (y ∷ xs) x (inr among) is = omega (arith, sum_by-cons (λ (z : X). cond (p z) 1 0) y xs, some_counted p xs x among is)
 
-module _ (job : Job) (tree : Parents) (pairs : List KeyValue) (items : List Item) (old new : List (List Entry)) (rooted : IsTree job.parents) (same : SameParents job.horizon job.parents tree)
-    (taken : TakesKept tree job.purges job.horizon old new (entries_of pairs items)) where
-  pub kept_is : entries_of pairs items ≡ group_kept job.parents job.purges taken.group
+module _ (job : Job) (tree : Parents) (marks : Marks) (pairs : List KeyValue) (items : List Item) (old new : List (List Entry)) (within : IsJobIn tree marks job)
+    (taken : TakesKept tree marks job.treatment job.horizon old new (entries_of pairs items)) where
+  pub kept_is : entries_of pairs items ≡ group_kept job.parents job.marks job.treatment taken.group
   kept_is =
       taken.kept
-      ∙ sym (kept_same job.purges job.horizon job.parents tree rooted same taken.group
+      ∙ sym (kept_same job.treatment job.horizon job.parents tree job.marks marks within.rooted within.same within.marked taken.group
       (λ e among. ltb-true e.version job.horizon (all_at (λ (d : Entry). ltb d.version job.horizon) e taken.group taken.low among)))
 
   among_versions : (groups rest : List (List Entry)) → Among (item_versions items) (group_versions (groups_kept job (groups ++ taken.group ∷ rest)))
   among_versions groups rest =
-      let versions : map (λ (e : Entry). e.version) (group_kept job.parents job.purges taken.group) ≡ item_versions items =
+      let versions : map (λ (e : Entry). e.version) (group_kept job.parents job.marks job.treatment taken.group) ≡ item_versions items =
       ap (λ (es : List Entry). map (λ (e : Entry). e.version) es) (sym kept_is) ∙ versions_of_items pairs items in
       let all : group_versions (groups_kept job (groups ++ taken.group ∷ rest)) ≡ group_versions (groups_kept job groups) ++ item_versions items ∷ group_versions (groups_kept job rest) =
       ap group_versions (kept_behind job groups rest taken.group)
-      ∙ map-append (λ (g : List Entry). map (λ (e : Entry). e.version) g) (groups_kept job groups) (group_kept job.parents job.purges taken.group ∷ groups_kept job rest)
+      ∙ map-append (λ (g : List Entry). map (λ (e : Entry). e.version) g) (groups_kept job groups) (group_kept job.parents job.marks job.treatment taken.group ∷ groups_kept job rest)
       ∙ ap (λ (vs : List ℕ). group_versions (groups_kept job groups) ++ vs ∷ group_versions (groups_kept job rest)) versions in
       subst (λ (gs : List (List ℕ)). Among (item_versions items) gs) (sym all)
       (among_right (group_versions (groups_kept job groups)) (item_versions items ∷ group_versions (groups_kept job rest)) (item_versions items) (inl refl))
@@ -161,8 +167,8 @@ module _ (job : Job) (tree : Parents) (pairs : List KeyValue) (items : List Item
       record {
         own = own_at (group_versions (groups_kept job all));
         live = keys_at job.parents (group_versions (groups_kept job all));
-        rooted = rooted;
-        same = subst (λ (n : ℕ). SameParents n job.parents tree) horizon same;
+        rooted = within.rooted;
+        same = subst (λ (n : ℕ). SameParents n job.parents tree) horizon within.same;
         split = split;
         seen = λ v lt sees.
             some_counted (sees_one job.parents v) (group_versions (groups_kept job all)) (item_versions items)
@@ -176,11 +182,11 @@ module _ (job : Job) (tree : Parents) (pairs : List KeyValue) (items : List Item
   content_more plan groups key q keyed =
       let takes : List Entry → List Entry = λ group. filter (is_taken job.parents (plan_seen plan) group q) group in
       let before : List Entry = part_content job.parents (plan_seen plan) (groups_kept job groups) q in
-      let mine : entries_of pairs (items_taken job.parents plan items q) ≡ takes (group_kept job.parents job.purges taken.group) =
+      let mine : entries_of pairs (items_taken job.parents plan items q) ≡ takes (group_kept job.parents job.marks job.treatment taken.group) =
       sym (group_taken job.parents items key (entry_of_item pairs) (sym (items_pass (is_of key) pairs items) ∙ keyed) (λ item. refl) (plan_seen plan) q) ∙ ap takes kept_is in
       sym (ap (λ (gs : List (List Entry)). part_content job.parents (plan_seen plan) gs q) (kept_more job groups taken.group)
-      ∙ flat_map-append takes (groups_kept job groups) (group_kept job.parents job.purges taken.group ∷ [])
-      ∙ ap (λ (es : List Entry). before ++ es) (append-nil (takes (group_kept job.parents job.purges taken.group)))
+      ∙ flat_map-append takes (groups_kept job groups) (group_kept job.parents job.marks job.treatment taken.group ∷ [])
+      ∙ ap (λ (es : List Entry). before ++ es) (append-nil (takes (group_kept job.parents job.marks job.treatment taken.group)))
       ∙ ap (λ (es : List Entry). before ++ es) (sym mine))
 
 -- elements of lists of one length
@@ -196,21 +202,21 @@ get_there (y ∷ xs) (suc i) lt = get_there xs i (omega arith)
 
 -- one more group was written
 module _ {R : Type 0} (view : R → RunView) (law : (r : R) → IsEntryRun (view r)) where
-  pub written_more : (f g : Image) (job : Job) (first : ℕ) (tree : Parents) (pairs : List KeyValue) (items : List Item) (key : List ℕ) (disk now : DiskView) (w x : Writing R)
-      → IsWriting view f job first w → IsJobIn tree job → job.horizon ≡ length w.filling.plan.part_of → AgreeOn (blocks_listed job.arrays) f g
-      → TakesKept tree job.purges job.horizon (lefts f (views_of view w.merger)) (lefts f (views_of view x.merger)) (entries_of pairs items)
+  pub written_more : (f g : Image) (job : Job) (first : ℕ) (tree : Parents) (marks : Marks) (pairs : List KeyValue) (items : List Item) (key : List ℕ) (disk now : DiskView) (w x : Writing R)
+      → IsWriting view f job first w → IsJobIn tree marks job → job.horizon ≡ length w.filling.plan.part_of → AgreeOn (blocks_listed job.arrays) f g
+      → TakesKept tree marks job.treatment job.horizon (lefts f (views_of view w.merger)) (lefts f (views_of view x.merger)) (entries_of pairs items)
       → CountsTaken (lefts f (views_of view w.merger)) (lefts f (views_of view x.merger)) (consumed_of w.merger) (consumed_of x.merger)
       → ((b : ℕ) → Contains (blocks_left (views_of view x.merger)) b → Contains (blocks_left (views_of view w.merger)) b)
       → ((b : ℕ) → IsBadFor (views_of view x.merger) f b → IsBadFor (views_of view w.merger) f b)
       → list_all (is_of key) (entries_of pairs items) ≡ true → SameFilling w.filling x.filling
       → ((parents : Parents) → IsSplitFor tree parents w.filling.plan items → DealsOut disk now parents w.filling.plan pairs items w.filling.writers.items x.filling.writers.items)
       → Exposes disk f → Exposes now g → IsWriting view g job first x
-  written_more f g job first tree pairs items key disk now w x writing within horizon agree taken counts fewer blames keyed same deals told tells =
+  written_more f g job first tree marks pairs items key disk now w x writing within horizon agree taken counts fewer blames keyed same deals told tells =
       let group : List Entry = taken.group in
       let on : AreRunsOf f job (writing.groups ++ group ∷ []) (views_of view x.merger) (consumed_of x.merger) =
       runs_more f job writing.groups (views_of view w.merger) (views_of view x.merger) (consumed_of w.merger) (consumed_of x.merger) group writing.runs taken.taken counts fewer blames in
       let split : IsSplitFor tree job.parents w.filling.plan items =
-      split_for job tree pairs items (lefts f (views_of view w.merger)) (lefts f (views_of view x.merger)) within.rooted within.same taken
+      split_for job tree marks pairs items (lefts f (views_of view w.merger)) (lefts f (views_of view x.merger)) within taken
       (runs_in f job) writing.all writing.groups w.filling.plan horizon writing.merged writing.runs.merged writing.planned.split in
       let dealt = deals job.parents split in
       let one : (q : ℕ) (y : ArrayProgress) → slice_get x.filling.writers.items q ≡ Some y
@@ -223,7 +229,7 @@ module _ {R : Type 0} (view : R → RunView) (law : (r : R) → IsEntryRun (view
       subst (λ (z : ArrayProgress). (z.id ≡ first + q) × IsPushed g z (part_content job.parents (plan_seen w.filling.plan) (groups_kept job (writing.groups ++ group ∷ [])) q)) is (
         got.2 ∙ had.0,
         subst (λ (es : List Entry). IsPushed g got.0 es)
-            (content_more job tree pairs items (lefts f (views_of view w.merger)) (lefts f (views_of view x.merger)) within.rooted within.same taken w.filling.plan writing.groups key q keyed)
+            (content_more job tree marks pairs items (lefts f (views_of view w.merger)) (lefts f (views_of view x.merger)) within taken w.filling.plan writing.groups key q keyed)
             (got.3 f g (part_content job.parents (plan_seen w.filling.plan) (groups_kept job writing.groups) q) told tells had.1),
       ) in
       record {

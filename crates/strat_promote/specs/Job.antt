@@ -1,7 +1,8 @@
--- What a promotion merges: level 0 and the arrays of the levels down to its target.
-use Rattle.std.specs.Prelude.{◌≡◌, ◌<◌, ℕ, Bool, true, if◌then◌else◌, List, [], ◌∷◌, length, map, filter, flat_map, take, Option, Some, Contains}
+-- What a promotion merges: level 0 and the arrays of the levels down to its target, or of all levels.
+use Rattle.std.specs.Prelude.{◌≡◌, ◌<◌, ℕ, true, List, [], ◌∷◌, length, map, filter, flat_map, take, Option, Some, Contains}
 use Rattle.std.specs.Option.{option_map_or}
 use Rattle.strat_base.specs.Tree.{Parents, IsTree}
+use Rattle.strat_base.specs.Marks.{Marks, is_dropped}
 use Rattle.strat_array.specs.Within.{AreWithin}
 use Rattle.strat_base.specs.Entries.{Entry, is_tagged}
 use Rattle.strat_base.specs.declared.descriptors.ArrayDesc.{ArrayDesc}
@@ -12,15 +13,18 @@ use Rattle.strat_live.specs.Counting.{SameParents}
 use Rattle.def_split.specs.Groups.{grouped_entries}
 use Rattle.def_split.specs.Plan.{Plan}
 use Rattle.def_split.specs.Planned.{is_taken}
-use Rattle.def_promote.specs.Purge.{purged}
+use Rattle.strat_promote.specs.Treated.{groups_treated}
+use Rattle.strat_promote.specs.declared.treatment.Treatment.{Treatment}
+use Rattle.strat_promote.specs.declared.treatment.Treatment.TheVariants as treatment
 use Rattle.strat_promote.specs.Leads.{leads_in, misfit_in}
 
--- the parents of versions, how many of these take part, whether marks that say nothing are dropped, the entries of
--- level 0, and the arrays, the shallowest level first
+-- the parents of versions and which were dropped, how many versions take part, what becomes of the entries of a key, the
+-- entries of level 0, and the arrays, the shallowest level first
 pub record Job : Type 0 where
   pub parents : Parents
+  pub marks : Marks
   pub horizon : ℕ
-  pub purges : Bool
+  pub treatment : Treatment
   pub zero : List Entry
   pub arrays : List ArrayDesc
 
@@ -52,14 +56,16 @@ pub record AreReadable (n : ℕ) (arrays : List ArrayDesc) : Type 0 where
   pub within : (a : ArrayDesc) → Contains arrays a → AreWithin a.extents
   pub low : (a : ArrayDesc) (v : ℕ) → Contains arrays a → is_tagged a.versions v ≡ true → v < n
 
--- a tree gives the versions of a job their parents
-pub record IsJobIn (tree : Parents) (job : Job) : Type 0 where
+-- a tree gives the versions of a job their parents; where entries are thinned, also the marks of which were dropped
+pub record IsJobIn (tree : Parents) (marks : Marks) (job : Job) : Type 0 where
   pub rooted : IsTree job.parents
   pub same : SameParents job.horizon job.parents tree
+  pub marked : job.treatment ≡ treatment.Thin → (v : ℕ) → v < job.horizon
+      → is_dropped job.marks v ≡ is_dropped marks v
 
 -- what is written of groups
 abbrev pub groups_kept : Job → List (List Entry) → List (List Entry)
-groups_kept job groups = if job.purges then map (purged job.parents) groups else groups
+groups_kept job groups = groups_treated job.parents job.marks job.treatment groups
 
 -- what the array of a part takes of groups, one after another
 abbrev pub part_content : Parents → Plan → List (List Entry) → ℕ → List Entry

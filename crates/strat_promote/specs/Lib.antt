@@ -1,3 +1,4 @@
+pub mod Treated
 pub mod Job
 pub mod Obstacles
 pub mod LastFields

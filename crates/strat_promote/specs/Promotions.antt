@@ -1,8 +1,9 @@
 -- A promotion as its caller sees it.
-use Rattle.std.specs.Prelude.{◌≡◌, ◌<◌, ◌≤◌, ◌+◌, ◌*◌, ℕ, Bool, true, false, not, is_some, List, ◌∷◌, length, map, drop, Option, None, Some, Result, OnOk}
-use Rattle.std.specs.List.{list_all, range_with_len, sum_by}
+use Rattle.std.specs.Prelude.{◌≡◌, ◌<◌, ◌≤◌, ◌+◌, ◌*◌, ◌^◌, ℕ, Bool, true, false, not, is_some, List, ◌∷◌, length, map, drop, Option, None, Some, Result, OnOk}
+use Rattle.std.specs.List.{list_all, range_with_len, sum, sum_by}
 use Rattle.strat_arena.specs.declared.pool.PoolEntry.{PoolEntry}
 use Rattle.strat_array.specs.Progress.{ArrayProgress}
+use Rattle.strat_base.specs.Marks.{Marks}
 use Rattle.strat_base.specs.Tree.{Parents}
 use Rattle.strat_base.specs.declared.descriptors.ArrayDesc.{ArrayDesc}
 use Rattle.strat_base.specs.declared.descriptors.Extent.{Extent}
@@ -19,10 +20,12 @@ use Rattle.strat_promote.specs.Opening.{arrays_if_any}
 use Rattle.strat_promote.specs.Owned.{OwnsItsBlocks}
 use Rattle.strat_promote.specs.Stages.{IsSteady, IsUnderway, IsMade, IsReadFrom, IsReadOf, stage_writers, stage_consumed, blocks_due}
 use Rattle.strat_promote.specs.Steps.{Inputs, IsReadySource, IsTaskIn}
+use Rattle.strat_promote.specs.Treated.{treatment_over}
 use Rattle.strat_promote.specs.declared.promotion.Progress.{Progress}
 use Rattle.strat_promote.specs.declared.promotion.Progress.TheVariants as progress
 use Rattle.strat_promote.specs.declared.promotion.Promotion.{Promotion}
 use Rattle.strat_promote.specs.declared.stage.Stage.TheVariants as stage
+use Rattle.strat_promote.specs.declared.treatment.Treatment.TheVariants as treatment
 
 -- how many leads level 0 has, and then levels 1 to 22
 abbrev pub leads_listed : ItemList → List (Option LevelDesc) → List ℕ
@@ -39,9 +42,27 @@ pub record IsBegun (zero : ItemList) (levels : List (Option LevelDesc)) (mem ver
     (p : Promotion) : Type 0 where
   pub target : IsTarget (leads_listed zero levels) mem p.task.target
   pub fits : p.task.target ≤ 22
+  -- it reads the levels down to that
+  pub reach : p.task.reach ≡ p.task.target
   pub horizon : p.task.horizon ≡ versions
   pub first : p.task.first ≡ id
-  pub purges : p.task.purges ≡ is_deepest levels p.task.target
+  pub purges : p.task.treatment ≡ treatment_over (is_deepest levels p.task.target)
+  pub stage : p.stage ≡ stage.Begun
+  pub more : p.is_done ≡ false
+
+-- a promotion of all levels into one of them was begun: that one has room for all leads, and nothing was read
+pub record IsBegunForAll (zero : ItemList) (levels : List (Option LevelDesc))
+    (mem versions id level : ℕ) (p : Promotion) : Type 0 where
+  pub target : p.task.target ≡ level
+  pub least : 1 ≤ p.task.target
+  pub fits : p.task.target ≤ 22
+  pub room : sum (leads_listed zero levels) ≤ mem * 2 ^ p.task.target
+  pub few : sum (leads_listed zero levels) ≤ 2 ^ 24
+  -- it reads all levels
+  pub reach : p.task.reach ≡ 22
+  pub horizon : p.task.horizon ≡ versions
+  pub first : p.task.first ≡ id
+  pub thins : p.task.treatment ≡ treatment.Thin
   pub stage : p.stage ≡ stage.Begun
   pub more : p.is_done ≡ false
 
@@ -62,10 +83,11 @@ entries_taken p = stage_consumed p.stage
 abbrev pub writers_of : Promotion → List ArrayProgress
 writers_of p = stage_writers p.stage
 
--- what is given to it: level 0 and its pool, the levels, and the parents of versions
-abbrev pub inputs_given : ItemList → List PoolEntry → List (Option LevelDesc) → Parents → Inputs
-inputs_given zero pool levels parents =
-    record { zero = zero; pool = pool; levels = levels; parents = parents }
+-- what is given to it: level 0 and its pool, the levels, the parents of versions, and which were dropped
+abbrev pub inputs_given : ItemList → List PoolEntry → List (Option LevelDesc) → Parents → Marks
+    → Inputs
+inputs_given zero pool levels parents marks =
+    record { zero = zero; pool = pool; levels = levels; parents = parents; marks = marks }
 
 -- these are there, and reach no further than its horizon
 abbrev pub IsFed : Promotion → Inputs → Type 0
@@ -112,6 +134,10 @@ has_ended p = p.is_done
 -- the level that it fills
 abbrev pub target_of : Promotion → ℕ
 target_of p = p.task.target
+
+-- the deepest level that it reads: the one that it fills, or the last of all
+abbrev pub reach_of : Promotion → ℕ
+reach_of p = p.task.reach
 
 -- the level that it made, once it is done
 abbrev pub level_of : Promotion → Option LevelDesc

@@ -3,6 +3,7 @@ use Rattle.std.specs.Prelude.{◌≡◌, ◌<◌, ◌≤◌, ℕ, ◌*◌, ◌^�
 use Rattle.std.specs.List.{list_all}
 use Rattle.def_crash.specs.Image.{Image}
 use Rattle.strat_arena.specs.declared.pool.PoolEntry.{PoolEntry}
+use Rattle.strat_base.specs.Marks.{Marks}
 use Rattle.strat_base.specs.Tree.{Parents}
 use Rattle.strat_base.specs.declared.descriptors.LevelDesc.{LevelDesc}
 use Rattle.strat_level.specs.Memtable.{ItemList, entries_held, ListStands}
@@ -16,12 +17,13 @@ use Rattle.strat_promote.specs.declared.step.Sources.{Sources}
 use Rattle.strat_promote.specs.declared.step.Step.{Step}
 use Rattle.strat_promote.specs.declared.step.Step.TheVariants as step
 
--- what a task reads: level 0 and its pool, the levels, and the parents of versions
+-- what a task reads: level 0 and its pool, the levels, the parents of versions, and which were dropped
 pub record Inputs : Type 0 where
   pub zero : ItemList
   pub pool : List PoolEntry
   pub levels : List (Option LevelDesc)
   pub parents : Parents
+  pub marks : Marks
 
 -- the same of what is lent
 abbrev pub inputs_of : Sources → Inputs
@@ -30,6 +32,7 @@ inputs_of sources = record {
   pool = sources.pool.now;
   levels = sources.levels.now;
   parents = sources.tree.now.parents;
+  marks = sources.tree.now.marks;
 }
 
 -- it is there: level 0 stands in its pool, and the versions of all entries are below the horizon
@@ -37,8 +40,8 @@ pub record IsReadySource (task : Task) (inputs : Inputs) : Type 0 where
   pub zero : ListStands inputs.pool inputs.zero
   pub low : IsTrue (list_all (λ e. nat_lt e.version task.horizon)
       (entries_held inputs.pool inputs.zero))
-  pub arrays : AreReadable task.horizon (arrays_to inputs.levels task.target)
-  pub target : task.target ≤ 22
+  pub arrays : AreReadable task.horizon (arrays_to inputs.levels task.reach)
+  pub reach : task.reach ≤ 22
   pub some : 1 ≤ task.horizon
   pub known : task.horizon ≤ length inputs.parents
   pub first : task.first ≤ 2 ^ 63
@@ -46,10 +49,10 @@ pub record IsReadySource (task : Task) (inputs : Inputs) : Type 0 where
 -- a job is that of a task
 pub record IsTaskIn (f : Image) (task : Task) (inputs : Inputs) (job : Job) : Type 0 where
   pub over : IsJobOver f (entries_held inputs.pool inputs.zero)
-      (arrays_to inputs.levels task.target) job
-  pub tree : IsJobIn inputs.parents job
+      (arrays_to inputs.levels task.reach) job
+  pub tree : IsJobIn inputs.parents inputs.marks job
   pub horizon : job.horizon ≡ task.horizon
-  pub purges : job.purges ≡ task.purges
+  pub treatment : job.treatment ≡ task.treatment
 
 -- after a step, before which so many entries were taken, there is more to do; or all were taken in both passes, and the
 -- level is made

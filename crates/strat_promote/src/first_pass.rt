@@ -13,6 +13,7 @@ ghost use Rattle.strat_promote.specs.declared.obstacle.Obstacle.TheVariants.{Dam
 
 use crate::next_group::take_group;
 use crate::obstacle::{Obstacle, Unfit};
+use crate::treatment::Treatment;
 use strat_arena::Arena;
 use strat_disk::Disk;
 use strat_live::Counts;
@@ -48,14 +49,14 @@ pub(crate) fn count_group<D: Disk, R: Run<D>>(
     arena: &mut Arena,
     group: &mut GroupBuf,
     tree: &Tree,
-    purges: bool,
+    treatment: Treatment,
     disk: &mut D,
 ) -> Result<bool, Obstacle>
     requires kept { IsCounter R.view (length counting.old.counts.own) counting.old }
     requires fits { length counting.old.counts.own ≤ length tree.now.parents }
     ensures kept { OnOk result (IsCounter R.view (length counting.old.counts.own) counting.new) }
     ensures ok { IfOk result (λ more. IsTrue more → (f : Image) (job : Job)
-        → Exposes (D.view disk.old) f → IsJobIn tree.now.parents job → job.purges ≡ purges
+        → Exposes (D.view disk.old) f → IsJobIn tree.now.parents tree.now.marks job → job.treatment ≡ treatment
         → job.horizon ≡ length counting.old.counts.own
         → IsCounting R.view f job counting.old → IsCounting R.view f job counting.new
         × TakesSome f job (consumed_of counting.old.merger) (consumed_of counting.new.merger)) }
@@ -64,14 +65,14 @@ pub(crate) fn count_group<D: Disk, R: Run<D>>(
         → IsCounted R.view f job counting.new
         × (consumed_of counting.new.merger ≡ consumed_of counting.old.merger)) }
     ensures fits { IsErrOf result obstacle.Unfit → (f : Image) (job : Job)
-        → Exposes (D.view disk.old) f → IsJobIn tree.now.parents job → job.purges ≡ purges
+        → Exposes (D.view disk.old) f → IsJobIn tree.now.parents tree.now.marks job → job.treatment ≡ treatment
         → job.horizon ≡ length counting.old.counts.own
         → IsCounting R.view f job counting.old → ⊥ }
     ensures reads { ReadsRuns R.view Device Damaged (D.view disk.old) (D.view disk.new)
         (D.faults disk.old) (D.faults disk.new) (D.reads disk.old) (D.reads disk.new)
         (runs_merged counting.old.merger) (runs_merged counting.new.merger) result }
 {
-    if !take_group::<D, R>(&mut counting.merger, arena, group, tree, purges, disk)? {
+    if !take_group::<D, R>(&mut counting.merger, arena, group, tree, treatment, disk)? {
         return Ok(false);
     }
     counting.counted = counted_with(counting.counted, group.items().len())?;

@@ -2,7 +2,7 @@
 
 ghost use Rattle.std.specs.List.{filter_map};
 ghost use Rattle.std.specs.Option.{option_to_list};
-ghost use Rattle.std.specs.Prelude.{◌≡◌, ℕ, List, ◌++◌, flat_map, take, Option, Some, None, IsTrue};
+ghost use Rattle.std.specs.Prelude.{◌≡◌, ℕ, List, ◌++◌, map, flat_map, take, Option, Some, None, IsTrue};
 ghost use Rattle.strat_base.specs.Change.{Change};
 ghost use Rattle.strat_base.specs.Entries.{Entry, is_ascending, lead_entries};
 ghost use Rattle.strat_base.specs.declared.descriptors.ArrayDesc.{ArrayDesc};
@@ -13,6 +13,7 @@ ghost use Rattle.def_crash.specs.Moments.{Exposes};
 ghost use Rattle.strat_extent.specs.Blocks.{SpaceView, is_free};
 ghost use Rattle.def_bytes.specs.Arrays.{all_some, blocks_of, entries_on};
 ghost use Rattle.def_split.specs.Groups.{group_versions};
+ghost use Rattle.def_promote.specs.Compacted.{HasRoomForAll, thinned_in, CompactsGroups, compact_level_of_groups, compacted_to};
 ghost use Rattle.def_promote.specs.Merging.{runs_taken};
 ghost use Rattle.def_promote.specs.Promoted.{promoted, Takeable, PromotesGroups, fresh_of_groups};
 ghost use Rattle.def_promote.specs.Purge.{groups_over};
@@ -27,7 +28,7 @@ ghost use Rattle.strat_promote.specs.Between.{KeepsItsBlocks, HasUsedBlocks};
 ghost use Rattle.strat_promote.specs.Job.{Job, runs_in, arrays_to, blocks_listed};
 ghost use Rattle.strat_promote.specs.Leads.{leads_in, misfit_in};
 ghost use Rattle.strat_promote.specs.Promotions.{HasBegun, IsItsJob};
-ghost use Rattle.strat_promote.specs.Replacing.{IsJobOf, LeavesTheSame};
+ghost use Rattle.strat_promote.specs.Replacing.{IsJobOf, IsJobOfAll, LeavesTheSame, LeavesLittle};
 ghost use Rattle.strat_promote.specs.Stages.{IsMade};
 ghost use Rattle.strat_promote.specs.Steps.{Inputs};
 ghost use Rattle.strat_promote.specs.declared.promotion.Promotion.{Promotion};
@@ -72,6 +73,26 @@ pub fn groups_of_a_made_level_are_promoted()
         → IsOrdered s
         → all_some (level_on g) (option_to_list made)
         ≡ Some (fresh_of_groups s j kept m.groups m.plan first) }
+{}
+
+/// The groups of a level that was made of all that a state says are compacted, and an image has that level. Alone it leaves
+/// a sound state that says the same and stores little.
+pub fn groups_of_a_made_level_are_compacted()
+    ensures compacts { (f g : Image) (s : State) (j first : ℕ) (job : Job)
+        (made : Option LevelDesc) (m : IsMade f g job j first made) → IsJobOfAll f s job
+        → HasRoomForAll s j
+        → CompactsGroups s j m.groups (own_at (group_versions (map (thinned_in s) m.groups)))
+        (keys_at (versions_of s) (group_versions (map (thinned_in s) m.groups))) m.plan }
+    ensures read { (f g : Image) (s : State) (j first : ℕ) (job : Job)
+        (made : Option LevelDesc) (m : IsMade f g job j first made) → IsJobOfAll f s job
+        → IsOrdered s
+        → all_some (level_on g) (option_to_list made)
+        ≡ Some (compact_level_of_groups s j m.groups m.plan first) }
+    ensures says { (f g : Image) (s : State) (j first : ℕ) (job : Job)
+        (made : Option LevelDesc) → IsSound s → HasRoomForAll s j → IsJobOfAll f s job
+        → IsMade f g job j first made
+        → LeavesLittle g made s j
+        (λ fresh compacted next_array. compacted_to s fresh compacted next_array) }
 {}
 
 /// The level that a promotion made, in the place of level 0 and of levels 1 to j, leaves a sound state that says the same,

@@ -25,5 +25,6 @@ mod stage;
 pub mod state_laws;
 mod step;
 mod tag;
+mod treatment;
 mod zero_copy;
 mod zero_run;

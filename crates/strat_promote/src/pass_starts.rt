@@ -90,7 +90,7 @@ pub(crate) fn begin_writing<D: Disk>(
     ensures len { IfOk result (λ w. consumed_of w.merger ≡ 0) }
     ensures ok { IfOk result (λ w. (f : Image) (job : Job) → Exposes (D.view disk.old) f
         → IsJobOver f (entries_held pool.now zero.now) (arrays_to levels.now target) job
-        → IsJobIn tree.now.parents job → job.horizon ≡ length counting.old.counts.own
+        → IsJobIn tree.now.parents tree.now.marks job → job.horizon ≡ length counting.old.counts.own
         → IsCounted input_seen f job counting.old → IsWriting input_seen f job first w) }
     ensures found { OpensInputs Device Damaged (D.view disk.old) (D.view disk.new)
         (arrays_to levels.now target) (D.faults disk.old) (D.faults disk.new)

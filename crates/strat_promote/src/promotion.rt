@@ -20,6 +20,7 @@ use crate::obstacle::Obstacle;
 use crate::slicing::{take_steps, taken_in};
 use crate::stage::Stage;
 use crate::step::{Sources, Step, Task, WorkBuffers};
+use crate::treatment::{Treatment, treatment_over};
 use std::alloc::Global;
 use strat_arena::{Arena, ArenaPool};
 use strat_base::limits::LEVELS;
@@ -38,7 +39,7 @@ pub enum Progress {
     More,
 }
 
-/// Level 0 and levels 1 to j, on their way into a new level j. It holds no borrow between two slices.
+/// Level 0 and levels 1 to j, or all levels, on their way into a new level j. It holds no borrow between two slices.
 ///
 /// It goes twice over the entries: once to count them, and once, when the versions are split, to write them. In memory it
 /// holds a block for each array that it reads and for each that it writes, the entries of level 0, the group of one key, 28
@@ -59,7 +60,7 @@ impl Promotion {
     ghost use Rattle.strat_level.specs.Target.{leads_down_to};
     ghost use Rattle.strat_promote.specs.Closing.{AreAllUsed};
     ghost use Rattle.strat_promote.specs.Job.{Job, IsBadInput, arrays_to, blocks_listed};
-    ghost use Rattle.strat_promote.specs.Promotions.{IsBegun, IsOpen, IsFed, IsItsJob, HasBegun, IsSliced, MatchProgress, SamePromotion, inputs_given, writers_of, ReadsFrom, ReadsOf, ReadsItsBlocks, FiltersStand, HasMadeTheSame, arrays_promoted, leads_listed, entries_taken, entries_if_any, extents_taken, has_ended, target_of, level_of};
+    ghost use Rattle.strat_promote.specs.Promotions.{IsBegun, IsBegunForAll, IsOpen, IsFed, IsItsJob, HasBegun, IsSliced, MatchProgress, SamePromotion, inputs_given, writers_of, ReadsFrom, ReadsOf, ReadsItsBlocks, FiltersStand, HasMadeTheSame, arrays_promoted, leads_listed, entries_taken, entries_if_any, extents_taken, has_ended, target_of, reach_of, level_of};
     ghost use Rattle.strat_promote.specs.Owned.{OwnsItsBlocks};
     ghost use Rattle.strat_promote.specs.Spaces.{HasAmpleRoom, TakesMore};
 
@@ -87,9 +88,10 @@ impl Promotion {
         let target = target(&leads, mem);
         let task = Task {
             target: target as u8,
+            reach: target as u8,
             horizon,
             first: next_array,
-            purges: is_deepest(levels, target),
+            treatment: treatment_over(is_deepest(levels, target)),
         };
         let buffers = WorkBuffers {
             alloc,
@@ -105,11 +107,54 @@ impl Promotion {
         })
     }
 
+    /// The promotion of level 0 and all levels into one level, which has room for all their leads: level j has room for
+    /// `mem * 2^j`. All versions take part, and the arrays are numbered from `next_array` on. Of the entries of each key
+    /// those go that are at a dropped version, and those that repeat what the parent of their version sees. Nothing is read
+    /// yet. The only error is want of memory. O(levels); takes room for a group of all versions.
+    pub fn begin_all(
+        alloc: Global,
+        zero: &Zero,
+        levels: &Levels,
+        tree: &Tree,
+        mem: u32,
+        next_array: u64,
+        level: usize,
+    ) -> Result<Promotion, NoMemory>
+        requires fits { (1 ≤ level) × (level ≤ 22) × (4 ≤ mem) × (mem ≤ 4096) }
+        requires room { (sum (leads_listed zero.now.list levels.now) ≤ mem * 2 ^ level)
+            × (sum (leads_listed zero.now.list levels.now) ≤ 2 ^ 24) }
+        ensures ok { IfOk result (λ p. IsBegunForAll zero.now.list levels.now mem
+            (length tree.now.parents) next_array level p) }
+    {
+        // For the proof alone: the level has room for all leads.
+        let _given = (mem, leads_to(zero, levels, LEVELS));
+        let versions = tree.count();
+        let task = Task {
+            target: level as u8,
+            reach: LEVELS as u8,
+            horizon: versions,
+            first: next_array,
+            treatment: Treatment::Thin,
+        };
+        let buffers = WorkBuffers {
+            alloc,
+            arena: Arena::new(alloc),
+            group: GroupBuf::new(alloc, versions)?,
+        };
+        Ok(Promotion {
+            task,
+            stage: Stage::Begun,
+            buffers,
+            level: None,
+            is_done: false,
+        })
+    }
+
     /// Goes on until at least `budget` entries were taken in this call and one is left, or until the level is made. What it
     /// takes at once are the entries of one key, so that a call takes fewer than `budget` and these. Level 0, the levels and
-    /// the parents of the versions below the horizon are those that were given to `begin`. Each block of the arrays is read
-    /// once in each pass, and nothing is written but blocks that were free. The level that is made has the blocks that it
-    /// took, and no others.
+    /// the parents of the versions below the horizon are those that were given to `begin` or `begin_all`; for `begin_all` so
+    /// are the versions that were dropped. Each block of the arrays is read once in each pass, and nothing is written but
+    /// blocks that were free. The level that is made has the blocks that it took, and no others.
     ///
     /// `Device` comes only where the disk failed; `Damaged` names a block of an array that holds no entries, or none that
     /// come after those before it. After an error it is good for nothing but `abandon`. `Unfit`: arrays have more leads than
@@ -126,19 +171,20 @@ impl Promotion {
     ) -> Result<Progress, Obstacle>
         requires kept { IsOpen self.old × AreAllUsed space.old (writers_of self.old) }
         requires fits { IsFed self.old
-            (inputs_given zero.now.list pool.now levels.now tree.now.parents) × (1 ≤ budget) }
+            (inputs_given zero.now.list pool.now levels.now tree.now.parents tree.now.marks)
+            × (1 ≤ budget) }
         ensures kept { IfOk result (λ p. MatchProgress p (IsOpen self.new
             × (entries_taken self.old + budget ≤ entries_taken self.new))
             ((has_ended self.new ≡ true)
             × OwnsItsBlocks (writers_of self.new) (level_of self.new))) }
         ensures ok { IfOk result (λ p. (f g : Image) (job : Job) → Exposes (D.view disk.old) f
             → Exposes (D.view disk.new) g → IsItsJob f self.old
-            (inputs_given zero.now.list pool.now levels.now tree.now.parents) job
+            (inputs_given zero.now.list pool.now levels.now tree.now.parents tree.now.marks) job
             → AreUsed space.old (blocks_listed job.arrays) → HasBegun f job self.old
             → IsSliced f g job (entries_taken self.old + budget) self.new p) }
         ensures filters { IfOk result (λ p. (f g : Image) (job : Job) → Exposes (D.view disk.old) f
             → Exposes (D.view disk.new) g → IsItsJob f self.old
-            (inputs_given zero.now.list pool.now levels.now tree.now.parents) job
+            (inputs_given zero.now.list pool.now levels.now tree.now.parents tree.now.marks) job
             → AreUsed space.old (blocks_listed job.arrays) → HasBegun f job self.old
             → MatchProgress p (Unit {0}) (FiltersStand g self.new)) }
         ensures room { AreAllUsed space.new (writers_of self.new)
@@ -147,22 +193,22 @@ impl Promotion {
             × SamePromotion self.old self.new }
         ensures cause { HasCause Device (D.faults disk.old) (D.faults disk.new) result }
         ensures damaged { (b : ℕ) → IsErrOf result (Damaged b)
-            → (ReadsFrom (arrays_to levels.now (target_of self.old)) self.old
-            → Contains (blocks_listed (arrays_to levels.now (target_of self.old))) b)
+            → (ReadsFrom (arrays_to levels.now (reach_of self.old)) self.old
+            → Contains (blocks_listed (arrays_to levels.now (reach_of self.old))) b)
             × ((f : Image) → Exposes (D.view disk.old) f
-            → AreUsed space.old (blocks_listed (arrays_to levels.now (target_of self.old)))
-            → ReadsOf f (arrays_to levels.now (target_of self.old)) self.old
-            → IsBadInput f (arrays_to levels.now (target_of self.old)) b) }
+            → AreUsed space.old (blocks_listed (arrays_to levels.now (reach_of self.old)))
+            → ReadsOf f (arrays_to levels.now (reach_of self.old)) self.old
+            → IsBadInput f (arrays_to levels.now (reach_of self.old)) b) }
         ensures found { IfOk result (λ p. MatchProgress p ((f g : Image)
             → Exposes (D.view disk.old) f → Exposes (D.view disk.new) g
-            → AreUsed space.old (blocks_listed (arrays_to levels.now (target_of self.old)))
-            → ReadsOf f (arrays_to levels.now (target_of self.old)) self.old
-            → ReadsOf g (arrays_to levels.now (target_of self.old)) self.new) (Unit {0})) }
+            → AreUsed space.old (blocks_listed (arrays_to levels.now (reach_of self.old)))
+            → ReadsOf f (arrays_to levels.now (reach_of self.old)) self.old
+            → ReadsOf g (arrays_to levels.now (reach_of self.old)) self.new) (Unit {0})) }
         ensures fits { IsErrOf result Unfit → HasAmpleRoom space.old → (f : Image) (job : Job)
             → Exposes (D.view disk.old) f → IsItsJob f self.old
-            (inputs_given zero.now.list pool.now levels.now tree.now.parents) job
+            (inputs_given zero.now.list pool.now levels.now tree.now.parents tree.now.marks) job
             → AreUsed space.old (blocks_listed job.arrays) → HasBegun f job self.old → ⊥ }
-        ensures reads { ReadsItsBlocks (arrays_to levels.now (target_of self.old))
+        ensures reads { ReadsItsBlocks (arrays_to levels.now (reach_of self.old))
             (D.reads disk.old) (D.reads disk.new) self.old self.new result }
     {
         let sources = Sources {
@@ -189,14 +235,14 @@ impl Promotion {
         }
     }
 
-    /// How many leads level 0 has, and the levels down to the one that it fills. Of those that were given to `begin`, these are
-    /// the entries that each of its two passes goes over. O(levels).
+    /// How many leads level 0 has, and the levels down to the one that it fills, or all levels. Of those that were given to
+    /// `begin` or `begin_all`, these are the entries that each of its two passes goes over. O(levels).
     pub fn leads(&self, zero: &Zero, levels: &Levels) -> u64
         requires fits { sum (leads_listed zero.now.list levels.now) ≤ 2 ^ 24 }
         ensures ok { result
-            ≡ leads_down_to (leads_listed zero.now.list levels.now) (target_of self.now) }
+            ≡ leads_down_to (leads_listed zero.now.list levels.now) (reach_of self.now) }
     {
-        leads_to(zero, levels, self.task.target as usize)
+        leads_to(zero, levels, self.task.reach as usize)
     }
 
     /// How many entries of level 0 and of the arrays it has taken, in both passes together; past the greatest number it

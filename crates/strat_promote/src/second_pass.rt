@@ -18,6 +18,7 @@ ghost use Rattle.strat_promote.specs.declared.obstacle.Obstacle.TheVariants.{Dam
 use crate::filling::{Filling, deal_out};
 use crate::next_group::take_group;
 use crate::obstacle::Obstacle;
+use crate::treatment::Treatment;
 use strat_arena::Arena;
 use strat_disk::Disk;
 use strat_extent::Space;
@@ -37,7 +38,7 @@ pub(crate) fn write_group<D: Disk, R: Run<D>>(
     arena: &mut Arena,
     group: &mut GroupBuf,
     tree: &Tree,
-    purges: bool,
+    treatment: Treatment,
     space: &mut Space,
     disk: &mut D,
 ) -> Result<bool, Obstacle>
@@ -48,7 +49,7 @@ pub(crate) fn write_group<D: Disk, R: Run<D>>(
         (IsWriterOf R.view (length writing.old.filling.plan.part_of) writing.new) }
     ensures ok { IfOk result (λ more. IsTrue more → (f g : Image) (job : Job) (first : ℕ)
         → Exposes (D.view disk.old) f → Exposes (D.view disk.new) g
-        → IsJobIn tree.now.parents job → job.purges ≡ purges
+        → IsJobIn tree.now.parents tree.now.marks job → job.treatment ≡ treatment
         → job.horizon ≡ length writing.old.filling.plan.part_of
         → AreUsed space.old (blocks_listed job.arrays)
         → IsWriting R.view f job first writing.old → IsWriting R.view g job first writing.new
@@ -69,7 +70,7 @@ pub(crate) fn write_group<D: Disk, R: Run<D>>(
         (D.faults disk.old) (D.faults disk.new) (D.reads disk.old) (D.reads disk.new)
         writing.old writing.new result }
 {
-    if !take_group::<D, R>(&mut writing.merger, arena, group, tree, purges, disk)? {
+    if !take_group::<D, R>(&mut writing.merger, arena, group, tree, treatment, disk)? {
         return Ok(false);
     }
     deal_out(

@@ -104,23 +104,23 @@ pub(crate) fn take_steps<D: Disk>(
     ensures same { TearsBlocks (is_free space.old) (D.view disk.old) (D.view disk.new) }
     ensures cause { HasCause Device (D.faults disk.old) (D.faults disk.new) result }
     ensures damaged { (b : ℕ) → IsErrOf result (Damaged b)
-        → (IsReadFrom (arrays_to sources.now.levels.now task.now.target) stage.old
-        → Contains (blocks_listed (arrays_to sources.now.levels.now task.now.target)) b)
+        → (IsReadFrom (arrays_to sources.now.levels.now task.now.reach) stage.old
+        → Contains (blocks_listed (arrays_to sources.now.levels.now task.now.reach)) b)
         × ((f : Image) → Exposes (D.view disk.old) f
-        → AreUsed space.old (blocks_listed (arrays_to sources.now.levels.now task.now.target))
-        → IsReadOf f (arrays_to sources.now.levels.now task.now.target) stage.old
-        → IsBadInput f (arrays_to sources.now.levels.now task.now.target) b) }
+        → AreUsed space.old (blocks_listed (arrays_to sources.now.levels.now task.now.reach))
+        → IsReadOf f (arrays_to sources.now.levels.now task.now.reach) stage.old
+        → IsBadInput f (arrays_to sources.now.levels.now task.now.reach) b) }
     ensures found { IfOk result (λ step. MatchStep step ((f g : Image) → Exposes (D.view disk.old) f
         → Exposes (D.view disk.new) g
-        → AreUsed space.old (blocks_listed (arrays_to sources.now.levels.now task.now.target))
-        → IsReadOf f (arrays_to sources.now.levels.now task.now.target) stage.old
-        → IsReadOf g (arrays_to sources.now.levels.now task.now.target) stage.new)
+        → AreUsed space.old (blocks_listed (arrays_to sources.now.levels.now task.now.reach))
+        → IsReadOf f (arrays_to sources.now.levels.now task.now.reach) stage.old
+        → IsReadOf g (arrays_to sources.now.levels.now task.now.reach) stage.new)
         (λ level. Unit {0})) }
     ensures fits { IsErrOf result Unfit → HasAmpleRoom space.old → (f : Image) (job : Job)
         → Exposes (D.view disk.old) f → IsTaskIn f task.now (inputs_of sources.now) job
         → AreUsed space.old (blocks_listed job.arrays)
         → IsUnderway f job task.now.first stage.old → ⊥ }
-    ensures reads { ReadsOnce (arrays_to sources.now.levels.now task.now.target)
+    ensures reads { ReadsOnce (arrays_to sources.now.levels.now task.now.reach)
         (D.reads disk.old) (D.reads disk.new) stage.old stage.new result }
 {
     let start = taken_in(stage);

@@ -7,18 +7,21 @@ ghost use Rattle.def_crash.specs.Blocks.{AgreeOn};
 ghost use Rattle.def_crash.specs.Image.{Image};
 ghost use Rattle.strat_extent.specs.Blocks.{SpaceView};
 ghost use Rattle.strat_level.specs.Memtable.{ItemList};
+ghost use Rattle.strat_level.specs.Target.{leads_down_to};
+ghost use Rattle.def_promote.specs.Compacted.{HasRoomForAll, compacted_to};
 ghost use Rattle.def_promote.specs.Paid.{IsLeastTarget};
 ghost use Rattle.def_promote.specs.Promoted.{levels_to, levels_behind, promoted, Takeable};
 ghost use Rattle.def_promote.specs.Sealed.{sealed_at, grown_by};
 ghost use Rattle.def_state.specs.Sound.{IsOrdered, IsSound};
 ghost use Rattle.def_state.specs.State.{State, IsPaid};
 ghost use Rattle.strat_promote.specs.Closing.{AreAllUsed};
-ghost use Rattle.strat_promote.specs.Job.{Job, arrays_to, blocks_listed};
-ghost use Rattle.strat_promote.specs.Promotions.{IsBegun, IsOpen, HasBegun, IsItsJob, SamePromotion, target_of, writers_of};
-ghost use Rattle.strat_promote.specs.Replacing.{LeavesTheSame};
+ghost use Rattle.strat_promote.specs.Job.{Job, arrays_to, blocks_listed, input_count};
+ghost use Rattle.strat_promote.specs.Promotions.{IsBegun, IsBegunForAll, IsOpen, HasBegun, IsItsJob, SamePromotion, leads_listed, target_of, reach_of, writers_of};
+ghost use Rattle.strat_promote.specs.Replacing.{LeavesTheSame, LeavesLittle};
 ghost use Rattle.strat_promote.specs.Stages.{IsMade};
-ghost use Rattle.strat_promote.specs.StateInputs.{IsBegunOver, LeavesPaid, purges_marks, job_of_state};
+ghost use Rattle.strat_promote.specs.StateInputs.{IsBegunOver, IsBegunOverAll, LeavesPaid, treatment_of, job_of_state, job_of_all};
 ghost use Rattle.strat_promote.specs.Steps.{Inputs};
+ghost use Rattle.strat_promote.specs.Treated.{treatment_over};
 ghost use Rattle.strat_promote.specs.declared.promotion.Promotion.{Promotion};
 
 /// A promotion that was begun over a state may take the state's levels down to its target. The target is the least;
@@ -32,7 +35,8 @@ pub fn a_begun_promotion_takes_the_levels_of_a_state()
         → IsLeastTarget s (target_of p) }
     ensures purges { (f : Image) (s : State) (inputs : Inputs) (p : Promotion) → IsOrdered s
         → IsBegunOver f s inputs p
-        → purges_marks p ≡ (length (levels_behind (target_of p) s.levels) == 0) }
+        → treatment_of p
+        ≡ treatment_over (length (levels_behind (target_of p) s.levels) == 0) }
 {}
 
 /// Such a promotion has begun the job of the state with whatever image, has taken no blocks, and may be sliced.
@@ -82,4 +86,42 @@ pub fn a_promotion_of_a_state_is_paid_for()
         → IsMade h g (job_of_state s inputs.levels (target_of p)) (target_of q) first made
         → LeavesPaid g made s (λ fresh written next_array.
         promoted s (fresh ++ levels_behind (target_of p) s.levels) written next_array) }
+{}
+
+/// A promotion of all levels that was begun over a state has begun the job of the state with whatever image, has taken no
+/// blocks, and may be sliced. The level that it fills has room for all leads of the state. These are the entries of the job.
+pub fn a_begun_promotion_of_all_does_the_job_of_a_state()
+    ensures kept { (zero : ItemList) (levels : List (Option LevelDesc))
+        (mem versions id target : ℕ) (p : Promotion)
+        → IsBegunForAll zero levels mem versions id target p → IsOpen p }
+    ensures begun { (zero : ItemList) (levels : List (Option LevelDesc))
+        (mem versions id target : ℕ) (p : Promotion)
+        → IsBegunForAll zero levels mem versions id target p → (f : Image) (job : Job)
+        → HasBegun f job p }
+    ensures found { (zero : ItemList) (levels : List (Option LevelDesc))
+        (mem versions id target : ℕ) (p : Promotion)
+        → IsBegunForAll zero levels mem versions id target p → (space : SpaceView)
+        → AreAllUsed space (writers_of p) }
+    ensures job { (f : Image) (s : State) (inputs : Inputs) (target : ℕ) (p : Promotion)
+        → IsOrdered s → IsBegunOverAll f s inputs target p
+        → IsItsJob f p inputs (job_of_all s inputs.levels) }
+    ensures room { (f : Image) (s : State) (inputs : Inputs) (target : ℕ) (p : Promotion)
+        → IsOrdered s → IsBegunOverAll f s inputs target p → HasRoomForAll s target }
+    ensures len { (f : Image) (s : State) (inputs : Inputs) (target : ℕ) (p : Promotion)
+        → IsOrdered s → IsBegunOverAll f s inputs target p
+        → leads_down_to (leads_listed inputs.zero inputs.levels) (reach_of p)
+        ≡ input_count f (job_of_all s inputs.levels) }
+{}
+
+/// The level that such a promotion made, alone in the place of level 0 and of all levels, leaves a sound state that says the
+/// same. It stores at most two entries for each key at which the map of a living version differs from its parent's. Where the
+/// state was paid and the level is the one that all changes ask for, the state is paid too, and nothing counts as written. The
+/// arrays kept their bytes until the last slice began.
+pub fn a_promotion_of_all_says_the_same_in_little()
+    ensures { (f h g : Image) (s : State) (inputs : Inputs) (target : ℕ) (p q : Promotion)
+        (first : ℕ) (made : Option LevelDesc) → IsSound s → IsBegunOverAll f s inputs target p
+        → SamePromotion p q → AgreeOn (blocks_listed (arrays_to inputs.levels 22)) f h
+        → IsMade h g (job_of_all s inputs.levels) (target_of q) first made
+        → LeavesLittle g made s target
+        (λ fresh compacted next_array. compacted_to s fresh compacted next_array) }
 {}

@@ -39,6 +39,7 @@ use crate::pass_starts::{begin_counting, begin_writing};
 use crate::seal::{describe_all, seal_all};
 use crate::second_pass::{Writing, write_group};
 use crate::stage::Stage;
+use crate::treatment::Treatment;
 use std::alloc::Global;
 use strat_arena::{Arena, ArenaPool};
 use strat_base::{LevelDesc, Trouble};
@@ -48,14 +49,15 @@ use strat_level::{Levels, ZeroView};
 use strat_merge::GroupBuf;
 use strat_tree::Tree;
 
-/// What a promotion is to do: the level that it fills, how many versions there were when it began, the number of its first
-/// array, and whether nothing lies deeper.
+/// What a promotion is to do: the level that it fills, the deepest level that it reads, how many versions there were when it
+/// began, the number of its first array, and what becomes of the entries of a key.
 #[derive(Clone, Copy)]
 pub(crate) struct Task {
     pub(crate) target: u8,
+    pub(crate) reach: u8,
     pub(crate) horizon: u32,
     pub(crate) first: u64,
-    pub(crate) purges: bool,
+    pub(crate) treatment: Treatment,
 }
 
 /// What it reads: level 0 and the levels, as they were when it began.
@@ -96,23 +98,23 @@ fn start_counting<D: Disk>(
     ensures none { IfOk result (λ stage. stage_writers stage ≡ []) }
     ensures len { IfOk result (λ stage. (stage_consumed stage ≡ 0) × (0 < how_far stage)) }
     ensures state { IfOk result (λ stage. IsReadFrom
-        (arrays_to sources.now.levels.now task.now.target) stage) }
+        (arrays_to sources.now.levels.now task.now.reach) stage) }
     ensures damaged { IfOk result (λ stage. (f : Image) → Exposes (D.view disk.old) f
-        → IsReadOf f (arrays_to sources.now.levels.now task.now.target) stage) }
+        → IsReadOf f (arrays_to sources.now.levels.now task.now.reach) stage) }
     ensures found { OpensInputs trouble.Device trouble.Damaged (D.view disk.old) (D.view disk.new)
-        (arrays_to sources.now.levels.now task.now.target) (D.faults disk.old)
+        (arrays_to sources.now.levels.now task.now.reach) (D.faults disk.old)
         (D.faults disk.new) (D.reads disk.old) (D.reads disk.new) result }
     ensures reads { IfOk result (λ stage. D.reads disk.new
-        + blocks_due (arrays_to sources.now.levels.now task.now.target) stage
+        + blocks_due (arrays_to sources.now.levels.now task.now.reach) stage
         ≤ D.reads disk.old
-        + 2 * length (blocks_listed (arrays_to sources.now.levels.now task.now.target))) }
+        + 2 * length (blocks_listed (arrays_to sources.now.levels.now task.now.reach))) }
 {
     let counting = begin_counting(
         buffers.alloc,
         sources.zero,
         sources.levels,
         sources.pool,
-        task.target as usize,
+        task.reach as usize,
         task.horizon,
         disk,
     )?;
@@ -144,37 +146,37 @@ fn step_counting<D: Disk>(
     ensures same { OnlyReads (D.view disk.old) (D.view disk.new) }
     ensures cause { HasCause Device (D.faults disk.old) (D.faults disk.new) result }
     ensures damaged { (b : ℕ) → IsErrOf result (Damaged b)
-        → (AreReadFrom (arrays_to sources.now.levels.now task.now.target)
+        → (AreReadFrom (arrays_to sources.now.levels.now task.now.reach)
         (views_of input_seen counting.old.merger)
-        → Contains (blocks_listed (arrays_to sources.now.levels.now task.now.target)) b)
+        → Contains (blocks_listed (arrays_to sources.now.levels.now task.now.reach)) b)
         × ((f : Image) → Exposes (D.view disk.old) f
-        → AreReadOf f (arrays_to sources.now.levels.now task.now.target)
+        → AreReadOf f (arrays_to sources.now.levels.now task.now.reach)
         (views_of input_seen counting.old.merger)
-        → IsBadInput f (arrays_to sources.now.levels.now task.now.target) b) }
+        → IsBadInput f (arrays_to sources.now.levels.now task.now.reach) b) }
     ensures found { IfOk result (λ next. (AreReadFrom
-        (arrays_to sources.now.levels.now task.now.target)
+        (arrays_to sources.now.levels.now task.now.reach)
         (views_of input_seen counting.old.merger) → IsReadFrom
-        (arrays_to sources.now.levels.now task.now.target) (stage_after counting.new next))
+        (arrays_to sources.now.levels.now task.now.reach) (stage_after counting.new next))
         × ((f : Image) → Exposes (D.view disk.old) f
-        → AreReadOf f (arrays_to sources.now.levels.now task.now.target)
+        → AreReadOf f (arrays_to sources.now.levels.now task.now.reach)
         (views_of input_seen counting.old.merger)
-        → IsReadOf f (arrays_to sources.now.levels.now task.now.target)
+        → IsReadOf f (arrays_to sources.now.levels.now task.now.reach)
         (stage_after counting.new next))) }
     ensures reads { IfOk result (λ next. D.reads disk.new
-        + blocks_due (arrays_to sources.now.levels.now task.now.target)
+        + blocks_due (arrays_to sources.now.levels.now task.now.reach)
         (stage_after counting.new next)
         ≤ D.reads disk.old + length (blocks_left (views_of input_seen counting.old.merger))
-        + length (blocks_listed (arrays_to sources.now.levels.now task.now.target))) }
+        + length (blocks_listed (arrays_to sources.now.levels.now task.now.reach))) }
     ensures err { OnErr result (D.reads disk.new
         ≤ D.reads disk.old + length (blocks_left (views_of input_seen counting.old.merger))
-        + length (blocks_listed (arrays_to sources.now.levels.now task.now.target))) }
+        + length (blocks_listed (arrays_to sources.now.levels.now task.now.reach))) }
 {
     let more = count_group::<D, Input>(
         counting,
         &mut buffers.arena,
         &mut buffers.group,
         sources.tree,
-        task.purges,
+        task.treatment,
         disk,
     )?;
     if more {
@@ -188,7 +190,7 @@ fn step_counting<D: Disk>(
         sources.levels,
         sources.pool,
         sources.tree,
-        task.target as usize,
+        task.reach as usize,
         task.first,
         disk,
     )?;
@@ -281,7 +283,7 @@ fn step_writing<D: Disk>(
         &mut buffers.arena,
         &mut buffers.group,
         sources.tree,
-        task.purges,
+        task.treatment,
         space,
         disk,
     )?;
@@ -331,22 +333,22 @@ pub(crate) fn take_step<D: Disk>(
     ensures same { TearsBlocks (is_free space.old) (D.view disk.old) (D.view disk.new) }
     ensures cause { HasCause Device (D.faults disk.old) (D.faults disk.new) result }
     ensures damaged { ((b : ℕ) → IsErrOf result (Damaged b)
-        → (IsReadFrom (arrays_to sources.now.levels.now task.now.target) stage.old
-        → Contains (blocks_listed (arrays_to sources.now.levels.now task.now.target)) b)
+        → (IsReadFrom (arrays_to sources.now.levels.now task.now.reach) stage.old
+        → Contains (blocks_listed (arrays_to sources.now.levels.now task.now.reach)) b)
         × ((f : Image) → Exposes (D.view disk.old) f
-        → IsReadOf f (arrays_to sources.now.levels.now task.now.target) stage.old
-        → IsBadInput f (arrays_to sources.now.levels.now task.now.target) b))
+        → IsReadOf f (arrays_to sources.now.levels.now task.now.reach) stage.old
+        → IsBadInput f (arrays_to sources.now.levels.now task.now.reach) b))
         × IfOk result (λ step. (f g : Image) → Exposes (D.view disk.old) f
         → Exposes (D.view disk.new) g
-        → AreUsed space.old (blocks_listed (arrays_to sources.now.levels.now task.now.target))
-        → IsReadOf f (arrays_to sources.now.levels.now task.now.target) stage.old
+        → AreUsed space.old (blocks_listed (arrays_to sources.now.levels.now task.now.reach))
+        → IsReadOf f (arrays_to sources.now.levels.now task.now.reach) stage.old
         → MatchStep step
-        (IsReadOf g (arrays_to sources.now.levels.now task.now.target) stage.new)
+        (IsReadOf g (arrays_to sources.now.levels.now task.now.reach) stage.new)
         (λ level. Unit {0})) }
     ensures fits { IsErrOf result Unfit → (f : Image) (job : Job) → Exposes (D.view disk.old) f
         → IsTaskIn f task.now (inputs_of sources.now) job
         → IsUnderway f job task.now.first stage.old → HasFewFree space.old (2 ^ 28 + 16384) }
-    ensures reads { ReadsOnce (arrays_to sources.now.levels.now task.now.target)
+    ensures reads { ReadsOnce (arrays_to sources.now.levels.now task.now.reach)
         (D.reads disk.old) (D.reads disk.new) stage.old stage.new result }
 {
     match stage {

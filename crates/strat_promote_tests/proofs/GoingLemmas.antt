@@ -10,7 +10,7 @@ use Rattle.strat_extent.specs.Change.{CanGive}
 use Rattle.strat_level.specs.Memtable.{entries_held}
 use Rattle.strat_promote.specs.Closing.{AreAllUsed, all_extents}
 use Rattle.strat_promote.specs.Job.{arrays_to, AreReadable}
-use Rattle.strat_promote.specs.Promotions.{IsBegun, IsOpen, SamePromotion, MatchProgress, writers_of, extents_taken, entries_taken, has_ended}
+use Rattle.strat_promote.specs.Promotions.{IsBegun, IsBegunForAll, IsOpen, SamePromotion, MatchProgress, writers_of, extents_taken, entries_taken, has_ended}
 use Rattle.strat_promote.specs.Spaces.{TakesMore}
 use Rattle.strat_promote.specs.Stages.{IsSteady, stage_writers}
 use Rattle.strat_promote.specs.Steps.{Inputs, IsReadySource}
@@ -30,8 +30,29 @@ begins p inputs space mem n id ready fits begun =
         zero = ready.zero;
         low = subst (λ m. list_all (λ (e : Entry). ltb e.version m) (entries_held inputs.pool inputs.zero) ≡ true) (sym begun.horizon)
             (list_all-map (λ (e : Entry). ltb e.version n) (entry_of_item (arena_at inputs.pool inputs.zero.arena).pairs) inputs.zero.items ∙ ready.early);
-        arrays = subst (λ m. AreReadable m (arrays_to inputs.levels p.task.target)) (sym begun.horizon) (levels_readable n inputs.levels ready.levels p.task.target begun.fits);
-        target = begun.fits;
+        arrays = subst (λ m. AreReadable m (arrays_to inputs.levels p.task.reach)) (sym begun.horizon) (levels_readable n inputs.levels ready.levels p.task.reach (let r = begun.reach in let m = begun.fits in omega (arith, r, m)));
+        reach = let r = begun.reach in let m = begun.fits in omega (arith, r, m);
+        some = let e = begun.horizon in let s = ready.some in omega (arith, e, s);
+        known = let e = begun.horizon in let s = ready.known in omega (arith, e, s);
+        first = let e = begun.first in omega (arith, e, fits);
+      };
+      used = λ q w there. absurd (let e = ap (λ ws. slice_get ws q) none in cc);
+      owned = λ b. subst (λ ws. times_in (all_extents ws) b ≤ uses space b) (sym none) (omega arith);
+    }
+
+-- so does one of all levels
+pub begins_all : (p : Promotion) (inputs : Inputs) (space : SpaceView) (mem n id level : ℕ) → AreReadyInputs n inputs → id ≤ 2 ^ 63 → IsBegunForAll inputs.zero inputs.levels mem n id level p → IsGoing inputs space p
+begins_all p inputs space mem n id level ready fits begun =
+    let none : stage_writers p.stage ≡ [] = ap stage_writers begun.stage in
+    let last : p.task.reach ≤ 22 = (let r = begun.reach in omega (arith, r)) in
+    record {
+      more = record { more = begun.more; steady = subst (IsSteady p.task.horizon) (sym begun.stage) tt };
+      fed = record {
+        zero = ready.zero;
+        low = subst (λ m. list_all (λ (e : Entry). ltb e.version m) (entries_held inputs.pool inputs.zero) ≡ true) (sym begun.horizon)
+            (list_all-map (λ (e : Entry). ltb e.version n) (entry_of_item (arena_at inputs.pool inputs.zero.arena).pairs) inputs.zero.items ∙ ready.early);
+        arrays = subst (λ m. AreReadable m (arrays_to inputs.levels p.task.reach)) (sym begun.horizon) (levels_readable n inputs.levels ready.levels p.task.reach last);
+        reach = last;
         some = let e = begun.horizon in let s = ready.some in omega (arith, e, s);
         known = let e = begun.horizon in let s = ready.known in omega (arith, e, s);
         first = let e = begun.first in omega (arith, e, fits);

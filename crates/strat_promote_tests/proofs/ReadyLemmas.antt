@@ -2,6 +2,7 @@
 use Rattle.std.proofs.Common.{◌≡◌, ◌≤◌, ◌<◌, ◌+◌, ◌*◌, ◌^◌, ℕ, zero, suc, Bool, true, leb, ltb, ◌&&◌, List, [], ◌∷◌, length, map, get_or, Option, None, Some, inl, inr, refl, ap, ◌∙◌, subst, arith}
 use Rattle.std.specs.List.{list_all, range_with_len, sum, sum_by, Contains}
 use Rattle.std.proofs.lemmas.Bool.{and_parts, and_from, leb-true, ltb-true}
+use Rattle.std.proofs.lemmas.List.{take_all}
 use Rattle.std.proofs.lemmas.List.Folds.{list_all-append}
 use Rattle.std.proofs.lemmas.List.Sums.{sum_by-cons}
 use Rattle.strat_array.specs.Within.{AreWithin}
@@ -13,6 +14,7 @@ use Rattle.strat_base.proofs.ListFacts.{Among, all_at, among_range, range_among}
 use Rattle.strat_extent.specs.Blocks.{total_len}
 use Rattle.strat_extent.proofs.BlockLemmas.{total_listed}
 use Rattle.strat_level.specs.Levels.{level_numbered, leads_if_any}
+use Rattle.strat_level.specs.Target.{leads_down_to}
 use Rattle.strat_level.specs.Memtable.{ItemList}
 use Rattle.strat_promote.specs.Job.{arrays_to, AreReadable}
 use Rattle.strat_promote.specs.Opening.{arrays_if_any}
@@ -121,3 +123,12 @@ module _ (n : ℕ) (levels : List (Option LevelDesc)) (plain : are_plain_levels 
   leads_bounded list few =
       sum_with (length list.items) (λ k. leads_if_any (level_numbered levels k)) (range_with_len 1 22) few (omega arith)
       (λ k here. let at = range_among 1 22 k here in leads_here (level_numbered levels k) (plain_level k at.0 (omega (arith, at.1))))
+
+-- the leads down to the last level are all
+pub leads_of_all : (list : ItemList) (levels : List (Option LevelDesc)) (n : ℕ) → n ≡ 22 → leads_down_to (leads_listed list levels) n ≡ sum (leads_listed list levels)
+leads_of_all list levels n last =
+    ap (leads_down_to (leads_listed list levels)) last ∙ ap sum (take_all 23 (leads_listed list levels) (omega arith))
+
+-- level 1 has room for twice as many leads as level 0
+pub first_room : (n m mem : ℕ) → n ≡ m → leb n (2 * mem) ≡ true → m ≤ mem * 2 ^ 1
+first_room n m mem same fits = omega (arith, same, leb-true n (2 * mem) fits)

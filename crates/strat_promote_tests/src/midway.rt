@@ -29,7 +29,8 @@ fn go_until<D: Disk>(
     end: u32,
 ) -> Result<bool, Trouble>
     requires kept { IsGoing
-        (inputs_given scene.now.zero.list scene.now.pool levels.now scene.now.tree.parents)
+        (inputs_given scene.now.zero.list scene.now.pool levels.now
+        scene.now.tree.parents scene.now.tree.marks)
         space.old promotion.old }
     ensures found { CanGive space.new (extents_taken promotion.new) }
 {
@@ -109,7 +110,8 @@ fn names_block_8(
     disk: &mut MemDisk,
 ) -> bool
     requires kept { IsGoing
-        (inputs_given scene.now.zero.list scene.now.pool levels.now scene.now.tree.parents)
+        (inputs_given scene.now.zero.list scene.now.pool levels.now
+        scene.now.tree.parents scene.now.tree.marks)
         space.old promotion.old }
     ensures found { CanGive space.new (extents_taken promotion.new) }
 {
@@ -132,7 +134,8 @@ fn meets_damage(
     disk: &mut MemDisk,
 ) -> bool
     requires kept { IsGoing
-        (inputs_given scene.now.zero.list scene.now.pool levels.now scene.now.tree.parents)
+        (inputs_given scene.now.zero.list scene.now.pool levels.now
+        scene.now.tree.parents scene.now.tree.marks)
         space.old promotion.old }
     ensures found { CanGive space.new (extents_taken promotion.new) }
 {

@@ -97,7 +97,8 @@ fn are_early(items: &[Item], n: Version) -> bool
 /// Whether a promotion over the versions below a number may be given what is here.
 pub(crate) fn is_ready(scene: &Scene, levels: &Levels, n: Version) -> bool
     ensures { IsTrue result → AreReadyInputs n
-        (inputs_given scene.now.zero.list scene.now.pool levels.now scene.now.tree.parents) }
+        (inputs_given scene.now.zero.list scene.now.pool levels.now
+        scene.now.tree.parents scene.now.tree.marks) }
 {
     let items = scene.zero.items();
     let fits = 1 <= n && n <= scene.tree.count() && items.len() <= 100_000;

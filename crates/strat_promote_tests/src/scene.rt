@@ -1,6 +1,6 @@
 //! What a promotion reads: a tree and level 0.
 
-ghost use Rattle.std.specs.Prelude.{OnOk, IsTrue};
+ghost use Rattle.std.specs.Prelude.{◌≡◌, OnOk, IsTrue};
 ghost use Rattle.strat_base.specs.EntryBytes.{fits_fields};
 ghost use Rattle.strat_base.specs.EntryView.{entry_of};
 ghost use Rattle.strat_level.specs.Memtable.{ListStands, MemtableStands};
@@ -83,6 +83,25 @@ fn put_all(pool: &mut ArenaPool, zero: &mut Zero, entries: &[Entry<'_>]) -> Resu
 {
     for i in 0..entries.len() {
         put_lawful(pool, zero, &entries[i])?;
+    }
+    Ok(())
+}
+
+/// Drops a version, if it may be dropped.
+fn drop_version(tree: &mut Tree, v: Version) -> Result<(), NoMemory>
+    ensures same { tree.new.parents ≡ tree.old.parents }
+{
+    if v == 0 || v >= tree.count() || tree.is_dead(v) || tree.has_living_child(v) {
+        return Err(NoMemory);
+    }
+    tree.mark_dead(v);
+    Ok(())
+}
+
+/// Drops versions, one after the other.
+pub(crate) fn drop_versions(scene: &mut Scene, versions: &[Version]) -> Result<(), NoMemory> {
+    for i in 0..versions.len() {
+        drop_version(&mut scene.tree, versions[i])?;
     }
     Ok(())
 }

@@ -1,13 +1,15 @@
 //! Promotions, slice by slice.
 
-ghost use Rattle.std.specs.Prelude.{◌≡◌, ◌≤◌, ◌^◌, true, IfOk, OnOk, IsTrue};
+ghost use Rattle.std.specs.List.{sum};
+ghost use Rattle.std.specs.Prelude.{◌≡◌, ◌≤◌, ◌*◌, ◌^◌, length, true, IfOk, OnOk, IsTrue};
 ghost use Rattle.strat_extent.specs.Change.{CanGive};
-ghost use Rattle.strat_promote.specs.Promotions.{MatchProgress, extents_taken, has_ended, inputs_given};
+ghost use Rattle.strat_promote.specs.Promotions.{MatchProgress, extents_taken, has_ended, inputs_given, leads_listed};
 ghost use Rattle.strat_promote_tests.specs.Going.{AreReadyInputs, IsGoing};
 
 use crate::ready::is_ready;
 use crate::scene::Scene;
 use std::alloc::Global;
+use strat_base::limits::LEVELS;
 use strat_base::{LevelDesc, NoMemory, Trouble, Version};
 use strat_disk::Disk;
 use strat_extent::Space;
@@ -41,10 +43,12 @@ pub(crate) fn begun(
     next_array: u64,
 ) -> Result<Promotion, NoMemory>
     requires fits { AreReadyInputs horizon
-        (inputs_given scene.now.zero.list scene.now.pool levels.now scene.now.tree.parents) }
+        (inputs_given scene.now.zero.list scene.now.pool levels.now
+        scene.now.tree.parents scene.now.tree.marks) }
     requires room { (4 ≤ mem) × (mem ≤ 4096) × (next_array ≤ 2 ^ 63) }
     ensures kept { IfOk result (λ p. IsGoing
-        (inputs_given scene.now.zero.list scene.now.pool levels.now scene.now.tree.parents)
+        (inputs_given scene.now.zero.list scene.now.pool levels.now
+        scene.now.tree.parents scene.now.tree.marks)
         space.now p) }
 {
     let promotion = Promotion::begin(
@@ -56,6 +60,45 @@ pub(crate) fn begun(
         mem,
         next_array,
     )?;
+    Ok(promotion)
+}
+
+/// Whether level 1 has room for all leads of level 0 and the levels.
+fn has_room(alloc: Global, scene: &Scene, levels: &Levels, mem: u32) -> Result<bool, NoMemory>
+    requires fits { sum (leads_listed scene.now.zero.list levels.now) ≤ 2 ^ 24 }
+    requires room { (4 ≤ mem) × (mem ≤ 4096) }
+    ensures ok { IfOk result (λ fits. IsTrue fits
+        → sum (leads_listed scene.now.zero.list levels.now) ≤ mem * 2 ^ 1) }
+{
+    // The deepest level has room for whatever they are.
+    let (zero, tree) = (&scene.zero, &scene.tree);
+    let deepest = Promotion::begin_all(alloc, zero, levels, tree, mem, 1, LEVELS)?;
+    Ok(deepest.leads(zero, levels) <= 2 * mem as u64)
+}
+
+/// Begins a promotion of all levels into level 1.
+pub(crate) fn begun_all(
+    alloc: Global,
+    scene: &Scene,
+    levels: &Levels,
+    space: &Space,
+    mem: u32,
+    next_array: u64,
+) -> Result<Promotion, NoMemory>
+    requires fits { AreReadyInputs (length scene.now.tree.parents)
+        (inputs_given scene.now.zero.list scene.now.pool levels.now
+        scene.now.tree.parents scene.now.tree.marks) }
+    requires room { (4 ≤ mem) × (mem ≤ 4096) × (next_array ≤ 2 ^ 63) }
+    ensures kept { IfOk result (λ p. IsGoing
+        (inputs_given scene.now.zero.list scene.now.pool levels.now
+        scene.now.tree.parents scene.now.tree.marks)
+        space.now p) }
+{
+    if !has_room(alloc, scene, levels, mem)? {
+        return Err(NoMemory);
+    }
+    let (zero, tree) = (&scene.zero, &scene.tree);
+    let promotion = Promotion::begin_all(alloc, zero, levels, tree, mem, next_array, 1)?;
     Ok(promotion)
 }
 
@@ -79,11 +122,13 @@ pub(crate) fn slice_once<D: Disk>(
     budget: u64,
 ) -> Result<Progress, Trouble>
     requires kept { IsGoing
-        (inputs_given scene.now.zero.list scene.now.pool levels.now scene.now.tree.parents)
+        (inputs_given scene.now.zero.list scene.now.pool levels.now
+        scene.now.tree.parents scene.now.tree.marks)
         space.old promotion.old }
     requires room { 1 ≤ budget }
     ensures kept { IfOk result (λ p. MatchProgress p (IsGoing
-        (inputs_given scene.now.zero.list scene.now.pool levels.now scene.now.tree.parents)
+        (inputs_given scene.now.zero.list scene.now.pool levels.now
+        scene.now.tree.parents scene.now.tree.marks)
         space.new promotion.new) (has_ended promotion.new ≡ true)) }
     ensures found { CanGive space.new (extents_taken promotion.new) }
 {
@@ -111,7 +156,8 @@ pub(crate) fn slice_all<D: Disk>(
     budget: u64,
 ) -> Result<u64, Trouble>
     requires kept { IsGoing
-        (inputs_given scene.now.zero.list scene.now.pool levels.now scene.now.tree.parents)
+        (inputs_given scene.now.zero.list scene.now.pool levels.now
+        scene.now.tree.parents scene.now.tree.marks)
         space.old promotion.old }
     requires room { 1 ≤ budget }
     ensures ok { OnOk result (has_ended promotion.new ≡ true) }
@@ -141,6 +187,50 @@ fn made_of(promotion: Promotion, slices: u64) -> Made
     }
 }
 
+/// Takes all slices of a promotion, and answers what it made. Where it fails the blocks that it took are given back.
+fn finished<D: Disk>(
+    mut promotion: Promotion,
+    scene: &Scene,
+    levels: &Levels,
+    space: &mut Space,
+    disk: &mut D,
+    budget: u64,
+) -> Result<Made, Trouble>
+    requires kept { IsGoing
+        (inputs_given scene.now.zero.list scene.now.pool levels.now
+        scene.now.tree.parents scene.now.tree.marks)
+        space.old promotion }
+    requires room { 1 ≤ budget }
+{
+    match slice_all(&mut promotion, scene, levels, space, disk, budget) {
+        Ok(slices) => Ok(made_of(promotion, slices)),
+        Err(trouble) => {
+            promotion.abandon(space);
+            Err(trouble)
+        }
+    }
+}
+
+/// Merges level 0 and all levels into level 1, slice by slice.
+pub(crate) fn promote_all<D: Disk>(
+    alloc: Global,
+    scene: &Scene,
+    levels: &Levels,
+    mem: u32,
+    next_array: u64,
+    space: &mut Space,
+    disk: &mut D,
+    budget: u64,
+) -> Result<Made, Trouble>
+    requires { (next_array ≤ 2 ^ 63) × (1 ≤ budget) }
+{
+    if mem < 4 || mem > 4096 || !is_ready(scene, levels, scene.tree.count()) {
+        return Err(Trouble::NoMemory);
+    }
+    let promotion = begun_all(alloc, scene, levels, space, mem, next_array)?;
+    finished(promotion, scene, levels, space, disk, budget)
+}
+
 /// Promotes over all versions, slice by slice. Where it fails the blocks that it took are given back.
 pub(crate) fn promote<D: Disk>(
     alloc: Global,
@@ -158,12 +248,6 @@ pub(crate) fn promote<D: Disk>(
     if mem < 4 || mem > 4096 || !is_ready(scene, levels, horizon) {
         return Err(Trouble::NoMemory);
     }
-    let mut promotion = begun(alloc, scene, levels, space, horizon, mem, next_array)?;
-    match slice_all(&mut promotion, scene, levels, space, disk, budget) {
-        Ok(slices) => Ok(made_of(promotion, slices)),
-        Err(trouble) => {
-            promotion.abandon(space);
-            Err(trouble)
-        }
-    }
+    let promotion = begun(alloc, scene, levels, space, horizon, mem, next_array)?;
+    finished(promotion, scene, levels, space, disk, budget)
 }

@@ -9,6 +9,7 @@ use Rattle.strat_arena.specs.Items.{entry_of_item}
 use Rattle.strat_arena.specs.PoolView.{arena_at}
 use Rattle.strat_arena.specs.declared.pool.PoolEntry.{PoolEntry}
 use Rattle.strat_base.specs.Entries.{Entry}
+use Rattle.strat_base.specs.Marks.{Marks}
 use Rattle.strat_base.specs.Tree.{Parents, parent_of}
 use Rattle.strat_base.specs.declared.descriptors.Extent.{Extent}
 use Rattle.def_crash.specs.Image.{Image}
@@ -78,10 +79,10 @@ pub budget_some : (mem fill total n : ℕ) → n ≡ budget_for mem fill total �
 budget_some mem fill total n is = let some = (computed mem fill total).some in omega (arith, some, is)
 
 -- over what a store holds
-module _ (s : Held) (whole : IsConsistent s) (list : ItemList) (pool : List PoolEntry) (parents : Parents) (z : SealedLevel) (sealed_is : s.memory.sealed ≡ Some z)
+module _ (s : Held) (whole : IsConsistent s) (list : ItemList) (pool : List PoolEntry) (parents : Parents) (marks : Marks) (z : SealedLevel) (sealed_is : s.memory.sealed ≡ Some z)
     (entries_are : entries_held pool list ≡ oldest_entries s.memory) (parents_are : parents ≡ s.memory.parents) where
   abbrev pub inputs : Inputs
-  inputs = inputs_given list pool s.levels parents
+  inputs = inputs_given list pool s.levels parents marks
 
   same_entries : entries_held pool list ≡ z.entries
   same_entries = entries_are ∙ oldest_sealed s.memory z sealed_is
@@ -121,7 +122,7 @@ module _ (s : Held) (whole : IsConsistent s) (list : ItemList) (pool : List Pool
       subst (λ (n : ℕ). sum (n ∷ map (λ k. leads_if_any (level_numbered s.levels k)) (range_with_len 1 22)) ≤ 2 ^ 24) (sym old) (whole_promotes s whole).few
 
 -- where one is begun of it
-module _ (s : Held) (whole : IsConsistent s) (list : ItemList) (pool : List PoolEntry) (parents : Parents) (z : SealedLevel) (sealed_is : s.memory.sealed ≡ Some z)
+module _ (s : Held) (whole : IsConsistent s) (list : ItemList) (pool : List PoolEntry) (parents : Parents) (marks : Marks) (z : SealedLevel) (sealed_is : s.memory.sealed ≡ Some z)
     (entries_are : entries_held pool list ≡ oldest_entries s.memory) (parents_are : parents ≡ s.memory.parents) (full : s.sb.mem ≤ length s.log.list)
     (versions : ℕ) (count : versions ≡ oldest_versions s.memory) (p : Promotion) (begun : IsBegun list s.levels s.sb.mem versions s.chained.manifest.next_array p)
     (space : SpaceView) (own : IsSpaceOf space (contents_held s []) (extents_of s.memory.cursors.retired)) where
@@ -129,7 +130,7 @@ module _ (s : Held) (whole : IsConsistent s) (list : ItemList) (pool : List Pool
   promotes = whole_promotes s whole
 
   count_sized : length list.items ≡ length z.entries
-  count_sized = sized s whole list pool parents z sealed_is entries_are parents_are
+  count_sized = sized s whole list pool parents marks z sealed_is entries_are parents_are
 
   old_sized : length list.items ≡ length (oldest_entries s.memory)
   old_sized = count_sized ∙ ap (λ (es : List Entry). length es) (sym (oldest_sealed s.memory z sealed_is))
@@ -174,8 +175,8 @@ module _ (s : Held) (whole : IsConsistent s) (list : ItemList) (pool : List Pool
         let leads : ℕ = leads_down_to (leads_listed list s.levels) (target_of p) in
         let bound : IsBudget s.sb.mem (length s.log.list) leads budget = subst (IsBudget s.sb.mem (length s.log.list) leads) (sym (budget_is ∙ ap (budget_for s.sb.mem (length s.log.list)) total_is)) (computed s.sb.mem (length s.log.list) leads) in
         let open_over =
-        begun_is_open f y z.entries s.levels (extents_of s.memory.cursors.retired) (inputs s whole list pool parents z sealed_is entries_are parents_are) p space budget reads sound begun_of may_read
-        (lent s whole list pool parents z sealed_is entries_are parents_are on) here bound in
+        begun_is_open f y z.entries s.levels (extents_of s.memory.cursors.retired) (inputs s whole list pool parents marks z sealed_is entries_are parents_are) p space budget reads sound begun_of may_read
+        (lent s whole list pool parents marks z sealed_is entries_are parents_are on) here bound in
         subst (λ (n : ℕ). IsOpenOver f y (length s.log.list) z.entries s.levels (extents_of s.memory.cursors.retired) (record { promotion = p; space = space; budget = budget; sum = n })) (sym total_is) open_over
 
   none_taken : extents_taken p ≡ []

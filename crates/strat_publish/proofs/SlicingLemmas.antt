@@ -7,6 +7,7 @@ use Rattle.strat_array.specs.Progress.{ArrayProgress}
 use Rattle.strat_array.specs.Taking.{AreUsed}
 use Rattle.strat_arena.specs.declared.pool.PoolEntry.{PoolEntry}
 use Rattle.strat_base.proofs.ListFacts.{Among, among_right}
+use Rattle.strat_base.specs.Marks.{Marks}
 use Rattle.strat_base.specs.Tree.{Parents}
 use Rattle.strat_base.specs.declared.descriptors.ArrayDesc.{ArrayDesc}
 use Rattle.strat_base.specs.declared.descriptors.Extent.{Extent}
@@ -22,7 +23,7 @@ use Rattle.strat_promote.proofs.SliceLemmas.{stage_few}
 use Rattle.strat_promote.specs.Closing.{AreAllUsed}
 use Rattle.strat_promote.specs.Job.{Job, IsBadInput, arrays_to, blocks_listed}
 use Rattle.strat_promote.specs.Owned.{OwnsItsBlocks, extents_made}
-use Rattle.strat_promote.specs.Promotions.{FiltersStand, HasBegun, IsFed, IsItsJob, IsOpen, IsSliced, MatchProgress, ReadsFrom, ReadsOf, SamePromotion, entries_taken, extents_taken, level_of, target_of, writers_of}
+use Rattle.strat_promote.specs.Promotions.{FiltersStand, HasBegun, IsFed, IsItsJob, IsOpen, IsSliced, MatchProgress, ReadsFrom, ReadsOf, SamePromotion, entries_taken, extents_taken, level_of, target_of, reach_of, ReadsItsBlocks, writers_of}
 use Rattle.strat_promote.specs.Spaces.{HasAmpleRoom, TakesMore}
 use Rattle.strat_promote.specs.StateInputs.{job_of_state}
 use Rattle.strat_promote.specs.Steps.{Inputs}
@@ -138,29 +139,42 @@ made_taken q made owns =
     sym (joined (λ (w : ArrayProgress). w.extents) (writers_of q)) ∙ ap (λ (xs : List (List Extent)). flat_map (λ (es : List Extent). es) xs) (sym owns.owned) ∙ made_extents made
 
 -- a store with an open promotion, and what a slice of it did
-module _ (s : Held) (whole : IsConsistent s) (o : OpenPromotion) (going : MayGoOnWith s o) (list : ItemList) (pool : List PoolEntry) (parents : Parents)
+module _ (s : Held) (whole : IsConsistent s) (o : OpenPromotion) (going : MayGoOnWith s o) (list : ItemList) (pool : List PoolEntry) (parents : Parents) (marks : Marks)
     (entries_are : entries_held pool list ≡ oldest_entries s.memory) (parents_are : parents ≡ s.memory.parents) where
   abbrev pub given : Inputs
-  given = inputs s whole list pool parents going.sealed going.sealed_is entries_are parents_are
+  given = inputs s whole list pool parents marks going.sealed going.sealed_is entries_are parents_are
 
   lent_here : (on : List Level) → AreLent going.sealed.entries s.levels (sealed_state (contents_held s on)) given
-  lent_here on = lent s whole list pool parents going.sealed going.sealed_is entries_are parents_are on
+  lent_here on = lent s whole list pool parents marks going.sealed going.sealed_is entries_are parents_are on
 
   -- what it asks for
   pub asked : ListStands pool list → IsOpen o.promotion × IsFed o.promotion given × (1 ≤ o.budget) × AreAllUsed o.space (writers_of o.promotion)
-  asked stands = sliceable s whole list pool parents going.sealed going.sealed_is entries_are parents_are [] o going refl stands
+  asked stands = sliceable s whole list pool parents marks going.sealed going.sealed_is entries_are parents_are [] o going refl stands
 
   -- what it reads
   pub reads_given : ReadsFrom (arrays_to s.levels (target_of o.promotion)) o.promotion
   reads_given = reads_its_arrays (contents_held s []) going.sealed.entries s.levels o given (going.sliced []) (lent_here [])
 
+  -- it reads the levels down to the one that it fills
+  pub reach_is : reach_of o.promotion ≡ target_of o.promotion
+  reach_is =
+      let m = going.sliced [] in
+      let begun = m.begun.begun list (sized s whole list pool parents marks going.sealed going.sealed_is entries_are parents_are) in
+      ap (λ (k : Task). k.reach) m.same.task ∙ begun.reach ∙ sym (ap (λ (k : Task). k.target) m.same.task)
+
+  pub reads_on : {T E : Type 0} (before now : ℕ) (q : Promotion) (result : Result T E) → ReadsItsBlocks (arrays_to s.levels (reach_of o.promotion)) before now o.promotion q result
+      → ReadsItsBlocks (arrays_to s.levels (target_of o.promotion)) before now o.promotion q result
+  reads_on before now q result reads = subst (λ (j : ℕ). ReadsItsBlocks (arrays_to s.levels j) before now o.promotion q result) reach_is reads
+
   -- the block that it blames
-  pub blamed : (v : DiskView) (b : ℕ) → (ReadsFrom (arrays_to s.levels (target_of o.promotion)) o.promotion → Contains (blocks_listed (arrays_to s.levels (target_of o.promotion))) b)
-      × ((f : Image) → Exposes v f → AreUsed o.space (blocks_listed (arrays_to s.levels (target_of o.promotion))) → ReadsOf f (arrays_to s.levels (target_of o.promotion)) o.promotion
-      → IsBadInput f (arrays_to s.levels (target_of o.promotion)) b)
-      → Contains (blocks_listed (arrays_there s.levels)) b
+  abbrev Blames : DiskView → ℕ → ℕ → Type 0
+  Blames v b j =
+      (ReadsFrom (arrays_to s.levels j) o.promotion → Contains (blocks_listed (arrays_to s.levels j)) b)
+      × ((f : Image) → Exposes v f → AreUsed o.space (blocks_listed (arrays_to s.levels j)) → ReadsOf f (arrays_to s.levels j) o.promotion → IsBadInput f (arrays_to s.levels j) b)
+
+  pub blamed : (v : DiskView) (b : ℕ) → Blames v b (reach_of o.promotion) → Contains (blocks_listed (arrays_there s.levels)) b
       × ((f : Image) → Exposes v f → ReadsOf f (arrays_to s.levels (target_of o.promotion)) o.promotion → IsBadInput f (arrays_there s.levels) b)
-  blamed v b told = (
+  blamed v b reached = let told : Blames v b (target_of o.promotion) = subst (Blames v b) reach_is reached in (
     block_there s.levels (target_of o.promotion) b (told.0 reads_given),
     λ f exposed read.
         let all = arrays_used s o.space (extents_taken o.promotion) going.first going.apart whole in
@@ -205,7 +219,7 @@ module _ (s : Held) (whole : IsConsistent s) (o : OpenPromotion) (going : MayGoO
     has_made owns =
         let m = going.sliced [] in
         let target : target_of q ≡ target_of m.was = ap (λ (k : Task). k.target) (same.task ∙ m.same.task) in
-        let begun = m.begun.begun list (sized s whole list pool parents going.sealed going.sealed_is entries_are parents_are) in
+        let begun = m.begun.begun list (sized s whole list pool parents marks going.sealed going.sealed_is entries_are parents_are) in
         record {
           low = omega (arith, target, begun.target.deep);
           fits = omega (arith, target, begun.fits);
@@ -238,7 +252,7 @@ module _ (s : Held) (whole : IsConsistent s) (o : OpenPromotion) (going : MayGoO
       lent_x : AreLent at.sealed.entries s.levels (sealed_state x) given
       lent_x =
           subst (λ (y : Contents). AreLent at.sealed.entries s.levels (sealed_state y) given) (sym stands.held)
-          (lent s whole list pool parents at.sealed at.sealed_is entries_are parents_are x.levels)
+          (lent s whole list pool parents marks at.sealed at.sealed_is entries_are parents_are x.levels)
 
       over : IsOpenOver f x (length x.journal) at.sealed.entries s.levels at.others o
       over = subst (λ (n : ℕ). IsOpenOver f x n at.sealed.entries s.levels at.others o) long at.over
@@ -323,7 +337,7 @@ module _ (s : Held) (whole : IsConsistent s) (o : OpenPromotion) (going : MayGoO
         let f : Image = stands.stands.content in
         let lent_x : AreLent at.sealed.entries s.levels (sealed_state x) given =
         subst (λ (y : Contents). AreLent at.sealed.entries s.levels (sealed_state y) given) (sym stands.held)
-        (lent s whole list pool parents at.sealed at.sealed_is entries_are parents_are x.levels) in
+        (lent s whole list pool parents marks at.sealed at.sealed_is entries_are parents_are x.levels) in
         let job = job_open x s.levels at.over.going.was in
         let its = does_its_job f x (length s.log.list) at.sealed.entries s.levels at.others o given (stands.stands.reads f stands.stands.left) stands.stands.sound at.over lent_x in
         let asks = asked list_stands in

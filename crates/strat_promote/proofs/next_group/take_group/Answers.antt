@@ -9,4 +9,4 @@ returns-then-more-clause-found g c = λ more.
 pub returns-then-more-clause-ok : goal.returns-then-more-clause-ok
 returns-then-more-clause-ok g c = λ more f n told under.
     let found = c.in_ok-more.ensures.found more in
-    taken_kept _ c.args.purges n _ _ _ _ _ _ _ found.0 found.1 under (c.in_ok-more.ensures.ok more f told) (c.keep_needed.ensures.ok _ found.0 found.1.keyed)
+    taken_kept _ _ c.args.treatment n _ _ _ _ _ _ _ found.0 found.1 under (c.in_ok-more.ensures.ok more f told) (c.keep_needed.ensures.ok found.0 found.1.keyed)

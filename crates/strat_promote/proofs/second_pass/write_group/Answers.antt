@@ -1,4 +1,4 @@
-use Rattle.std.proofs.Common.{◌≡◌, ℕ, inl, inr, Bool, true, List, sym, ap, ◌∙◌, subst, arith}
+use Rattle.std.proofs.Common.{◌≡◌, ℕ, inl, inr, true, List, sym, ap, ◌∙◌, subst, arith}
 use Rattle.std.specs.Prelude.{IsErrOf}
 use Rattle.std.specs.List.{list_all}
 use Rattle.strat_arena.specs.Items.{entries_of}
@@ -18,6 +18,7 @@ use Rattle.strat_split.specs.Dealing.{IsSplitFor}
 use Rattle.strat_promote.specs.Filled.{AreReadyFor, DealsOut}
 use Rattle.strat_promote.specs.Job.{blocks_listed}
 use Rattle.strat_promote.specs.Taken.{TakesKept}
+use Rattle.strat_promote.specs.declared.treatment.Treatment.{Treatment}
 use Rattle.strat_promote.specs.Written.{IsAllWritten}
 use Rattle.strat_promote.specs.declared.obstacle.Obstacle.TheVariants.{Damaged, Device}
 use Rattle.strat_promote.proofs.BoundLemmas.{count_fits}
@@ -98,10 +99,10 @@ returns-clause-ok g c = λ _ f g' job first told tells within purges horizon use
     let old : List RunView = views_of g.R.Run.view c.args.writing.now.merger in
     let new : List RunView = views_of g.R.Run.view c.take_group.new.merger in
     let under : are_under job.horizon old ≡ true = subst (λ (n : ℕ). are_under n old ≡ true) (sym horizon) c.requires.kept.under in
-    let taken : TakesKept c.args.tree.now.parents job.purges job.horizon (lefts f old) (lefts f new) (entries_of c.take_group.new.arena.pairs c.take_group.new.group) =
-    subst (λ (p : Bool). TakesKept c.args.tree.now.parents p job.horizon (lefts f old) (lefts f new) (entries_of c.take_group.new.arena.pairs c.take_group.new.group)) (sym purges)
+    let taken : TakesKept c.args.tree.now.parents c.args.tree.now.marks job.treatment job.horizon (lefts f old) (lefts f new) (entries_of c.take_group.new.arena.pairs c.take_group.new.group) =
+    subst (λ (t : Treatment). TakesKept c.args.tree.now.parents c.args.tree.now.marks t job.horizon (lefts f old) (lefts f new) (entries_of c.take_group.new.arena.pairs c.take_group.new.group)) (sym purges)
     (c.in_ok-take_group.ensures.ok c.if-not-branch.false f job.horizon told under) in (
-      written_more g.R.Run.view g.met.R.Run.leaves_run f g' job first c.args.tree.now.parents c.take_group.new.arena.pairs c.take_group.new.group found.0
+      written_more g.R.Run.view g.met.R.Run.leaves_run f g' job first c.args.tree.now.parents c.args.tree.now.marks c.take_group.new.arena.pairs c.take_group.new.group found.0
           (g.D.Disk.view c.take_group.new.disk) (g.D.Disk.view c.deal_out.new.disk) c.args.writing.now (record { merger = c.take_group.new.merger; filling = c.deal_out.new.filling })
           writing within horizon (used_agree c.args.space.now (blocks_listed job.arrays) f g' used (c.deal_out.ensures.same.0.content f g' between tells)) taken
           (c.in_ok-take_group.ensures.len f told) reads.left.fewer (λ b is. reads.fewer f b told is) found.1.keyed c.deal_out.ensures.same.1

@@ -46,7 +46,7 @@ returns-then-may_pause-clause-same g c =
 pub returns-then-may_pause-clause-found : goal.returns-then-may_pause-clause-found
 returns-then-may_pause-clause-found g c =
     slice_reads c.args.task.now (inputs_of c.args.sources.now) (stage_consumed c.args.stage.now + c.args.budget) c.loop.counter (g.D.Disk.view c.args.disk.now) (g.D.Disk.view c.loop.disk) (g.D.Disk.view c.take_step.new.disk) c.args.space.now c.loop.space c.take_step.new.space c.args.stage.now c.loop.stage c.take_step.new.stage (g.D.Disk.faults c.args.disk.now) (g.D.Disk.faults c.loop.disk) (g.D.Disk.faults c.take_step.new.disk) (g.D.Disk.reads c.args.disk.now) (g.D.Disk.reads c.loop.disk) (g.D.Disk.reads c.take_step.new.disk) c.loop.invariant c.in_ok-level.ensures.room.1 c.in_ok-level.ensures.same
-    (λ f g' told tells used read. subst (λ (r : Step). MatchStep r (IsReadOf g' (arrays_to c.args.sources.now.levels.now c.args.task.now.target) c.take_step.new.stage) (λ level. Unit {0})) c.in-More.is (c.in_ok-level.ensures.damaged.1 f g' told tells used read))
+    (λ f g' told tells used read. subst (λ (r : Step). MatchStep r (IsReadOf g' (arrays_to c.args.sources.now.levels.now c.args.task.now.reach) c.take_step.new.stage) (λ level. Unit {0})) c.in-More.is (c.in_ok-level.ensures.damaged.1 f g' told tells used read))
 
 pub returns-then-may_pause-clause-ok : goal.returns-then-may_pause-clause-ok
 returns-then-may_pause-clause-ok g c =
@@ -60,7 +60,7 @@ loop-preserved g c =
     (subst (λ (r : Step). MatchStep r (IsSteady c.args.task.now.horizon c.take_step.new.stage) (λ made. OwnsItsBlocks (stage_writers c.take_step.new.stage) made)) c.in-More.is c.in_ok-level.ensures.kept) c.in_ok-level.ensures.room.0 c.in_ok-level.ensures.cause.ok
     (c.may_pause.ensures.none c.if-may_pause.false (stage_consumed c.args.stage.now) c.taken_in-start.ensures.ok)
     (λ f g' job told tells is used underway. subst (λ (r : Step). StepsOn f g' c.args.task.now job (stage_consumed c.loop.stage) c.take_step.new.stage r × GoesFurther c.loop.stage c.take_step.new.stage r) c.in-More.is (c.in_ok-level.ensures.ok f g' job told tells is used underway))
-    (λ f g' told tells used read. subst (λ (r : Step). MatchStep r (IsReadOf g' (arrays_to c.args.sources.now.levels.now c.args.task.now.target) c.take_step.new.stage) (λ level. Unit {0})) c.in-More.is (c.in_ok-level.ensures.damaged.1 f g' told tells used read))
+    (λ f g' told tells used read. subst (λ (r : Step). MatchStep r (IsReadOf g' (arrays_to c.args.sources.now.levels.now c.args.task.now.reach) c.take_step.new.stage) (λ level. Unit {0})) c.in-More.is (c.in_ok-level.ensures.damaged.1 f g' told tells used read))
     c.in_ok-level.ensures.reads.rest c.in_ok-level.ensures.reads.among
 
 pub returns-in_err-level-clause-fits : goal.returns-in_err-level-clause-fits

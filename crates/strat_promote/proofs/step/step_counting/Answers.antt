@@ -16,13 +16,13 @@ returns-clause-none g c = new_empty _ _ c.in_ok-writing.ensures.none
 
 pub returns-then-more-clause-ok : goal.returns-then-more-clause-ok
 returns-then-more-clause-ok g c = λ f job told task counting.
-    let did = c.in_ok-more.ensures.ok c.if-more.true f job told task.tree task.purges (task.horizon ∙ sym c.requires.kept.len) counting in
+    let did = c.in_ok-more.ensures.ok c.if-more.true f job told task.tree task.treatment (task.horizon ∙ sym c.requires.kept.len) counting in
     let some = did.1.some in
     (did.0, did.1.one, omega (arith, some))
 
 pub returns-in_err-more-clause-fits : goal.returns-in_err-more-clause-fits
 returns-in_err-more-clause-fits g c = λ unfit f job told task counting.
-    c.in_err-more.ensures.fits (err_of c.from_residual.result _ _ c.from_residual.ensures.1 unfit) f job told task.tree task.purges (task.horizon ∙ sym c.requires.kept.len) counting
+    c.in_err-more.ensures.fits (err_of c.from_residual.result _ _ c.from_residual.ensures.1 unfit) f job told task.tree task.treatment (task.horizon ∙ sym c.requires.kept.len) counting
 
 pub returns-clause-ok : goal.returns-clause-ok
 returns-clause-ok g c = λ f job told task counting.

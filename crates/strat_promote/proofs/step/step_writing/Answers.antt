@@ -49,7 +49,7 @@ returns-in_err-made-clause-damaged g c = (
 
 pub returns-then-more-clause-ok : goal.returns-then-more-clause-ok
 returns-then-more-clause-ok g c = λ f g' job told tells task used writing.
-    c.in_ok-more.ensures.ok c.if-more.true f g' job c.args.task.now.first told tells task.tree task.purges (task.horizon ∙ sym c.requires.kept.filling.labels) used writing
+    c.in_ok-more.ensures.ok c.if-more.true f g' job c.args.task.now.first told tells task.tree task.treatment (task.horizon ∙ sym c.requires.kept.filling.labels) used writing
 
 pub returns-clause-ok : goal.returns-clause-ok
 returns-clause-ok g c = λ f g' job told tells task used writing.

@@ -30,7 +30,7 @@ returns-in_ok-next-in-Counting-clause-same g c = reads_tear_none (is_free c.args
 
 pub returns-in_ok-step-in-Writing-clause-reads : goal.returns-in_ok-step-in-Writing-clause-reads
 returns-in_ok-step-in-Writing-clause-reads g c =
-    wrote_once (arrays_to c.args.sources.now.levels.now c.args.task.now.target) (g.D.Disk.reads c.args.disk.now) (g.D.Disk.reads c.step_writing.new.disk) c.args.stage.now _ c.step_writing.new.writing
+    wrote_once (arrays_to c.args.sources.now.levels.now c.args.task.now.reach) (g.D.Disk.reads c.args.disk.now) (g.D.Disk.reads c.step_writing.new.disk) c.args.stage.now _ c.step_writing.new.writing
     c.in-Writing.field-1 _ c.in-Writing.is c.step_writing.ensures.reads
 
 pub returns-in_ok-next-in-Counting-clause-room : goal.returns-in_ok-next-in-Counting-clause-room
@@ -66,7 +66,7 @@ pub returns-in_ok-stage-in-Begun-clause-damaged : goal.returns-in_ok-stage-in-Be
 returns-in_ok-stage-in-Begun-clause-damaged g c = (
   λ b bad. absurd (cc),
   λ f g' told tells used read.
-      subst (λ (h : Image). IsReadOf h (arrays_to c.args.sources.now.levels.now c.args.task.now.target) c.in_ok-stage-in-Begun.field-0) (exposed_once (g.D.Disk.view c.start_counting.new.disk) f g' (c.start_counting.ensures.found.same.same ∙ told) tells)
+      subst (λ (h : Image). IsReadOf h (arrays_to c.args.sources.now.levels.now c.args.task.now.reach) c.in_ok-stage-in-Begun.field-0) (exposed_once (g.D.Disk.view c.start_counting.new.disk) f g' (c.start_counting.ensures.found.same.same ∙ told) tells)
       (c.in_ok-stage-in-Begun.ensures.damaged f told),
 )
 
@@ -88,8 +88,8 @@ pub returns-in_err-next-in-Counting-clause-damaged : goal.returns-in_err-next-in
 returns-in_err-next-in-Counting-clause-damaged g c = (
   λ b bad.
       let named = c.in_err-next-in-Counting.ensures.damaged b (err_of c.from_residual-in_err-next-in-Counting.result _ _ c.from_residual-in_err-next-in-Counting.ensures.1 bad) in (
-        λ from. named.0 (subst (λ (s : Stage). IsReadFrom (arrays_to c.args.sources.now.levels.now c.args.task.now.target) s) c.in-Counting.is from),
-        λ f told read. named.1 f told (subst (λ (s : Stage). IsReadOf f (arrays_to c.args.sources.now.levels.now c.args.task.now.target) s) c.in-Counting.is read),
+        λ from. named.0 (subst (λ (s : Stage). IsReadFrom (arrays_to c.args.sources.now.levels.now c.args.task.now.reach) s) c.in-Counting.is from),
+        λ f told read. named.1 f told (subst (λ (s : Stage). IsReadOf f (arrays_to c.args.sources.now.levels.now c.args.task.now.reach) s) c.in-Counting.is read),
       ),
   none_kept c.from_residual-in_err-next-in-Counting.result _ _ c.from_residual-in_err-next-in-Counting.ensures.1,
 )
@@ -105,17 +105,17 @@ returns-in_ok-next-in-Counting-clause-damaged g c = (
   λ f g' told tells used read.
       let next = c.in_ok-next-in-Counting.next in
       let same = exposed_once (g.D.Disk.view c.step_counting.new.disk) f g' (c.in_ok-next-in-Counting.ensures.same.same ∙ told) tells in
-      subst (λ (s : Stage). IsReadOf g' (arrays_to c.args.sources.now.levels.now c.args.task.now.target) s) (sym (turned_is c.step_counting.new.counting next (stage.Counting c.step_counting.new.counting) c.enter_stage.new.stage refl c.enter_stage.ensures.ok))
-      (subst (λ (h : Image). IsReadOf h (arrays_to c.args.sources.now.levels.now c.args.task.now.target) (stage_after c.step_counting.new.counting next)) same
-      (c.in_ok-next-in-Counting.ensures.found.1 f told (subst (λ (s : Stage). IsReadOf f (arrays_to c.args.sources.now.levels.now c.args.task.now.target) s) c.in-Counting.is read))),
+      subst (λ (s : Stage). IsReadOf g' (arrays_to c.args.sources.now.levels.now c.args.task.now.reach) s) (sym (turned_is c.step_counting.new.counting next (stage.Counting c.step_counting.new.counting) c.enter_stage.new.stage refl c.enter_stage.ensures.ok))
+      (subst (λ (h : Image). IsReadOf h (arrays_to c.args.sources.now.levels.now c.args.task.now.reach) (stage_after c.step_counting.new.counting next)) same
+      (c.in_ok-next-in-Counting.ensures.found.1 f told (subst (λ (s : Stage). IsReadOf f (arrays_to c.args.sources.now.levels.now c.args.task.now.reach) s) c.in-Counting.is read))),
 )
 
 pub returns-in_err-step-in-Writing-clause-damaged : goal.returns-in_err-step-in-Writing-clause-damaged
 returns-in_err-step-in-Writing-clause-damaged g c = (
   λ b bad.
       let named = c.in_err-step-in-Writing.ensures.damaged.0 b (err_of c.from_residual-in_err-step-in-Writing.result _ _ c.from_residual-in_err-step-in-Writing.ensures.1 bad) in (
-        λ from. (subst (λ (s : Stage). IsReadFrom (arrays_to c.args.sources.now.levels.now c.args.task.now.target) s) c.in-Writing.is from) b named.0,
-        λ f told read. named.1 f (arrays_to c.args.sources.now.levels.now c.args.task.now.target) told (subst (λ (s : Stage). IsReadOf f (arrays_to c.args.sources.now.levels.now c.args.task.now.target) s) c.in-Writing.is read),
+        λ from. (subst (λ (s : Stage). IsReadFrom (arrays_to c.args.sources.now.levels.now c.args.task.now.reach) s) c.in-Writing.is from) b named.0,
+        λ f told read. named.1 f (arrays_to c.args.sources.now.levels.now c.args.task.now.reach) told (subst (λ (s : Stage). IsReadOf f (arrays_to c.args.sources.now.levels.now c.args.task.now.reach) s) c.in-Writing.is read),
       ),
   none_kept c.from_residual-in_err-step-in-Writing.result _ _ c.from_residual-in_err-step-in-Writing.ensures.1,
 )
@@ -127,13 +127,13 @@ returns-in_err-step-in-Writing-clause-fits g c = λ unfit f job told task underw
 
 pub returns-in_err-step-in-Writing-clause-reads : goal.returns-in_err-step-in-Writing-clause-reads
 returns-in_err-step-in-Writing-clause-reads g c =
-    wrote_once (arrays_to c.args.sources.now.levels.now c.args.task.now.target) (g.D.Disk.reads c.args.disk.now) (g.D.Disk.reads c.step_writing.new.disk) c.args.stage.now _ c.step_writing.new.writing
+    wrote_once (arrays_to c.args.sources.now.levels.now c.args.task.now.reach) (g.D.Disk.reads c.args.disk.now) (g.D.Disk.reads c.step_writing.new.disk) c.args.stage.now _ c.step_writing.new.writing
     c.in-Writing.field-1 _ c.in-Writing.is c.step_writing.ensures.reads
 
 pub returns-in_ok-step-in-Writing-clause-damaged : goal.returns-in_ok-step-in-Writing-clause-damaged
 returns-in_ok-step-in-Writing-clause-damaged g c = (
   λ b bad. absurd (cc),
-  λ f g' told tells used read. (c.in_ok-step-in-Writing.ensures.damaged.1 f g' (arrays_to c.args.sources.now.levels.now c.args.task.now.target) told tells used (subst (λ (s : Stage). IsReadOf f (arrays_to c.args.sources.now.levels.now c.args.task.now.target) s) c.in-Writing.is read)),
+  λ f g' told tells used read. (c.in_ok-step-in-Writing.ensures.damaged.1 f g' (arrays_to c.args.sources.now.levels.now c.args.task.now.reach) told tells used (subst (λ (s : Stage). IsReadOf f (arrays_to c.args.sources.now.levels.now c.args.task.now.reach) s) c.in-Writing.is read)),
 )
 
 pub returns-in_ok-step-in-Writing-clause-filters : goal.returns-in_ok-step-in-Writing-clause-filters
