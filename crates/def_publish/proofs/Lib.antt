@@ -15,6 +15,9 @@ pub mod PartLemmas
 pub mod NextLemmas
 pub mod BelongLemmas
 pub mod LongLemmas
+pub mod KeptLemmas
+pub mod CompactingLemmas
+pub mod CompactedLemmas
 pub mod OccupiedLemmas
 pub mod ComputedLemmas
 pub mod TurnLemmas

@@ -5,5 +5,7 @@ pub mod Appending
 pub mod Batches
 pub mod Publication
 pub mod Next
+pub mod Compacting
+pub mod Kept
 pub mod Occupied
 pub mod Worked

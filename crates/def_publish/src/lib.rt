@@ -3,6 +3,7 @@
 #![tactic(auto)]
 
 pub mod appending;
+pub mod compaction;
 pub mod free_blocks;
 pub mod next;
 pub mod occupied;
