@@ -30,7 +30,7 @@ use Rattle.def_state.specs.State.{State, versions_of, marks_of, map_at, changes_
 use Rattle.def_state.proofs.SoundLemmas.{sound_tree, ordered}
 use Rattle.def_state.proofs.SpaceLemmas.{deep_least}
 use Rattle.def_publish.specs.Contents.{Contents, contents_state}
-use Rattle.def_publish.specs.Compacting.{IsCompactLevel, IsCompactNextOf, IsSoundCompactNext, as_written, state_compacted, IsCompaction, entries_from, CountsTogether}
+use Rattle.def_publish.specs.Compacting.{IsCompactLevel, IsCompactNextOf, IsSoundCompactNext, as_written, state_compacted, IsCompaction, newer_entries, CountsTogether}
 use Rattle.def_publish.specs.Kept.{kept, ShowsLittle}
 use Rattle.def_publish.specs.Next.{IsNextOf, arrays_made}
 use Rattle.def_publish.specs.Occupied.{IsSpaceOf, UsesMore, extents_of, arrays_in}
@@ -141,7 +141,7 @@ module _ (old new : Contents) (made : Option LevelDesc) (is : IsCompactNextOf ol
       by rest true = omega (arith, rest, sum_by-cons n x (filter p xs), sum_by-cons n x xs)
       by rest false = omega (arith, rest, sum_by-cons n x xs)
 
-  pub entries_new : (first : ℕ) → entries_from first new.chained.manifest ≤ sum_by (λ a. a.entries) (arrays_made made)
+  pub entries_new : (first : ℕ) → newer_entries first new.chained.manifest ≤ sum_by (λ a. a.entries) (arrays_made made)
   entries_new first =
       let arrays : descriptors new.chained.manifest ≡ arrays_made made = ap (flat_map (λ (l : LevelDesc). l.arrays)) (is.levels_are ∙ sym (append-nil (option_to_list made))) ∙ made_by made [] ∙ append-nil (arrays_made made) in
       omega (arith, filtered_few (λ (a : ArrayDesc). leb first a.id) (λ (a : ArrayDesc). a.entries) (descriptors new.chained.manifest), ap (sum_by (λ (a : ArrayDesc). a.entries)) arrays)

@@ -25,7 +25,7 @@ use Rattle.def_recovery.proofs.PassedLemmas.{belonging_tests}
 use Rattle.def_state.specs.Sound.{IsSound}
 use Rattle.def_state.specs.State.{State, versions_of, marks_of, updates_of, changes_of}
 use Rattle.def_publish.specs.Contents.{Contents, contents_state, sealed_state, sealed_part}
-use Rattle.def_publish.specs.Compacting.{IsCompactedFrom, IsCompactNextOf, IsSoundCompactNext, LeavesPublication, MayBeCompactNext, as_written, state_compacted, IsCompaction}
+use Rattle.def_publish.specs.Compacting.{IsCompactedFrom, IsCompactNextOf, IsSoundCompactNext, LeavesCheckpoint, MayBeCompactNext, as_written, state_compacted, IsCompaction}
 use Rattle.def_publish.specs.Next.{arrays_made, AreNewArrays, IsNextOf, IsSoundNext, MayBeNext, HasManifest}
 use Rattle.def_publish.specs.Occupied.{IsSpaceOf}
 use Rattle.def_publish.specs.Publication.{Succeeds, IsPrepared, IsPromotedFrom}
@@ -169,8 +169,8 @@ module _ (old new : Contents) (made : Option LevelDesc) where
     changes_are : new.chained.manifest.changes ≡ changes_of (sealed_state old)
     changes_are = (compact_promoted m.next.from).changes
 
-    -- there are few publications for the changes where the old contents left room for one
-    pub compact_few : LeavesPublication old → has_few_publications new.sb new.chained.manifest ≡ true
+    -- there are few checkpoints for the changes where the old contents left room for one
+    pub compact_few : LeavesCheckpoint old → has_few_publications new.sb new.chained.manifest ≡ true
     compact_few room =
         few_from new.sb new.chained.manifest
         (omega (arith, m.next.generation, room.generation, changes_are))
@@ -178,7 +178,7 @@ module _ (old new : Contents) (made : Option LevelDesc) where
         (omega (arith, m.next.from.written, room.written, changes_are))
         (omega (arith, m.next.compacted, entries_few, room.compacted, changes_are))
 
-    then_few : LeavesPublication old → has_few_publications then.sb then.chained.manifest ≡ true
+    then_few : LeavesCheckpoint old → has_few_publications then.sb then.chained.manifest ≡ true
     then_few room =
         few_from then.sb then.chained.manifest
         (omega (arith, m.next.generation, room.generation, changes_are))
@@ -271,8 +271,8 @@ compact_prepared v w old new made s others stands f m says space has reads durab
     let c : Image = stands.content in
     synced_prepares v w old new stands (compact_succeed old new made f c m s others space c has says) (compact_lie old new made f c m s others space c has m.follows.arrays) reads durable leaves
 
--- contents with a change in their journal leave room for a publication
-pub changed_leaves : (f : Image) (x : Contents) → ReadsAs f x → 1 ≤ length x.journal → LeavesPublication x
+-- contents with a change in their journal leave room for a checkpoint
+pub changed_leaves : (f : Image) (x : Contents) → ReadsAs f x → 1 ≤ length x.journal → LeavesCheckpoint x
 changed_leaves f x reads some =
     let counts = few_parts x.sb x.chained.manifest (pass_at (belonging_tests x.sb x.chained) 7 reads.lies.belonging) in
     let limits = (newest_fits f x.slot x.sb reads.newest).mem_least in
@@ -285,8 +285,8 @@ changed_leaves f x reads some =
     }
 
 module _ (f g : Image) (old new : Contents) (made : Option LevelDesc) (taken kept : List LevelDesc) (m : IsSoundNext f g old new made taken kept) where
-  -- and so do those that were published once since two changes came
-  pub published_leaves : 2 ≤ length old.journal → LeavesPublication new
+  -- and so do those of a checkpoint behind two changes
+  pub published_leaves : 2 ≤ length old.journal → LeavesCheckpoint new
   published_leaves some =
       let was = few_parts old.sb old.chained.manifest (next.was_few f g old new made taken kept m) in
       let grown = next.changes_grown f g old new made taken kept m 2 (omega arith) some in
@@ -298,7 +298,7 @@ module _ (f g : Image) (old new : Contents) (made : Option LevelDesc) (taken kep
       }
 
   -- where they do, the next contents of a promotion may be those too
-  pub leaving_next : LeavesPublication old → MayBeNext f g old new made taken kept
+  pub leaving_next : LeavesCheckpoint old → MayBeNext f g old new made taken kept
   leaving_next room =
       let changes = m.next.promoted.changes in
       record {

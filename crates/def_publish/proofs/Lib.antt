@@ -22,4 +22,5 @@ pub mod OccupiedLemmas
 pub mod ComputedLemmas
 pub mod TurnLemmas
 pub mod WorkedLemmas
+pub mod CompactionsLemmas
 pub mod BatchLemmas

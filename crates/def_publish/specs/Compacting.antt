@@ -63,19 +63,19 @@ pub record IsSoundCompactNext (f g : Image) (old new : Contents) (made : Option 
   pub is_sound : IsSound (contents_state new)
   pub fresh : AreNewArrays old.chained.manifest.next_array (arrays_made made)
 
--- contents leave room for one publication more: with the changes up to their seal there are still few enough
--- publications, arrays, and entries written and compacted, whatever the next one makes
-pub record LeavesPublication (x : Contents) : Type 0 where
+-- contents leave room for one checkpoint more: with the changes up to their seal there are still few enough
+-- checkpoints, arrays, and entries written and compacted, whatever the next one makes
+pub record LeavesCheckpoint (x : Contents) : Type 0 where
   pub generation : x.sb.generation ≤ changes_of (sealed_state x)
   pub next_array : x.chained.manifest.next_array + 16384 ≤ 16384 * changes_of (sealed_state x) + 1
   pub written : x.chained.manifest.written + 33554432 ≤ 33554432 * changes_of (sealed_state x)
   pub compacted : x.chained.manifest.compacted + 33554432 ≤ 33554432 * changes_of (sealed_state x)
 
--- they may be the next: they follow so, and the old contents leave room for a publication
+-- they may be the next: they follow so, and the old contents leave room for a checkpoint
 pub record MayBeCompactNext (f g : Image) (old new : Contents) (made : Option LevelDesc)
     : Type 0 where
   pub follows : IsSoundCompactNext f g old new made
-  pub room : LeavesPublication old
+  pub room : LeavesCheckpoint old
 
 -- the contents that a promotion into the same level would leave: the entries of the level count as written
 abbrev pub as_written : Contents → Contents → Option LevelDesc → Contents
@@ -106,11 +106,11 @@ pub record IsCompaction (g : Image) (old new : Contents) (made : Option LevelDes
       (map_at (contents_state old))
 
 -- the entries of a manifest's arrays that are numbered from a number on
-abbrev pub entries_from : ℕ → Manifest → ℕ
-entries_from first m = sum_by (λ a. a.entries) (filter (λ a. nat_le first a.id) (descriptors m))
+abbrev pub newer_entries : ℕ → Manifest → ℕ
+newer_entries first m = sum_by (λ a. a.entries) (filter (λ a. nat_le first a.id) (descriptors m))
 
--- a manifest counts what was written and compacted since another, in one publication or two: together at least the
+-- a manifest counts what was written and compacted since another, in one checkpoint or two: together at least the
 -- entries of its arrays that were not numbered then
 abbrev pub CountsTogether : Manifest → Manifest → Type 0
 CountsTogether old new =
-    old.written + old.compacted + entries_from old.next_array new ≤ new.written + new.compacted
+    old.written + old.compacted + newer_entries old.next_array new ≤ new.written + new.compacted

@@ -9,3 +9,4 @@ pub mod Compacting
 pub mod Kept
 pub mod Occupied
 pub mod Worked
+pub mod Compactions

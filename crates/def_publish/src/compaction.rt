@@ -20,7 +20,7 @@ ghost use Rattle.def_recovery.specs.Opening.{belongs, has_own_blocks, has_few_pu
 ghost use Rattle.def_split.specs.Plan.{Plan};
 ghost use Rattle.def_state.specs.Sound.{IsOrdered, IsSound};
 ghost use Rattle.def_state.specs.State.{State, versions_of, marks_of, map_at, stored, IsPaid};
-ghost use Rattle.def_publish.specs.Compacting.{IsCompactedFrom, IsCompactNextOf, IsSoundCompactNext, LeavesPublication, MayBeCompactNext, IsCompaction, CountsTogether, as_written, state_compacted};
+ghost use Rattle.def_publish.specs.Compacting.{IsCompactedFrom, IsCompactNextOf, IsSoundCompactNext, LeavesCheckpoint, MayBeCompactNext, IsCompaction, CountsTogether, as_written, state_compacted};
 ghost use Rattle.def_publish.specs.Contents.{Contents, contents_state};
 ghost use Rattle.def_publish.specs.Kept.{kept, ShowsLittle};
 ghost use Rattle.def_publish.specs.Next.{IsNextOf, IsSoundNext, MayBeNext, AreNewArrays, HasManifest, arrays_made};
@@ -79,20 +79,20 @@ pub fn compacted_contents_mean_the_same_in_little()
         → IsPaid (contents_state new) }
 {}
 
-/// Contents leave room for a publication if their journal has a change. So do those that were just published, if two
-/// changes were in front of that: of two publications in a row the second needs no change. And where contents do, the next
+/// Contents leave room for a checkpoint if their journal has a change. So do those that a checkpoint just left, if two
+/// changes were in front of it: of two checkpoints in a row the second needs no change. And where contents do, the next
 /// ones may be those of a promotion, or of a compaction.
-pub fn contents_leave_room_for_a_publication()
+pub fn contents_leave_room_for_a_checkpoint()
     ensures ok { (f : Image) (x : Contents) → ReadsAs f x → 1 ≤ length x.journal
-        → LeavesPublication x }
+        → LeavesCheckpoint x }
     ensures twice { (f g : Image) (old new : Contents) (made : Option LevelDesc)
         (taken kept : List LevelDesc) → IsSoundNext f g old new made taken kept
-        → 2 ≤ length old.journal → LeavesPublication new }
+        → 2 ≤ length old.journal → LeavesCheckpoint new }
     ensures next { (f g : Image) (old new : Contents) (made : Option LevelDesc)
         (taken kept : List LevelDesc) → IsSoundNext f g old new made taken kept
-        → LeavesPublication old → MayBeNext f g old new made taken kept }
+        → LeavesCheckpoint old → MayBeNext f g old new made taken kept }
     ensures fits { (f g : Image) (old new : Contents) (made : Option LevelDesc)
-        → IsSoundCompactNext f g old new made → LeavesPublication old
+        → IsSoundCompactNext f g old new made → LeavesCheckpoint old
         → IsTrue (has_few_publications new.sb new.chained.manifest) }
 {}
 
@@ -167,7 +167,7 @@ pub fn a_compaction_gives_the_old_blocks_back()
 {}
 
 /// What is written and compacted grows together by at least the entries of the arrays that are new, in a compaction, and
-/// in one right behind the publication of a promotion.
+/// in one right behind the checkpoint of a promotion.
 pub fn a_compaction_counts_what_it_writes()
     ensures ok { (old new : Contents) (made : Option LevelDesc) → IsCompactNextOf old new made
         → CountsTogether old.chained.manifest new.chained.manifest }

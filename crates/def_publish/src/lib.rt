@@ -4,6 +4,7 @@
 
 pub mod appending;
 pub mod compaction;
+pub mod compactions;
 pub mod free_blocks;
 pub mod next;
 pub mod occupied;

@@ -1,5 +1,5 @@
 use Rattle.def_publish.proofs.CompactingLemmas.{changed_leaves, published_leaves, leaving_next, compact_few}
-use Rattle.def_publish.proofs.compaction.contents_leave_room_for_a_publication.Goals as goal
+use Rattle.def_publish.proofs.compaction.contents_leave_room_for_a_checkpoint.Goals as goal
 
 pub returns : goal.returns
 returns c = record {
