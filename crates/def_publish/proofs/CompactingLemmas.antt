@@ -3,7 +3,7 @@ use Rattle.std.proofs.Common.{◌≡◌, ◌≤◌, ◌<◌, ◌-◌, ◌^◌, �
 use Rattle.std.specs.List.{sum_by}
 use Rattle.std.specs.Option.{option_to_list}
 use Rattle.std.proofs.lemmas.Bool.{lt-ltb}
-use Rattle.std.proofs.lemmas.List.{append-nil, length-take}
+use Rattle.std.proofs.lemmas.List.{append-nil}
 use Rattle.strat_base.specs.Numbers.{be}
 use Rattle.strat_base.specs.declared.descriptors.Extent.{Extent}
 use Rattle.strat_base.specs.declared.descriptors.LevelDesc.{LevelDesc}
@@ -24,7 +24,7 @@ use Rattle.def_recovery.proofs.OpeningLemmas.{manifest_tests}
 use Rattle.def_recovery.proofs.PassedLemmas.{belonging_tests}
 use Rattle.def_state.specs.Sound.{IsSound}
 use Rattle.def_state.specs.State.{State, versions_of, marks_of, updates_of, changes_of}
-use Rattle.def_publish.specs.Contents.{Contents, contents_state, sealed_state, sealed_part}
+use Rattle.def_publish.specs.Contents.{Contents, contents_state, sealed_state}
 use Rattle.def_publish.specs.Compacting.{IsCompactedFrom, IsCompactNextOf, IsSoundCompactNext, LeavesCheckpoint, MayBeCompactNext, as_written, state_compacted, IsCompaction}
 use Rattle.def_publish.specs.Next.{arrays_made, AreNewArrays, IsNextOf, IsSoundNext, MayBeNext, HasManifest}
 use Rattle.def_publish.specs.Occupied.{IsSpaceOf}
@@ -35,7 +35,6 @@ use Rattle.def_publish.proofs.LongLemmas.{bytes_few, bytes_some, next_succeeds}
 use Rattle.def_publish.proofs.NextLemmas as next
 use Rattle.def_publish.proofs.NextLemmas.{pass_more, pass_none, few_parts, few_from}
 use Rattle.def_publish.proofs.OccupiedLemmas.{own_blocks}
-use Rattle.def_publish.proofs.PlaceLemmas.{newest_fits}
 use Rattle.def_publish.proofs.PromotedLemmas.{sealed_whole, none_later, promoted_state, promoted_whole, lies_written}
 use Rattle.def_publish.proofs.PublishLemmas.{synced_prepares}
 
@@ -270,19 +269,6 @@ pub compact_prepared : (v w : DiskView) (old new : Contents) (made : Option Leve
 compact_prepared v w old new made s others stands f m says space has reads durable leaves =
     let c : Image = stands.content in
     synced_prepares v w old new stands (compact_succeed old new made f c m s others space c has says) (compact_lie old new made f c m s others space c has m.follows.arrays) reads durable leaves
-
--- contents with a change in their journal leave room for a checkpoint
-pub changed_leaves : (f : Image) (x : Contents) → ReadsAs f x → 1 ≤ length x.journal → LeavesCheckpoint x
-changed_leaves f x reads some =
-    let counts = few_parts x.sb x.chained.manifest (pass_at (belonging_tests x.sb x.chained) 7 reads.lies.belonging) in
-    let limits = (newest_fits f x.slot x.sb reads.newest).mem_least in
-    let sealed : 1 ≤ length (sealed_part x) = omega (arith, length-take x.sb.mem x.journal, some, limits) in
-    record {
-      generation = omega (arith, counts.0, sealed);
-      next_array = omega (arith, counts.1, sealed);
-      written = omega (arith, counts.2, sealed);
-      compacted = omega (arith, counts.3, sealed);
-    }
 
 module _ (f g : Image) (old new : Contents) (made : Option LevelDesc) (taken kept : List LevelDesc) (m : IsSoundNext f g old new made taken kept) where
   -- and so do those of a checkpoint behind two changes

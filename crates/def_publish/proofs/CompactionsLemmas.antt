@@ -1,5 +1,5 @@
 -- The disks before compactions that are written out.
-use Rattle.std.proofs.Common.{◌≡◌, ◌≢◌, ◌<◌, ℕ, zero, suc, [], ◌∷◌, Some, refl, sym, ◌∙◌, subst, arith}
+use Rattle.std.proofs.Common.{◌≡◌, ◌≢◌, ◌<◌, ◌≤◌, ◌*◌, ℕ, zero, suc, [], ◌∷◌, Some, refl, sym, ◌∙◌, subst, arith}
 use Rattle.strat_base.specs.Change.{Put, Clone, change_in}
 use Rattle.strat_base.specs.EntryBytes.{entry_in}
 use Rattle.strat_base.specs.Numbers.{number, be}
@@ -14,15 +14,18 @@ use Rattle.def_bytes.specs.Records.{records}
 use Rattle.def_bytes.specs.SuperBlock.{slot_of, slot_in, zeros}
 use Rattle.def_promote.specs.Promoted.{SaysTheSame}
 use Rattle.def_state.specs.Sound.{IsSound}
-use Rattle.def_state.specs.State.{deep, map_at}
+use Rattle.def_state.specs.State.{State, deep, map_at, stored}
 use Rattle.def_state.proofs.BreachLemmas.{sound_from_none}
 use Rattle.def_publish.specs.Contents.{contents_state}
 use Rattle.def_publish.specs.Compacting.{IsCompactNextOf, LeavesCheckpoint, MayBeCompactNext, IsCompaction}
-use Rattle.def_publish.specs.Compactions.{repeated_logged, repeated_made, repeated_next, repeated_disk, chain_compact, chain_compacted, compacted_disk, dropped_logged, dropped_made, dropped_next}
+use Rattle.def_publish.specs.Compactions.{repeated_logged, repeated_made, repeated_next, repeated_disk, chain_compact, chain_compacted, compacted_disk, dropped_logged, dropped_made, dropped_next, chain_at_once, wasteful_logged, wasteful_disk}
+use Rattle.def_publish.specs.Kept.{kept, ShowsLittle}
 use Rattle.def_publish.specs.Next.{HasManifest}
 use Rattle.def_publish.specs.Publication.{IsPrepared}
 use Rattle.def_publish.specs.Standing.{LiesIn, ReadsAs, ContentsStand}
-use Rattle.def_publish.specs.Worked.{resting, chain_next}
+use Rattle.def_publish.specs.Worked.{resting, chain_logged, chain_next, chain_made}
+use Rattle.def_publish.proofs.PartsLemmas.{reads_state}
+use Rattle.def_meaning.specs.StateTable.{table_of}
 
 -- a put that is repeated
 repeated_reads : ReadsAs repeated_disk repeated_logged
@@ -358,3 +361,56 @@ dropped_compacts = record {
   levels_are = refl;
   level = record { number = refl; horizon = refl };
 }
+
+-- a full journal at once
+pub at_once_compacts : IsCompactNextOf chain_logged chain_at_once chain_made
+unfolding deep
+at_once_compacts = record {
+  slot = refl;
+  generation = refl;
+  region = refl;
+  from = record {
+    whole = omega arith;
+    mem = refl;
+    changes_max = refl;
+    versions_max = refl;
+    format = refl;
+    parents = refl;
+    marks = refl;
+    updates = refl;
+    changes = refl;
+    written = refl;
+    journal = refl;
+  };
+  compacted = refl;
+  next_array = refl;
+  levels_are = refl;
+  level = record { number = refl; horizon = refl };
+}
+
+-- an entry that is stored twice for the one that is kept, and one that is stored three times
+pub repeated_shows : ShowsLittle repeated_disk
+unfolding climb
+repeated_shows = record { state = contents_state repeated_logged; reads = reads_state repeated_disk repeated_logged repeated_reads; little = omega arith }
+
+wasteful_reads : ReadsAs wasteful_disk wasteful_logged
+unfolding number be window over slot_of slot_in zeros change_in all_pass read_number read_items read_extent read_array read_level read_mark read_only read_manifest manifest_in manifest_bytes chain_from records
+wasteful_reads = record {
+  newest = refl;
+  lies = record { chain = refl; belonging = refl; arrays = refl };
+  logged = record {
+    logged = record { change = Put 0 (97 ∷ []) (49 ∷ []); block = 2 } ∷ record { change = Clone 0; block = 2 } ∷ record { change = Put 1 (97 ∷ []) (49 ∷ []); block = 2 } ∷ record { change = Put 1 (97 ∷ []) (49 ∷ []); block = 2 } ∷ [];
+    read = refl;
+    accepted = refl;
+  };
+}
+
+wasteful_much : stored (contents_state wasteful_logged) ≤ 2 * kept (table_of (contents_state wasteful_logged)) → ⊥
+unfolding climb
+wasteful_much n = let bad : 3 ≤ 2 = n in omega (arith, bad)
+
+pub wasteful_shows : ShowsLittle wasteful_disk → ⊥
+wasteful_shows shows =
+    let e : Some (contents_state wasteful_logged) ≡ Some shows.state = sym (reads_state wasteful_disk wasteful_logged wasteful_reads) ∙ shows.reads in
+    let same : contents_state wasteful_logged ≡ shows.state = cc in
+    wasteful_much (subst (λ (s : State). stored s ≤ 2 * kept (table_of s)) (sym same) shows.little)

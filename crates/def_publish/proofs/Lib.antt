@@ -16,6 +16,7 @@ pub mod NextLemmas
 pub mod BelongLemmas
 pub mod LongLemmas
 pub mod KeptLemmas
+pub mod RoomLemmas
 pub mod CompactingLemmas
 pub mod CompactedLemmas
 pub mod OccupiedLemmas

@@ -9,10 +9,9 @@ use Rattle.def_crash.specs.Image.{Image, patch}
 use Rattle.def_bytes.specs.Manifest.{Manifest, manifest_bytes}
 use Rattle.def_bytes.specs.Records.{records_bytes}
 use Rattle.def_recovery.specs.Disks.{formatted, new_super, chain_manifest, chain_super, array_block}
-use Rattle.def_state.specs.State.{State, fresh_state}
 use Rattle.def_state.specs.Worked.{array_of, first_level}
-use Rattle.def_publish.specs.Contents.{Contents}
-use Rattle.def_publish.specs.Worked.{new_contents, blocks_from, published_disk}
+use Rattle.def_publish.specs.Contents.{Contents, with_journal}
+use Rattle.def_publish.specs.Worked.{new_contents, chain_logged, chain_next, blocks_from, published_disk}
 
 -- a level of one array, whose entries are all leads and all live at some version, in one block
 abbrev pub level_in : (number horizon id entries block : ℕ) → List ℕ → LevelDesc
@@ -141,10 +140,22 @@ dropped_next = record {
   levels = first_level 2 (array_of 1 (0 ∷ 1 ∷ []) (says 97 0 49 ∷ says 99 0 51 ∷ []) 2 2 2 ∷ []);
 }
 
--- a put of a and the same at its clone and at the clone of that, none of which was compacted
-abbrev pub thrice_put : State
-thrice_put = record (fresh_state 8 100 10) {
+-- a full journal, compacted at once
+abbrev pub chain_at_once : Contents
+chain_at_once = with_manifest (λ m. record m { written = 0; compacted = 1 }) chain_next
+
+-- with a change more than a region takes
+abbrev pub chain_longer : Contents
+chain_longer = with_journal chain_logged (chain_logged.journal ++ Clone 3 ∷ [])
+
+-- a put that is repeated twice in the journal
+abbrev pub wasteful_logged : Contents
+wasteful_logged = record new_contents {
   journal =
-      Put 0 (97 ∷ []) (49 ∷ []) ∷ Clone 0 ∷ Put 1 (97 ∷ []) (49 ∷ []) ∷ Clone 1
-      ∷ Put 2 (97 ∷ []) (49 ∷ []) ∷ [];
+      Put 0 (97 ∷ []) (49 ∷ []) ∷ Clone 0
+      ∷ Put 1 (97 ∷ []) (49 ∷ []) ∷ Put 1 (97 ∷ []) (49 ∷ []) ∷ [];
 }
+
+-- a disk with it
+abbrev pub wasteful_disk : Image
+wasteful_disk = patch formatted 8192 (records_bytes wasteful_logged.journal)

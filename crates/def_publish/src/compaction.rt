@@ -10,7 +10,8 @@ ghost use Rattle.def_crash.specs.Moments.{OnlyReads, IsDurable};
 ghost use Rattle.strat_extent.specs.Blocks.{SpaceView};
 ghost use Rattle.def_bytes.specs.Arrays.{all_some, blocks_of};
 ghost use Rattle.def_bytes.specs.Layout.{shortest_manifest};
-ghost use Rattle.def_bytes.specs.Manifest.{SpellsManifest, manifest_bytes};
+ghost use Rattle.def_bytes.specs.Manifest.{SpellsManifest, is_lawful_manifest, manifest_bytes};
+ghost use Rattle.def_bytes.specs.SuperBlock.{IsLawful};
 ghost use Rattle.def_meaning.specs.StateTable.{table_of};
 ghost use Rattle.def_promote.specs.Compacted.{Compacts, compact_level};
 ghost use Rattle.def_promote.specs.Kept.{kept_over};
@@ -18,6 +19,7 @@ ghost use Rattle.def_promote.specs.Promoted.{SaysTheSame};
 ghost use Rattle.def_recovery.specs.Opened.{level_on};
 ghost use Rattle.def_recovery.specs.Opening.{belongs, has_own_blocks, has_few_publications};
 ghost use Rattle.def_split.specs.Plan.{Plan};
+ghost use Rattle.def_state.specs.Level.{Level};
 ghost use Rattle.def_state.specs.Sound.{IsOrdered, IsSound};
 ghost use Rattle.def_state.specs.State.{State, versions_of, marks_of, map_at, stored, IsPaid};
 ghost use Rattle.def_publish.specs.Compacting.{IsCompactedFrom, IsCompactNextOf, IsSoundCompactNext, LeavesCheckpoint, MayBeCompactNext, IsCompaction, CountsTogether, as_written, state_compacted};
@@ -79,16 +81,27 @@ pub fn compacted_contents_mean_the_same_in_little()
         → IsPaid (contents_state new) }
 {}
 
-/// Contents leave room for a checkpoint if their journal has a change. So do those that a checkpoint just left, if two
-/// changes were in front of it: of two checkpoints in a row the second needs no change. And where contents do, the next
-/// ones may be those of a promotion, or of a compaction.
+/// Contents leave room for a checkpoint if their manifest belongs and their journal has a change. So do those that a
+/// checkpoint just left, if two changes were in front of it, and either manifest belongs: of two checkpoints in a row the
+/// second needs no change. The levels have no part in it.
 pub fn contents_leave_room_for_a_checkpoint()
-    ensures ok { (f : Image) (x : Contents) → ReadsAs f x → 1 ≤ length x.journal
-        → LeavesCheckpoint x }
-    ensures twice { (f g : Image) (old new : Contents) (made : Option LevelDesc)
+    ensures ok { (x : Contents) → IsLawful x.sb → IsTrue (belongs x.sb x.chained)
+        → 1 ≤ length x.journal → LeavesCheckpoint x }
+    ensures twice { (old new : Contents) (made : Option LevelDesc) (taken kept : List LevelDesc)
+        → IsLawful new.sb → IsTrue (belongs old.sb old.chained)
+        → IsTrue (belongs new.sb new.chained)
+        → IsTrue (is_lawful_manifest new.sb.format new.chained.manifest)
+        → IsNextOf old new made taken kept → 2 ≤ length old.journal → LeavesCheckpoint new }
+    ensures sound { (f g : Image) (old new : Contents) (made : Option LevelDesc)
         (taken kept : List LevelDesc) → IsSoundNext f g old new made taken kept
         → 2 ≤ length old.journal → LeavesCheckpoint new }
-    ensures next { (f g : Image) (old new : Contents) (made : Option LevelDesc)
+    ensures same { (x : Contents) (levels : List Level) → LeavesCheckpoint x
+        → LeavesCheckpoint (record x { levels = levels }) }
+{}
+
+/// Where contents leave room for a checkpoint, the next ones may be those of a promotion, or of a compaction.
+pub fn contents_with_room_may_be_followed()
+    ensures ok { (f g : Image) (old new : Contents) (made : Option LevelDesc)
         (taken kept : List LevelDesc) → IsSoundNext f g old new made taken kept
         → LeavesCheckpoint old → MayBeNext f g old new made taken kept }
     ensures fits { (f g : Image) (old new : Contents) (made : Option LevelDesc)

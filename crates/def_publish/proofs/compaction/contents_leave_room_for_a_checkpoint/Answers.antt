@@ -1,10 +1,11 @@
-use Rattle.def_publish.proofs.CompactingLemmas.{changed_leaves, published_leaves, leaving_next, compact_few}
+use Rattle.def_publish.proofs.CompactingLemmas.{published_leaves}
+use Rattle.def_publish.proofs.RoomLemmas.{changed_leaves, twice_leaves}
 use Rattle.def_publish.proofs.compaction.contents_leave_room_for_a_checkpoint.Goals as goal
 
 pub returns : goal.returns
 returns c = record {
   ok = changed_leaves;
-  twice = published_leaves;
-  next = leaving_next;
-  fits = λ f g old new made m room. compact_few old new made f g m room;
+  twice = twice_leaves;
+  sound = published_leaves;
+  same = λ x levels room. record { generation = room.generation; next_array = room.next_array; written = room.written; compacted = room.compacted };
 }
