@@ -12,6 +12,7 @@ use Rattle.strat_base.proofs.ListFacts.{Among, all_from}
 use Rattle.def_crash.specs.Image.{Image}
 use Rattle.strat_extent.specs.Blocks.{SpaceView}
 use Rattle.def_bytes.specs.Arrays.{all_some, blocks_of}
+use Rattle.def_bytes.specs.Manifest.{Manifest}
 use Rattle.def_split.proofs.ListLemmas.{among_map}
 use Rattle.def_promote.specs.Compacted.{Compacts, compact_level, compacted_to}
 use Rattle.def_promote.specs.Kept.{kept_over}
@@ -32,7 +33,7 @@ use Rattle.def_state.proofs.SpaceLemmas.{deep_least}
 use Rattle.def_publish.specs.Contents.{Contents, contents_state}
 use Rattle.def_publish.specs.Compacting.{IsCompactLevel, IsCompactNextOf, IsSoundCompactNext, as_written, state_compacted, IsCompaction, newer_entries, CountsTogether}
 use Rattle.def_publish.specs.Kept.{kept, ShowsLittle}
-use Rattle.def_publish.specs.Next.{IsNextOf, arrays_made}
+use Rattle.def_publish.specs.Next.{arrays_made}
 use Rattle.def_publish.specs.Occupied.{IsSpaceOf, UsesMore, extents_of, arrays_in}
 use Rattle.def_publish.specs.Standing.{ReadsAs}
 use Rattle.def_publish.proofs.CompactingLemmas.{compact_next, compact_state}
@@ -149,8 +150,8 @@ module _ (old new : Contents) (made : Option LevelDesc) (is : IsCompactNextOf ol
   pub counts_once : CountsTogether old.chained.manifest new.chained.manifest
   counts_once = omega (arith, entries_new old.chained.manifest.next_array, is.compacted, is.from.written)
 
-  pub counts_twice : (before : Contents) (more : Option LevelDesc) (taken kept : List LevelDesc) → IsNextOf before old more taken kept → CountsTogether before.chained.manifest new.chained.manifest
-  counts_twice before more taken kept was = omega (arith, entries_new before.chained.manifest.next_array, is.compacted, is.from.written, was.written, was.promoted.compacted)
+  pub counts_twice : (before : Manifest) → before.written ≤ old.chained.manifest.written → before.compacted ≤ old.chained.manifest.compacted → CountsTogether before new.chained.manifest
+  counts_twice before written compacted = omega (arith, entries_new before.next_array, is.compacted, is.from.written, written, compacted)
 
 -- a compaction of a state, from what was planned
 pub compaction_of : (g : Image) (old new : Contents) (made : Option LevelDesc) (entries : List Entry) (plan : Plan) (j first : ℕ) → IsSound (contents_state old) → Compacts (contents_state old) j entries plan

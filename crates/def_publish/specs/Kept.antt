@@ -1,6 +1,7 @@
 -- How much of a table a store has to keep, and that it stores little more.
 use Rattle.std.specs.Prelude.{◌≡◌, ◌≤◌, ℕ, ◌*◌, Some}
 use Rattle.def_crash.specs.Image.{Image}
+use Rattle.def_crash.specs.Moments.{DiskView, Images}
 use Rattle.strat_model.specs.Step.{pairs_at}
 use Rattle.strat_model.specs.Table.{Table, parents_of, marks_in}
 use Rattle.def_promote.specs.Kept.{kept_over}
@@ -18,3 +19,7 @@ pub record ShowsLittle (c : Image) : Type 0 where
   pub state : State
   pub reads : reads_as c ≡ Some state
   pub little : stored state ≤ 2 * kept (table_of state)
+
+-- each image that a crash may leave does
+abbrev pub EachShowsLittle : DiskView → Type 0
+EachShowsLittle v = (c : Image) → Images v c → ShowsLittle c

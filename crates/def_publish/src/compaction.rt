@@ -1,7 +1,7 @@
 //! Laws of the contents that a compaction leaves. Each is the contract of a function that does nothing.
 
 ghost use Rattle.std.specs.Option.{option_to_list};
-ghost use Rattle.std.specs.Prelude.{◌≡◌, ◌≤◌, ◌<◌, ◌*◌, ◌^◌, ℕ, List, [], ◌++◌, length, Option, Some, IsTrue};
+ghost use Rattle.std.specs.Prelude.{◌≡◌, ◌≤◌, ◌<◌, ◌+◌, ◌*◌, ◌^◌, ℕ, List, [], ◌++◌, length, Option, Some, IsTrue};
 ghost use Rattle.strat_base.specs.Entries.{Entry};
 ghost use Rattle.strat_base.specs.declared.descriptors.Extent.{Extent};
 ghost use Rattle.strat_base.specs.declared.descriptors.LevelDesc.{LevelDesc};
@@ -10,7 +10,7 @@ ghost use Rattle.def_crash.specs.Moments.{OnlyReads, IsDurable};
 ghost use Rattle.strat_extent.specs.Blocks.{SpaceView};
 ghost use Rattle.def_bytes.specs.Arrays.{all_some, blocks_of};
 ghost use Rattle.def_bytes.specs.Layout.{shortest_manifest};
-ghost use Rattle.def_bytes.specs.Manifest.{SpellsManifest, is_lawful_manifest, manifest_bytes};
+ghost use Rattle.def_bytes.specs.Manifest.{Manifest, SpellsManifest, is_lawful_manifest, manifest_bytes};
 ghost use Rattle.def_bytes.specs.SuperBlock.{IsLawful};
 ghost use Rattle.def_meaning.specs.StateTable.{table_of};
 ghost use Rattle.def_promote.specs.Compacted.{Compacts, compact_level};
@@ -22,9 +22,9 @@ ghost use Rattle.def_split.specs.Plan.{Plan};
 ghost use Rattle.def_state.specs.Level.{Level};
 ghost use Rattle.def_state.specs.Sound.{IsOrdered, IsSound};
 ghost use Rattle.def_state.specs.State.{State, versions_of, marks_of, map_at, stored, IsPaid};
-ghost use Rattle.def_publish.specs.Compacting.{IsCompactedFrom, IsCompactNextOf, IsSoundCompactNext, LeavesCheckpoint, MayBeCompactNext, IsCompaction, CountsTogether, as_written, state_compacted};
+ghost use Rattle.def_publish.specs.Compacting.{IsCompactedFrom, IsCompactNextOf, IsSoundCompactNext, LeavesCheckpoint, MayBeCompactNext, IsCompaction, CountsTogether, newer_entries, as_written, state_compacted};
 ghost use Rattle.def_publish.specs.Contents.{Contents, contents_state};
-ghost use Rattle.def_publish.specs.Kept.{kept, ShowsLittle};
+ghost use Rattle.def_publish.specs.Kept.{kept, ShowsLittle, EachShowsLittle};
 ghost use Rattle.def_publish.specs.Next.{IsNextOf, IsSoundNext, MayBeNext, AreNewArrays, HasManifest, arrays_made};
 ghost use Rattle.def_publish.specs.Occupied.{IsSpaceOf, UsesMore, extents_of, arrays_in};
 ghost use Rattle.def_publish.specs.Publication.{Succeeds, IsPrepared};
@@ -179,13 +179,24 @@ pub fn a_compaction_gives_the_old_blocks_back()
         → IsSpaceOf u new [] }
 {}
 
+/// Each image of a disk on which they stand shows so little.
+pub fn a_compacted_disk_shows_little<D: Viewed>()
+    ensures images { (v : D) (g : Image) (old new : Contents) (made : Option LevelDesc)
+        → IsSound (contents_state old) → IsCompactNextOf old new made → IsCompaction g old new made
+        → ContentsStand (D.view v) new → EachShowsLittle (D.view v) }
+{}
+
 /// What is written and compacted grows together by at least the entries of the arrays that are new, in a compaction, and
-/// in one right behind the checkpoint of a promotion.
+/// in one behind a manifest that counts no less than another: behind the checkpoint of a promotion. So it does in that
+/// checkpoint alone, which counts just these entries as written.
 pub fn a_compaction_counts_what_it_writes()
     ensures ok { (old new : Contents) (made : Option LevelDesc) → IsCompactNextOf old new made
         → CountsTogether old.chained.manifest new.chained.manifest }
-    ensures twice { (old mid new : Contents) (made more : Option LevelDesc)
-        (taken kept : List LevelDesc) → IsNextOf old mid made taken kept
-        → IsCompactNextOf mid new more
-        → CountsTogether old.chained.manifest new.chained.manifest }
+    ensures twice { (old : Manifest) (mid new : Contents) (made : Option LevelDesc)
+        → old.written ≤ mid.chained.manifest.written
+        → old.compacted ≤ mid.chained.manifest.compacted → IsCompactNextOf mid new made
+        → CountsTogether old new.chained.manifest }
+    ensures first { (old new : Manifest)
+        → new.written ≡ old.written + newer_entries old.next_array new
+        → new.compacted ≡ old.compacted → CountsTogether old new }
 {}
