@@ -14,7 +14,9 @@ use Rattle.def_publish.specs.Several.{EachShows, ShowsOneOf}
 use Rattle.def_publish.specs.Standing.{ShowsTable}
 use Rattle.def_recovery.specs.Head.{Head, head_versions}
 use Rattle.def_recovery.specs.Opening.{recover}
-use Rattle.strat_base.specs.Tree.{Parents, is_known}
+use Rattle.def_state.specs.Sound.{is_there}
+use Rattle.strat_base.specs.Marks.{Marks}
+use Rattle.strat_base.specs.Tree.{Parents}
 use Rattle.strat_base.specs.declared.descriptors.ArrayDesc.{ArrayDesc}
 use Rattle.strat_base.specs.declared.descriptors.LevelDesc.{LevelDesc}
 use Rattle.strat_bulk.specs.Runs.{AreLawful}
@@ -206,7 +208,12 @@ module _ (version : ℕ) (how : Ended) (left held_old held_new : Option (List �
     (damaged : (b : ℕ) → how ≡ ended.Damaged b → NamesNoBlock mid.content (arrays_asked s.memory.parents s.levels version) b)
     (reads : OnlyReads mid new) (cause : ExportHasCause how disk_mid disk_new sink_old sink_new) where
   finds : (b : Bool) → has_version s.memory version ≡ b → FindsVersion old version b
-  finds b is f exposed = (head_held s, opened.found f exposed, subst (λ (ps : Parents). is_known ps version ≡ b) whole.memory.parents is)
+  finds b is f exposed = (
+    head_held s,
+    opened.found f exposed,
+    subst (λ (ms : Marks). is_there (head_versions (head_held s)) ms version ≡ b) whole.memory.marks
+        (subst (λ (ps : Parents). is_there ps s.memory.marks version ≡ b) whole.memory.parents is),
+  )
 
   named_here : (a : ArrayDesc) → Contains (arrays_asked s.memory.parents s.levels version) a → Contains (filter_map (λ level. desc_for (head_versions (head_held s)) level version) s.chained.manifest.levels) a
   named_here a of =

@@ -1,7 +1,6 @@
 -- What a run did that exports a version.
 use Rattle.std.specs.Prelude.{◌≡◌, ◌≢◌, ◌⊎◌, ℕ, ◌==◌, Bool, true, false, Contains, Some, None, Ok, Err, IsTrue}
 use Rattle.std.specs.List.{filter_map, list_any}
-use Rattle.strat_base.specs.Tree.{is_known}
 use Rattle.strat_base.specs.declared.descriptors.ArrayDesc.{ArrayDesc}
 use Rattle.def_crash.specs.Image.{Image}
 use Rattle.def_crash.specs.Moments.{DiskView, Exposes, Since}
@@ -14,10 +13,11 @@ use Rattle.strat_model.specs.Table.{Table}
 use Rattle.strat_model.specs.declared.ended.Ended.{Ended}
 use Rattle.strat_model.specs.declared.ended.Ended.TheVariants as ended
 use Rattle.strat_model.specs.Ended.{status_of}
-use Rattle.def_recovery.specs.Head.{Head, head_versions}
+use Rattle.def_recovery.specs.Head.{Head, head_versions, head_marks}
 use Rattle.def_recovery.specs.Opening.{recover}
 use Rattle.def_publish.specs.Several.{EachShows, ShowsOneOf}
 use Rattle.def_publish.specs.Standing.{ShowsTable}
+use Rattle.def_state.specs.Sound.{is_there}
 use Rattle.strat_bulk.specs.Ending.{WritesPairs, AreTold}
 use Rattle.strat_bulk.specs.Runs.{AreLawful}
 use Rattle.strat_loop.specs.Session.{EndHasCause}
@@ -34,11 +34,11 @@ EndsExporting (ended.Damaged block) = Unit {0}
 EndsExporting ended.UnknownVersion = Unit {0}
 EndsExporting _ = ⊥
 
--- recovery finds a store that has such a version, or has none
+-- recovery finds a store that has such a version, which was not dropped, or has none
 abbrev pub FindsVersion : DiskView → ℕ → Bool → Type 0
 FindsVersion v version known = (f : Image) → Exposes v f
     → (head : Head) × (recover f ≡ Ok (Some head))
-    × (is_known (head_versions head) version ≡ known)
+    × (is_there (head_versions head) (head_marks head) version ≡ known)
 
 -- a block of an array that a head has for a version is no block of entries in the content that a disk exposes
 pub record IsBadAt (head : Head) (version : ℕ) (v : DiskView) (block : ℕ) : Type 0 where

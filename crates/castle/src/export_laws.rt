@@ -1,14 +1,14 @@
 //! What a run that exports a version comes to. The law is the contract of a function that does nothing.
 
 ghost use Rattle.std.specs.Prelude.{◌≡◌, ◌≢◌, ◌<◌, ◌≤◌, ◌⊎◌, ℕ, List, ◌++◌, true, false, length, map, take, Ok, Err, None, Some};
-ghost use Rattle.strat_base.specs.Tree.{is_known};
 ghost use Rattle.def_bulk.specs.Exporting.{exported, put_bodies, sole_version};
 ghost use Rattle.def_crash.specs.Faults.{Rose};
 ghost use Rattle.def_crash.specs.Image.{Image};
 ghost use Rattle.def_crash.specs.Moments.{Exposes, Images, Since};
 ghost use Rattle.def_publish.specs.Standing.{ShowsTable};
-ghost use Rattle.def_recovery.specs.Head.{Head, head_versions};
+ghost use Rattle.def_recovery.specs.Head.{Head, head_versions, head_marks};
 ghost use Rattle.def_recovery.specs.Opening.{recover};
+ghost use Rattle.def_state.specs.Sound.{is_there};
 ghost use Rattle.strat_io.specs.Streams.{Appends};
 ghost use Rattle.strat_model.specs.Pairs.{Pairs};
 ghost use Rattle.strat_model.specs.Step.{pairs_at};
@@ -25,9 +25,9 @@ use strat_bulk::laws::an_export_is_served_again;
 
 /// A run that exports a version of a store whose content shows a table writes the frames of that version's map, if it is done:
 /// a put of each pair, the keys in order. If the device failed or a block is damaged, it wrote the frames of the first pairs;
-/// if the sink failed, a front of these bytes. It says that there is no such version exactly if recovery finds none. A crash
-/// meanwhile leaves a table that one before might have left. It ends for a cause, and where nothing failed, done, without such
-/// a version, or for want of memory.
+/// if the sink failed, a front of these bytes. It says that there is no such version exactly if recovery finds none, or one
+/// that was dropped. A crash meanwhile leaves a table that one before might have left. It ends for a cause, and where nothing
+/// failed, done, without such a version, or for want of memory.
 pub fn an_exporting_run_writes_the_map_of_its_version<D: Viewed>()
     ensures done { (path : List ℕ) (version status : ℕ) (x y : Streams) (d e : D) (f : Image)
         (t : Table) → ShowsTable f t → Exposes (D.view d) f
@@ -51,9 +51,9 @@ pub fn an_exporting_run_writes_the_map_of_its_version<D: Viewed>()
         → Exposes (D.view d) f → Runs (Some (Export path version)) 1099511627776 status
         (beside x (D.view d)) (beside y (D.view e))
         → (status ≡ 12 → (head : Head) × (recover f ≡ Ok (Some head))
-        × (is_known (head_versions head) version ≡ false))
+        × (is_there (head_versions head) (head_marks head) version ≡ false))
         × ((status ≡ 0) ⊎ (status ≡ 7) → (head : Head) × (recover f ≡ Ok (Some head))
-        × (is_known (head_versions head) version ≡ true)) }
+        × (is_there (head_versions head) (head_marks head) version ≡ true)) }
     ensures none { (path : List ℕ) (version status : ℕ) (x y : Streams) (d e : D) (f : Image)
         → Exposes (D.view d) f → Runs (Some (Export path version)) 1099511627776 status
         (beside x (D.view d)) (beside y (D.view e)) → status ≡ 2 → recover f ≡ Ok None }

@@ -17,7 +17,7 @@ fn add_workload(out: &mut String, seed: u64, count: u32) -> Result<(), AllocErro
     write!(out, "workload seed {seed} changes {count}\n")
 }
 
-/// Adds the line of versions, updates and clones.
+/// Adds the line of versions, updates and clones; a workload makes no other change.
 fn add_counts(out: &mut String, store: &Reading) -> Result<(), AllocError>
     ensures ok { OnOk result
         (string_bytes out.new ≡ string_bytes out.old ++ text (counts_line store.now ∷ [])) }

@@ -132,6 +132,46 @@ const OF_SETTINGS: &[u8] = b"\
 store generation 1 mem 64 changes 6 of 100000 versions 3 of 100\n\
 journal changes 6 updates 4\n\
 stored 4 updates 4 written 0\n";
+/// A key at version 0, another at its child, which is dropped, and a third at version 0.
+const DROPPED: &[u8] = b"\
+\x00\x00\x00\x0f\x00\x00\x00\x01\x01\x00\x00\x00\x00\x00\x01a\x00\x011\
+\x00\x00\x00\x09\x00\x00\x00\x02\x04\x00\x00\x00\x00\
+\x00\x00\x00\x0f\x00\x00\x00\x03\x01\x00\x00\x00\x01\x00\x01b\x00\x012\
+\x00\x00\x00\x09\x00\x00\x00\x04\x0b\x00\x00\x00\x01\
+\x00\x00\x00\x0f\x00\x00\x00\x05\x01\x00\x00\x00\x00\x00\x01c\x00\x013";
+/// The report after these.
+const OF_DROPPED: &[u8] = b"\
+store generation 1 mem 8 changes 5 of 100 versions 2 of 10\n\
+journal changes 5 updates 3\n\
+stored 3 updates 3 written 0\n";
+/// Two keys at version 0 and one at its child; then the child is dropped, and version 0 gets another key.
+const THAWED: &[u8] = b"\
+\x00\x00\x00\x0f\x00\x00\x00\x01\x01\x00\x00\x00\x00\x00\x01a\x00\x011\
+\x00\x00\x00\x0f\x00\x00\x00\x02\x01\x00\x00\x00\x00\x00\x01b\x00\x011\
+\x00\x00\x00\x09\x00\x00\x00\x03\x04\x00\x00\x00\x00\
+\x00\x00\x00\x0f\x00\x00\x00\x04\x01\x00\x00\x00\x01\x00\x01c\x00\x011\
+\x00\x00\x00\x09\x00\x00\x00\x05\x0b\x00\x00\x00\x01\
+\x00\x00\x00\x0f\x00\x00\x00\x06\x01\x00\x00\x00\x00\x00\x01d\x00\x011";
+/// The report after these. The child is below the horizon of level 1, and its parent has an update in the journal.
+const OF_THAWED: &[u8] = b"\
+store generation 2 mem 4 changes 6 of 100 versions 2 of 10\n\
+journal changes 2 updates 1\n\
+level 1 horizon 2 leads 3 entries 3\n\
+array 1 density 2/3 lead 3/3 versions 0-1\n\
+stored 4 updates 4 written 3\n";
+/// Four more keys at version 0, to be served after these.
+const MORE_THAWED: &[u8] = b"\
+\x00\x00\x00\x0f\x00\x00\x00\x07\x01\x00\x00\x00\x00\x00\x01e\x00\x011\
+\x00\x00\x00\x0f\x00\x00\x00\x08\x01\x00\x00\x00\x00\x00\x01f\x00\x011\
+\x00\x00\x00\x0f\x00\x00\x00\x09\x01\x00\x00\x00\x00\x00\x01g\x00\x011\
+\x00\x00\x00\x0f\x00\x00\x00\x0a\x01\x00\x00\x00\x00\x00\x01h\x00\x011";
+/// The report after all of them. Now the manifest has the drop.
+const OF_MORE_THAWED: &[u8] = b"\
+store generation 3 mem 4 changes 10 of 100 versions 2 of 10\n\
+journal changes 2 updates 2\n\
+level 1 horizon 2 leads 6 entries 6\n\
+array 2 density 5/6 lead 6/6 versions 0-1\n\
+stored 8 updates 8 written 9\n";
 /// The report of a small store that is new.
 pub const OF_NONE: &[u8] = b"\
 store generation 1 mem 4 changes 0 of 100 versions 1 of 10\n\
@@ -191,6 +231,36 @@ fn a_store_before_any_publication_is_reported(rt: HostRuntime) {
             OF_SETTINGS
         )
     );
+}
+
+#[test]
+fn a_drop_is_reported(rt: HostRuntime) {
+    assert!(rt;
+        row(
+            rt.alloc(),
+            new_store(rt.alloc(), 8, 100, 10),
+            DROPPED,
+            OF_DROPPED
+        )
+    );
+}
+
+/// Whether version 0 may be changed again after its child was dropped, also when the drop is in the manifest.
+fn thaws(alloc: Global, store: Option<MemDisk>) -> bool {
+    match store {
+        Some(mut disk) => {
+            run(alloc, &mut disk, THAWED) == Some(Ended::Done)
+                && tells_levels(alloc, &mut disk, OF_THAWED, Ended::Done)
+                && tells_check(alloc, &mut disk, b"sound\n", Ended::Done)
+                && row(alloc, Some(disk), MORE_THAWED, OF_MORE_THAWED)
+        }
+        None => false,
+    }
+}
+
+#[test]
+fn a_parent_of_a_dropped_version_is_sound(rt: HostRuntime) {
+    assert!(rt; thaws(rt.alloc(), small_store(rt.alloc())));
 }
 
 /// Whether a store that was served these frames is summed up so.

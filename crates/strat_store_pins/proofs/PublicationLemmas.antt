@@ -15,7 +15,7 @@ use Rattle.def_bytes.specs.Manifest.{all_pass, read_number, read_items, read_ext
 use Rattle.def_bytes.specs.Records.{records}
 use Rattle.def_bytes.specs.SuperBlock.{IsLawful, slot_of, slot_in, zeros}
 use Rattle.def_promote.specs.Promoted.{SaysTheSame}
-use Rattle.def_recovery.specs.Head.{Head, head_changes, head_updates, head_versions}
+use Rattle.def_recovery.specs.Head.{Head, head_changes, head_marks, head_updates, head_versions}
 use Rattle.def_recovery.specs.Opening.{recover}
 use Rattle.def_state.proofs.BreachLemmas.{sound_from_none}
 use Rattle.def_state.specs.Sound.{IsSound}
@@ -156,7 +156,8 @@ left_behind x made (suc n) old low =
 pub sealed_all : (h : Head) (m : Memory) → IsMemoryOf h m → length h.journal ≤ h.sb.mem → (sealed : Option SealedLevel) → IfSome sealed (CountsSealed h)
     → (option_map_or (λ (z : SealedLevel). z.changes) sealed m.changes ≡ m.changes) × (option_map_or (λ (z : SealedLevel). z.updates) sealed m.updates ≡ m.updates)
     × (take (option_map_or (λ (z : SealedLevel). z.versions) sealed (length m.parents)) m.parents ≡ m.parents)
-sealed_all h m of few None counted = (refl, refl, take_all (length m.parents) m.parents (omega arith))
+    × (option_map_or (λ (z : SealedLevel). z.marks) sealed m.marks ≡ m.marks)
+sealed_all h m of few None counted = (refl, refl, take_all (length m.parents) m.parents (omega arith), refl)
 sealed_all h m of few (Some z) counted =
     let front : take h.sb.mem h.journal ≡ h.journal = take_all h.sb.mem h.journal few in
     let many : z.versions ≡ length m.parents =
@@ -164,4 +165,5 @@ sealed_all h m of few (Some z) counted =
       counted.changes ∙ ap (λ (js : List Change). head_changes (record h { journal = js })) front ∙ sym of.changes,
       counted.updates ∙ ap (λ (js : List Change). head_updates (record h { journal = js })) front ∙ sym of.updates,
       take_all z.versions m.parents (omega (arith, many)),
+      counted.marks ∙ ap (λ (js : List Change). head_marks (record h { journal = js })) front ∙ sym of.marks,
     )

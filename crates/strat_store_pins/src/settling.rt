@@ -1,7 +1,7 @@
 //! What a command leaves of superblock and manifest, and of which trouble it may tell: each fact of these records, used once. Each is
 //! the contract of a function that does nothing.
 
-ghost use Rattle.std.specs.Prelude.{◌≡◌, ◌≢◌, ◌≤◌, ◌⊎◌, ◌<◌, ◌+◌, ◌-◌, ◌*◌, ℕ, suc, Bool, List, true, false, length, drop, replicate, Contains, IsSome, Some, None, Ok};
+ghost use Rattle.std.specs.Prelude.{◌≡◌, ◌≢◌, ◌≤◌, ◌⊎◌, ◌<◌, ◌+◌, ◌-◌, ◌*◌, ℕ, Bool, List, true, false, length, drop, Contains, IsSome, Some, None, Ok};
 ghost use Rattle.strat_base.specs.declared.descriptors.ArrayDesc.{ArrayDesc};
 ghost use Rattle.def_crash.specs.Blocks.{AgreeOn};
 ghost use Rattle.def_crash.specs.Image.{Image};
@@ -27,7 +27,7 @@ ghost use Rattle.def_publish.specs.Next.{arrays_made};
 ghost use Rattle.def_state.specs.State.{IsPaid};
 ghost use Rattle.strat_store.specs.Applying.{TellsTroubleOf};
 ghost use Rattle.strat_memory.specs.Held.{Held, IsConsistent, IsOnDisk, StandsWith, arrays_held};
-ghost use Rattle.strat_memory.specs.Memory.{Memory, oldest_changes, oldest_parents, oldest_updates};
+ghost use Rattle.strat_memory.specs.Memory.{Memory, oldest_changes, oldest_marks, oldest_parents, oldest_updates};
 ghost use Rattle.strat_publish.specs.Advancing.{HasMostOfKey, SlicesInBudget};
 ghost use Rattle.strat_publish.specs.Promoting.{leads_in_memory};
 ghost use Rattle.strat_publish.specs.Counting.{CountsWritten, KeepsCount, manifest_with_array};
@@ -69,11 +69,11 @@ pub fn what_a_promotion_made_is_published()
     ensures found { (s : Held) → IsConsistent s → length s.log.list ≤ s.sb.mem
         → (oldest_changes s.memory ≡ s.memory.changes)
         × (oldest_updates s.memory ≡ s.memory.updates)
-        × (oldest_parents s.memory ≡ s.memory.parents) }
+        × (oldest_parents s.memory ≡ s.memory.parents)
+        × (oldest_marks s.memory ≡ s.memory.marks) }
     ensures same { (old new : Held) → HasPublished old new → (new.sb.format ≡ newest_format)
         × (new.chained.manifest.compacted ≡ old.chained.manifest.compacted)
-        × (new.chained.manifest.marks
-        ≡ replicate (suc (length (parent_numbers (oldest_parents old.memory)))) false) }
+        × (new.chained.manifest.marks ≡ oldest_marks old.memory) }
     ensures room { (old new : Held) → HasPublished old new
         → (old.log.mem ≤ length old.log.list) × (new.promoting ≡ None) }
     ensures fits { (target : ℕ) (sb next_sb : Super) (m next : Manifest) (memory : Memory)
