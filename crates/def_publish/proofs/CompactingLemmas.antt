@@ -1,9 +1,9 @@
 -- Contents after a compaction: they are next contents but for what they count as written and as compacted.
-use Rattle.std.proofs.Common.{◌≡◌, ◌≤◌, ◌<◌, ◌-◌, ◌^◌, ℕ, Bool, true, false, cond, eqb, get_or, List, [], ◌++◌, length, Option, Some, refl, sym, ap, ◌∙◌, subst, arith, length-append}
+use Rattle.std.proofs.Common.{◌≡◌, ◌≤◌, ◌<◌, ◌-◌, ◌^◌, ℕ, Bool, true, false, cond, eqb, get_or, List, [], ◌++◌, length, Option, Some, refl, sym, ap, ◌∙◌, subst, arith, length-append, IfSome, None}
 use Rattle.std.specs.List.{sum_by}
 use Rattle.std.specs.Option.{option_to_list}
 use Rattle.std.proofs.lemmas.Bool.{lt-ltb}
-use Rattle.std.proofs.lemmas.List.{append-nil}
+use Rattle.std.proofs.lemmas.List.{append-nil, length-map}
 use Rattle.strat_base.specs.Numbers.{be}
 use Rattle.strat_base.specs.declared.descriptors.Extent.{Extent}
 use Rattle.strat_base.specs.declared.descriptors.LevelDesc.{LevelDesc}
@@ -13,7 +13,7 @@ use Rattle.def_crash.specs.Moments.{DiskView, OnlyReads, IsDurable}
 use Rattle.strat_extent.specs.Blocks.{SpaceView}
 use Rattle.def_bytes.specs.Arrays.{all_some}
 use Rattle.def_bytes.specs.Layout.{newest_format, shortest_manifest}
-use Rattle.def_bytes.specs.Manifest.{Manifest, is_lawful_manifest, manifest_bytes, only, SpellsManifest}
+use Rattle.def_bytes.specs.Manifest.{Manifest, is_lawful_manifest, manifest_bytes, only, SpellsManifest, versions_in}
 use Rattle.def_bytes.proofs.ManifestLemmas.{pass_at}
 use Rattle.def_promote.specs.Compacted.{compacted_to}
 use Rattle.def_promote.specs.Promoted.{SaysTheSame, promoted}
@@ -22,10 +22,11 @@ use Rattle.def_recovery.specs.Opened.{level_on}
 use Rattle.def_recovery.specs.Opening.{has_own_blocks, has_few_publications, belongs}
 use Rattle.def_recovery.proofs.OpeningLemmas.{manifest_tests}
 use Rattle.def_recovery.proofs.PassedLemmas.{belonging_tests}
+use Rattle.def_state.specs.Level.{Level}
 use Rattle.def_state.specs.Sound.{IsSound}
 use Rattle.def_state.specs.State.{State, versions_of, marks_of, updates_of, changes_of}
 use Rattle.def_publish.specs.Contents.{Contents, contents_state, sealed_state}
-use Rattle.def_publish.specs.Compacting.{IsCompactedFrom, IsCompactNextOf, IsSoundCompactNext, LeavesCheckpoint, MayBeCompactNext, as_written, state_compacted, IsCompaction}
+use Rattle.def_publish.specs.Compacting.{IsCompactedFrom, IsCompactNextOf, IsSoundCompactNext, LeavesCheckpoint, MayBeCompactNext, as_written, state_compacted, IsCompaction, IsCompactLevel, IsDeepestOf, contents_compacted}
 use Rattle.def_publish.specs.Next.{arrays_made, AreNewArrays, IsNextOf, IsSoundNext, MayBeNext, HasManifest}
 use Rattle.def_publish.specs.Occupied.{IsSpaceOf}
 use Rattle.def_publish.specs.Publication.{Succeeds, IsPrepared, IsPromotedFrom}
@@ -295,3 +296,44 @@ module _ (f g : Image) (old new : Contents) (made : Option LevelDesc) (taken kep
             (omega (arith, m.next.written, next.entries_made f g old new made taken kept m, room.written, changes))
             (omega (arith, m.next.promoted.compacted, room.compacted, changes));
       }
+
+-- the contents that a store computes
+module _ (old : Contents) (made : Option LevelDesc) (levels : List Level) (first size : ℕ) (blocks : List ℕ) (sound : IsSound (contents_state old)) (whole : length old.journal ≤ old.sb.mem) where
+  abbrev later : Contents
+  later = contents_compacted old made levels first size blocks
+
+  later_from : IsCompactedFrom old later
+  later_from = record {
+    whole = whole;
+    mem = refl;
+    changes_max = refl;
+    versions_max = refl;
+    format = refl;
+    parents = refl;
+    marks = refl;
+    updates = refl;
+    changes = refl;
+    written = refl;
+    journal = refl;
+  }
+
+  versions_all : versions_in later.chained.manifest ≡ length (versions_of (contents_state old))
+  versions_all =
+      let parents = ap (λ (s : State). length s.parents) (compact_state old later made sound later_from) in
+      omega (arith, parents, length-map later.chained.manifest.parents (λ p. Some p))
+
+  pub compact_computed : IfSome made (IsDeepestOf (contents_state old)) → IsCompactNextOf old later made
+  compact_computed deepest = record {
+    slot = refl;
+    generation = refl;
+    region = refl;
+    from = later_from;
+    compacted = refl;
+    next_array = refl;
+    levels_are = refl;
+    level = by made deepest;
+  }
+    where
+      by : (o : Option LevelDesc) → IfSome o (IsDeepestOf (contents_state old)) → IfSome o (IsCompactLevel later)
+      by None is = is
+      by (Some d) is = record { number = is.number; horizon = is.horizon ∙ sym versions_all }

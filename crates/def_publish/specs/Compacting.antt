@@ -1,5 +1,5 @@
 -- Contents after a compaction: one level, or none, in the place of the journal and of all levels.
-use Rattle.std.specs.Prelude.{◌≡◌, ◌≤◌, ℕ, ◌+◌, ◌-◌, ◌*◌, nat_le, [], length, filter, sum_by, Option, Some, IfSome}
+use Rattle.std.specs.Prelude.{◌≡◌, ◌≤◌, ℕ, ◌+◌, ◌-◌, ◌*◌, nat_le, List, [], length, filter, sum_by, Option, Some, IfSome}
 use Rattle.std.specs.Option.{option_to_list}
 use Rattle.strat_base.specs.declared.descriptors.LevelDesc.{LevelDesc}
 use Rattle.def_crash.specs.Image.{Image}
@@ -11,6 +11,7 @@ use Rattle.def_promote.specs.Kept.{kept_over}
 use Rattle.def_promote.specs.Promoted.{SaysTheSame}
 use Rattle.def_recovery.specs.Head.{parent_numbers, descriptors}
 use Rattle.def_recovery.specs.Opened.{level_on}
+use Rattle.def_state.specs.Level.{Level}
 use Rattle.def_state.specs.Sound.{IsSound}
 use Rattle.def_state.specs.State.{State, versions_of, marks_of, updates_of, changes_of, map_at, stored, deep}
 use Rattle.def_publish.specs.Contents.{Contents, contents_state, sealed_state}
@@ -51,6 +52,40 @@ pub record IsCompactNextOf (old new : Contents) (made : Option LevelDesc) : Type
       ≡ old.chained.manifest.next_array + length (arrays_made made)
   pub levels_are : new.chained.manifest.levels ≡ option_to_list made
   pub level : IfSome made (IsCompactLevel new)
+
+-- the manifest after a compaction, with the level that was made alone
+abbrev pub manifest_compacted : Contents → Option LevelDesc → Manifest
+manifest_compacted old made = record {
+  changes = changes_of (contents_state old);
+  updates = updates_of (contents_state old);
+  written = old.chained.manifest.written;
+  compacted = old.chained.manifest.compacted + sum_by (λ a. a.entries) (arrays_made made);
+  next_array = old.chained.manifest.next_array + length (arrays_made made);
+  parents = parent_numbers (versions_of (contents_state old));
+  marks = marks_of (contents_state old);
+  levels = option_to_list made;
+}
+
+-- the contents after it, with these levels, whose manifest is of so many bytes and in these blocks
+abbrev pub contents_compacted : Contents → Option LevelDesc → List Level → ℕ → ℕ → List ℕ → Contents
+contents_compacted old made levels first size blocks = record {
+  slot = 1 - old.slot;
+  sb = record old.sb {
+    format = newest_format;
+    generation = old.sb.generation + 1;
+    manifest = first;
+    length = size;
+    region = other_region old.sb.region;
+  };
+  chained = record { manifest = manifest_compacted old made; blocks = blocks };
+  journal = [];
+  levels = levels;
+}
+
+-- a level is the one that all changes of a state ask for, and is of all its versions
+pub record IsDeepestOf (s : State) (level : LevelDesc) : Type 0 where
+  pub number : level.number ≡ deep s.mem (changes_of s)
+  pub horizon : level.horizon ≡ length (versions_of s)
 
 -- they follow soundly: an image reads as the old contents, another image has the level of the next ones, both are
 -- sound, and the arrays that were made are numbered from the old next number on

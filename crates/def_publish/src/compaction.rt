@@ -1,7 +1,7 @@
 //! Laws of the contents that a compaction leaves. Each is the contract of a function that does nothing.
 
 ghost use Rattle.std.specs.Option.{option_to_list};
-ghost use Rattle.std.specs.Prelude.{◌≡◌, ◌≤◌, ◌<◌, ◌+◌, ◌*◌, ◌^◌, ℕ, List, [], ◌++◌, length, Option, Some, IsTrue};
+ghost use Rattle.std.specs.Prelude.{◌≡◌, ◌≤◌, ◌<◌, ◌+◌, ◌*◌, ◌^◌, ℕ, List, [], ◌++◌, length, Option, Some, IfSome, IsTrue};
 ghost use Rattle.strat_base.specs.Entries.{Entry};
 ghost use Rattle.strat_base.specs.declared.descriptors.Extent.{Extent};
 ghost use Rattle.strat_base.specs.declared.descriptors.LevelDesc.{LevelDesc};
@@ -22,7 +22,7 @@ ghost use Rattle.def_split.specs.Plan.{Plan};
 ghost use Rattle.def_state.specs.Level.{Level};
 ghost use Rattle.def_state.specs.Sound.{IsOrdered, IsSound};
 ghost use Rattle.def_state.specs.State.{State, versions_of, marks_of, map_at, stored, IsPaid};
-ghost use Rattle.def_publish.specs.Compacting.{IsCompactedFrom, IsCompactNextOf, IsSoundCompactNext, LeavesCheckpoint, MayBeCompactNext, IsCompaction, CountsTogether, newer_entries, as_written, state_compacted};
+ghost use Rattle.def_publish.specs.Compacting.{IsCompactedFrom, IsCompactNextOf, IsDeepestOf, contents_compacted, IsSoundCompactNext, LeavesCheckpoint, MayBeCompactNext, IsCompaction, CountsTogether, newer_entries, as_written, state_compacted};
 ghost use Rattle.def_publish.specs.Contents.{Contents, contents_state};
 ghost use Rattle.def_publish.specs.Kept.{kept, ShowsLittle, EachShowsLittle};
 ghost use Rattle.def_publish.specs.Next.{IsNextOf, IsSoundNext, MayBeNext, AreNewArrays, HasManifest, arrays_made};
@@ -46,6 +46,15 @@ pub fn a_compaction_of_a_state_is_one_of_contents()
         → all_some (level_on g) (option_to_list made) ≡ Some new.levels
         → new.levels ≡ compact_level (contents_state old) j entries plan first
         → IsCompaction g old new made }
+{}
+
+/// What a store computes of contents whose journal fills one region at most, and of the level that all their changes ask
+/// for, are the next contents of a compaction.
+pub fn the_compacted_manifest_makes_the_next_contents()
+    ensures ok { (old : Contents) (made : Option LevelDesc) (levels : List Level)
+        (first size : ℕ) (blocks : List ℕ) → IsSound (contents_state old)
+        → length old.journal ≤ old.sb.mem → IfSome made (IsDeepestOf (contents_state old))
+        → IsCompactNextOf old (contents_compacted old made levels first size blocks) made }
 {}
 
 /// Contents with the manifest of a compaction have its state.

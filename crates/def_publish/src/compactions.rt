@@ -5,7 +5,7 @@ ghost use Rattle.strat_base.specs.Change.{Clone};
 ghost use Rattle.strat_model.specs.Table.{fresh};
 ghost use Rattle.def_meaning.specs.Settings.{settings};
 ghost use Rattle.def_meaning.specs.StateTable.{table_of};
-ghost use Rattle.def_publish.specs.Compacting.{IsCompactedFrom, IsCompactNextOf, LeavesCheckpoint, MayBeCompactNext, IsCompaction, CountsTogether, newer_entries, state_compacted};
+ghost use Rattle.def_publish.specs.Compacting.{IsCompactedFrom, IsCompactNextOf, LeavesCheckpoint, MayBeCompactNext, IsCompaction, CountsTogether, newer_entries, contents_compacted, state_compacted};
 ghost use Rattle.def_publish.specs.Compactions.{level_in, with_manifest, with_level, repeated_logged, repeated_made, repeated_next, repeated_disk, chain_compact, chain_compacted, compacted_disk, dropped_logged, dropped_made, dropped_next, chain_at_once, chain_longer, wasteful_logged, wasteful_disk};
 ghost use Rattle.def_publish.specs.Contents.{Contents, contents_state};
 ghost use Rattle.def_publish.specs.Kept.{kept, ShowsLittle};
@@ -19,6 +19,9 @@ ghost use Rattle.def_state.specs.State.{value_at, stored};
 pub fn a_repeated_put_is_compacted()
     ensures ok { MayBeCompactNext repeated_disk repeated_disk repeated_logged repeated_next
         (Some repeated_made) }
+    ensures next { contents_compacted repeated_logged (Some repeated_made) repeated_next.levels
+        8 96 (8 ∷ [])
+        ≡ repeated_next }
     ensures compaction { IsCompaction repeated_disk repeated_logged repeated_next
         (Some repeated_made) }
     ensures manifest { HasManifest repeated_disk repeated_next }

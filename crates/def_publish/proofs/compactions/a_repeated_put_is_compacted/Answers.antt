@@ -7,6 +7,7 @@ pub returns : goal.returns
 unfolding climb
 returns c = record {
   ok = repeated_computed;
+  next = refl;
   compaction = repeated_compaction;
   manifest = repeated_written;
   prepared = repeated_prepared;
