@@ -90,9 +90,9 @@ pub fn compacted_contents_mean_the_same_in_little()
         → IsPaid (contents_state new) }
 {}
 
-/// Contents leave room for a checkpoint if their manifest belongs and their journal has a change. So do those that a
-/// checkpoint just left, if two changes were in front of it, and either manifest belongs: of two checkpoints in a row the
-/// second needs no change. The levels have no part in it.
+/// Contents leave room for a checkpoint if their manifest belongs to its superblock and their journal has a change. So do
+/// those that a checkpoint just left, if two changes were in front of it and both manifests belong: of two checkpoints in a
+/// row the second needs no change. The levels have no part in it.
 pub fn contents_leave_room_for_a_checkpoint()
     ensures ok { (x : Contents) → IsLawful x.sb → IsTrue (belongs x.sb x.chained)
         → 1 ≤ length x.journal → LeavesCheckpoint x }
