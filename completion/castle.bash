@@ -10,8 +10,8 @@ _castle_shell() {
     fi
     case $place:$word in
         [01]:-*) COMPREPLY=($(compgen -W "--json --keep-going -c --help --version" -- "$word")) ;;
-        1:*) COMPREPLY=($(compgen -W "put get exists delete scan use clone switch snapshot release merge names info tree diff stat levels check report dump load export import backup salvage help" -- "$word")) ;;
-        *:-*) COMPREPLY=($(compgen -W "--limit --stat -p --svg --long --all --csv --json-lines --frames --overwrite --doubtful --ours --theirs" -- "$word")) ;;
+        1:*) COMPREPLY=($(compgen -W "put get exists delete scan use clone drop switch snapshot release merge names info tree diff stat levels check report dump load export import backup salvage help" -- "$word")) ;;
+        *:-*) COMPREPLY=($(compgen -W "--limit --stat -p --svg --long --all --csv --json-lines --frames --overwrite --doubtful --ours --theirs --tree --yes" -- "$word")) ;;
         *)
             compopt -o filenames 2>/dev/null
             local IFS=$'\n'

@@ -25,7 +25,7 @@ from samples import drawn_beside_cursors, drawn_changes
 from shim import COUNTED, FOR_EVER, Fault
 
 NO_MEMORY = 32  # a reply's status
-CHANGES = (model.PUT, model.DELETE, model.CLONE)
+CHANGES = (model.PUT, model.DELETE, model.CLONE, model.DROP)
 
 
 def may_be_refused(journal, body):
@@ -96,7 +96,7 @@ def other_jobs_without(rig, data, *words):
 def scripts(chance, folder):
     """Stores to begin from, and commands: the openings of cursors and promotions take memory."""
     for name, mem, earlier, count in (("a new one", 4, 0, 60), ("one with levels", 4, 60, 60), ("one with a full journal of 64", 64, 64, 30)):
-        data, store = made_over(folder, mem, drawn_changes(chance, earlier, 1, 6, 0.1))
+        data, store = made_over(folder, mem, drawn_changes(chance, earlier, 1, 6, 0.1, 0.05))
         yield name, data, store, drawn_beside_cursors(chance, count, store, 6, 0.1)
 
 

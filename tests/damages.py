@@ -10,7 +10,7 @@ import formats
 import model
 import promotions
 import rules
-from formats import BLOCK, CLONE, DELETE, PUT
+from formats import BLOCK, CLONE, DELETE, DROP, PUT
 from samples import drawn_changes
 from unsound import Part, Stratum, described, laid_out
 
@@ -29,9 +29,14 @@ class Base:
 
 
 def store_bytes(chance, mem, count, keys, clones, most, form):
-    """The bytes of a store that took drawn changes, laid out as a store's may be, with so many entries in a block at most."""
+    """The bytes of a store that took drawn changes, laid out as a store's may be, with so many entries in a block at most.
+
+    Versions are dropped in it; in format 1, which has no marks, one by the last change.
+    """
     store = model.Store(mem, 1000, 200)
-    store.serve(b"".join(drawn_changes(chance, count, 1, keys, clones)))
+    store.serve(b"".join(drawn_changes(chance, count, 1, keys, clones, clones / 3 if form == 2 else 0)))
+    if form == 1 and len(store.changes) % mem:
+        store.make((DROP, max(version for version in store.living() if not store.is_frozen(version))))
     times = max(0, len(store.changes) - 1) // mem
     emptied, journal = promotions.emptied_so_often(store.changes, mem, times), store.changes[times * mem:]
     strata = []
@@ -41,7 +46,7 @@ def store_bytes(chance, mem, count, keys, clones, most, form):
         strata.append(Stratum(number, horizon, sliced))
     head = formats.new_head(*store.limits, form)._replace(generation=times + 1, region=times % 2)
     return laid_out(strata, emptied.parents, journal, (), chance.random() < 0.5, times % 2, head, changes=emptied.changes,
-                    updates=emptied.updates, written=emptied.written, next_array=emptied.next_array)
+                    updates=emptied.updates, written=emptied.written, next_array=emptied.next_array, marks=promotions.marks_of(emptied))
 
 
 def bases(seed):
@@ -112,15 +117,16 @@ def a_parent(chance, base):
     else:
         at = chance.randrange(len(parents))
         parents[at] = chance.choice((chance.randrange(at + 1), near(chance, parents[at], 2 ** 32 - 1)))
-    return with_manifest(base, base.contents.manifest._replace(parents=tuple(parents)))
+    marks = base.contents.manifest.marks[:len(parents) + 1]
+    return with_manifest(base, base.contents.manifest._replace(parents=tuple(parents), marks=marks))
 
 
 def a_mark(chance, base):
-    """A version is marked as dropped, or a mark is no mark; there are none in format 1, where all stays as it is."""
+    """A version is marked as dropped, or is not any more, or a mark is no mark; in format 1, which has none, all stays as it is."""
     count = len(base.contents.manifest.parents) + 1
-    marks = [0] * count
+    marks = list(base.contents.manifest.marks or [0] * count)
     for _ in range(chance.randrange(1, 4)):
-        marks[chance.choice((0, count - 1, chance.randrange(count)))] = chance.choice((1, 1, 2, 255))
+        marks[chance.choice((0, count - 1, chance.randrange(count)))] = chance.choice((0, 1, 1, 2, 255))
     return with_manifest(base, base.contents.manifest._replace(marks=tuple(marks)))
 
 
@@ -293,7 +299,7 @@ def a_record(chance, base):
         changes = changes[:chance.randrange(len(changes) + 1)]
     versions = len(base.contents.manifest.parents) + 2
     changes += [chance.choice(((PUT, chance.randrange(versions), b"k", b"v"), (DELETE, chance.randrange(versions), b"k"),
-                               (CLONE, chance.randrange(versions)))) for _ in range(chance.randrange(2 * head.mem))]
+                               (CLONE, chance.randrange(versions)), (DROP, chance.randrange(versions)))) for _ in range(chance.randrange(2 * head.mem))]
     piece = b"".join(map(formats.record_of, changes)) + chance.choice((b"\0", b"\0", b"\xa7", b"\xa7\x04", b"\xa7\x01"))
     return patched(base.data, formats.region_start(head.mem, region) * BLOCK, piece)
 

@@ -7,7 +7,7 @@ import subprocess
 
 import formats
 import model
-from model import bodies_of, clone, close_cursor, delete, get, info, next_pairs, open_cursor, put, reply, scan, stat, tag_of
+from model import bodies_of, clone, close_cursor, delete, drop, get, info, next_pairs, open_cursor, put, reply, scan, stat, tag_of
 from program import DEADLINE, PROGRAM, Skipped, StoreFile, Wrong, bytes_of, complaint, expect, expect_kept, expect_sound
 from samples import BATCH_MAX
 from shim import COUNTED, calls_in, library, settings
@@ -15,7 +15,8 @@ from shim import COUNTED, calls_in, library, settings
 # With M 4, which a new store meets at its fifth change: a promotion that the sixth one publishes, commands that read before and after
 # that, and cursors over it.
 COMMANDS = [
-    put(1, b"a", b"1"), open_cursor(2), put(3, b"b", b"2"), clone(4), put(5, b"a", b"3", 1), get(6, b"a", 1), delete(7, b"b", 1),
+    put(1, b"a", b"1"), open_cursor(2), put(3, b"b", b"2"), clone(4), put(5, b"a", b"3", 1), get(6, b"a", 1), clone(16, 1), drop(17, 2),
+    get(18, b"a", 2), delete(7, b"b", 1),
     next_pairs(8, 1, 1), scan(9, version=1), put(10, b"c", b"4", 1), next_pairs(11, 1), close_cursor(12, 1), get(13, b"c", 1),
     info(14, 1), stat(15),
 ]

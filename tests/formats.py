@@ -9,7 +9,7 @@ import itertools
 import struct
 
 import model
-from model import BLOCK, CLONE, DELETE, PUT, VALUE_MAX, sized
+from model import BLOCK, CLONE, DELETE, DROP, PUT, UPDATES, VALUE_MAX, sized
 
 OPEN = 0xa7
 RECORD_MAX = 1288
@@ -253,8 +253,6 @@ def complaints(head, manifest, chain):
         yield "an array number that is too great"
     if max(manifest.written, manifest.compacted) > 33554432 * manifest.changes:
         yield "more written than can be"
-    if manifest.marks:
-        yield "a version was dropped"
 
 
 def manifest_of(data, head):
@@ -277,7 +275,7 @@ def manifest_of(data, head):
 def record_of(change):
     """A change as the journal has it, with its open gate."""
     kind, version, *fields = change
-    number = {PUT: 1, DELETE: 2, CLONE: 3}[kind]
+    number = {PUT: 1, DELETE: 2, CLONE: 3, DROP: 4}[kind]
     data = struct.pack(">BBI", OPEN, number, version)
     if fields:
         data += bytes([len(fields[0])]) + fields[0]
@@ -287,8 +285,8 @@ def record_of(change):
 def change_at(at):
     """The change behind a gate, of which `at` gives the bytes from an offset on, or None where none stands there."""
     kind, version, key_size = struct.unpack(">BIB", at(1, 6))
-    if kind == 3:
-        return CLONE, version
+    if kind in (3, 4):
+        return CLONE if kind == 3 else DROP, version
     if kind not in (1, 2) or key_size == 0:
         return None
     key = at(7, key_size)
@@ -403,6 +401,11 @@ def live_in(entries, parents):
     return live
 
 
+def dropped_in(manifest):
+    """The versions that were dropped before the journal was last emptied."""
+    return {version for version, mark in enumerate(manifest.marks) if mark}
+
+
 def below(version, horizon, parents):
     """The nearest version on the way to the root, itself included, that stands below a horizon."""
     while version >= horizon:
@@ -413,14 +416,15 @@ def below(version, horizon, parents):
 def tables_of(data, contents, unread=None):
     """The pairs of each version by the levels: the shallowest level with a live entry of a key says what it has.
 
-    Where a set `unread` is given, it gets the versions that ask an array with a damaged block, which counts as empty.
+    One that was dropped has none, whatever its entries say. Where a set `unread` is given, it gets the versions that ask an array with
+    a damaged block, which counts as empty.
     """
-    parents = contents.manifest.parents
+    parents, dropped = contents.manifest.parents, dropped_in(contents.manifest)
     tables = [{} for _ in range(len(parents) + 1)]
     for level in reversed(contents.manifest.levels):
         for array in level.arrays:
             asking = [version for version in range(len(tables))
-                      if below(version, level.horizon, parents) in array.versions]
+                      if version not in dropped and below(version, level.horizon, parents) in array.versions]
             try:
                 live = live_in(entries_of(data, array), parents)
             except Damaged:
@@ -434,12 +438,12 @@ def tables_of(data, contents, unread=None):
 
 
 def store_at_checkpoint(contents):
-    """The store that a file had when its journal was last emptied, but for what versions hold."""
+    """The store that a file had when its journal was last emptied, but for the pairs of its versions."""
     head, manifest = contents.head, contents.manifest
     store = model.Store(head.mem, head.changes_max, head.versions_max)
     store.emptied = (manifest.changes, manifest.updates)
     store.parents = [None, *manifest.parents]
-    store.frozen = set(manifest.parents)
+    store.dropped = dropped_in(manifest)
     store.pairs = [{} for _ in store.parents]
     return store
 
@@ -461,6 +465,7 @@ def store_of(data, contents):
     store.unread = set()
     store.pairs = tables_of(data, contents, store.unread)
     take_journal(store, contents.journal)
+    store.unread -= store.dropped
     return store
 
 
@@ -505,8 +510,8 @@ def array_recounted(data, array, parents):
 def levels_text(contents):
     """The lines that the job prints of a file with these contents."""
     head, manifest, journal = contents.head, contents.manifest, contents.journal
-    updates = sum(change[0] != CLONE for change, _ in journal)
-    versions = len(manifest.parents) + 1 + len(journal) - updates
+    updates = sum(change[0] in UPDATES for change, _ in journal)
+    versions = len(manifest.parents) + 1 + sum(change[0] == CLONE for change, _ in journal)
     yield (f"store generation {head.generation} mem {head.mem} changes {manifest.changes + len(journal)} of {head.changes_max}"
            f" versions {versions} of {head.versions_max}")
     yield f"journal changes {len(journal)} updates {updates}"

@@ -6,16 +6,17 @@ with it. The bytes of a store's file are in `tests/formats.py`.
 
 import struct
 
-PUT, DELETE, GET, CLONE, SCAN, INFO, OPEN_CURSOR, NEXT_PAIRS, CLOSE_CURSOR, STAT = 1, 2, 3, 4, 5, 6, 7, 8, 9, 10
+PUT, DELETE, GET, CLONE, SCAN, INFO, OPEN_CURSOR, NEXT_PAIRS, CLOSE_CURSOR, STAT, DROP = 1, 2, 3, 4, 5, 6, 7, 8, 9, 10, 11
 DONE, FOUND, ABSENT, PAIRS, MADE, PLACE, OPENED, COUNTS = 0, 1, 2, 3, 4, 5, 6, 7
 UNKNOWN_VERSION, FROZEN, UNKNOWN_CURSOR, VERSION_LIMIT, CHANGE_LIMIT, CURSOR_LIMIT = 16, 17, 18, 19, 20, 21
 MALFORMED, KEY_SIZE, VALUE_SIZE, SCAN_SIZE = 22, 23, 24, 25
-FRAME_TOO_LONG, DEVICE_FAULT, DAMAGED_BLOCK = 26, 33, 34
+FRAME_TOO_LONG, ROOT, DEVICE_FAULT, DAMAGED_BLOCK = 26, 27, 33, 34
+UPDATES = PUT, DELETE
 NO_PARENT = 2 ** 32 - 1
 BODY_MAX, KEY_MAX, VALUE_MAX, PAIRS_MAX, CURSORS_MAX = 2048, 255, 1024, 256, 64
 
 # How a run ends
-ENDED, NOT_A_STORE, TOO_LONG, TRUNCATED, DEVICE, SOURCE, SINK, NO_MEMORY, DAMAGED = 0, 2, 3, 4, 5, 6, 7, 8, 9
+ENDED, NOT_A_STORE, TOO_LONG, TRUNCATED, DEVICE, SOURCE, SINK, NO_MEMORY, DAMAGED, NO_VERSION = 0, 2, 3, 4, 5, 6, 7, 8, 9, 12
 
 BLOCK = 4096
 
@@ -44,6 +45,10 @@ def get(tag, key, version=0):
 
 def clone(tag, version=0):
     return frame(struct.pack(">IBI", tag, CLONE, version))
+
+
+def drop(tag, version=0):
+    return frame(struct.pack(">IBI", tag, DROP, version))
 
 
 def scan(tag, lo=b"", hi=b"", limit=PAIRS_MAX, version=0):
@@ -112,8 +117,9 @@ def tag_of(body):
 # A store
 
 class Store:
-    """A store: its limits, its versions with their parents and pairs, and its changes in their order.
+    """A store: its limits, its versions with their parents and pairs, those that were dropped, and its changes in their order.
 
+    A dropped version keeps its number and its parent, and has no pairs.
     Of a store that was read from a file, `emptied` says how many changes, and updates among them, came before those.
     Of the run that serves it, `cursors` has the pairs that each open cursor has left, by its number.
     """
@@ -125,7 +131,7 @@ class Store:
         self.updates = 0  # among these changes
         self.parents = [None]
         self.pairs = [{}]
-        self.frozen = set()
+        self.dropped = set()
         self.start_run()
 
     def start_run(self):
@@ -133,14 +139,28 @@ class Store:
         self.cursors = {}
         self.next_cursor = 1
 
+    def has(self, version):
+        """Whether a version is there, and was not dropped."""
+        return version < len(self.parents) and version not in self.dropped
+
+    def living(self):
+        """The versions that are there and were not dropped."""
+        return [version for version in range(len(self.parents)) if version not in self.dropped]
+
+    def is_frozen(self, version):
+        """Whether a version has a child that was not dropped."""
+        return any(self.parents[child] == version and child not in self.dropped for child in range(version + 1, len(self.parents)))
+
     def refusal(self, kind, version):
         """The status by which a change of a version is refused, or None."""
         _, changes_max, versions_max = self.limits
-        if version >= len(self.parents):
+        if not self.has(version):
             return UNKNOWN_VERSION
+        if kind == DROP and version == 0:
+            return ROOT
         if kind == CLONE and len(self.parents) == versions_max:
             return VERSION_LIMIT
-        if kind != CLONE and version in self.frozen:
+        if kind != CLONE and self.is_frozen(version):
             return FROZEN
         return CHANGE_LIMIT if self.counts()[2] == changes_max else None
 
@@ -148,15 +168,17 @@ class Store:
         """Makes a change that isn't refused."""
         kind, version, *fields = change
         self.changes.append(change)
-        self.updates += kind != CLONE
+        self.updates += kind in UPDATES
         if kind == PUT:
             self.pairs[version][fields[0]] = fields[1]
         elif kind == DELETE:
             self.pairs[version].pop(fields[0], None)
-        else:
+        elif kind == CLONE:
             self.parents.append(version)
-            self.frozen.add(version)
             self.pairs.append(dict(self.pairs[version]))
+        else:
+            self.dropped.add(version)
+            self.pairs[version] = {}
 
     def depth(self, version):
         depth = 0
@@ -169,10 +191,10 @@ class Store:
         """The fields of a reply that tells a version's place in the tree."""
         parent = self.parents[version]
         return struct.pack(">IIB", NO_PARENT if parent is None else parent, self.depth(version),
-                           version in self.frozen)
+                           self.is_frozen(version))
 
     def counts(self):
-        """How many versions, updates and changes the store has."""
+        """How many versions, dropped ones among them, updates and changes the store has."""
         changes, updates = self.emptied
         return len(self.parents), updates + self.updates, changes + len(self.changes)
 
@@ -186,7 +208,7 @@ class Store:
             return self.go_on(tag, *struct.unpack_from(">QH", body, 5))
         if opcode == CLOSE_CURSOR and len(body) == 13:
             return self.close(tag, *struct.unpack_from(">Q", body, 5))
-        parts_of = {PUT: (2,), DELETE: (1,), GET: (1,), CLONE: (0,), SCAN: (2, 2), INFO: (0,), OPEN_CURSOR: (2,)}
+        parts_of = {PUT: (2,), DELETE: (1,), GET: (1,), CLONE: (0,), SCAN: (2, 2), INFO: (0,), OPEN_CURSOR: (2,), DROP: (0,)}
         fields = fields_of(body, *parts_of[opcode]) if opcode in parts_of else None
         if fields is None:
             return reply(tag, MALFORMED)
@@ -209,7 +231,7 @@ class Store:
 
     def look(self, tag, opcode, version, *parts):
         """The reply to a command that changes nothing."""
-        if version >= len(self.parents):
+        if not self.has(version):
             return reply(tag, UNKNOWN_VERSION)
         if opcode == INFO:
             return reply(tag, PLACE, self.place(version))
@@ -222,7 +244,7 @@ class Store:
             return reply(tag, KEY_SIZE)
         if not 1 <= limit <= PAIRS_MAX:
             return reply(tag, SCAN_SIZE)
-        if version >= len(self.parents):
+        if not self.has(version):
             return reply(tag, UNKNOWN_VERSION)
         pairs = self.range(version, lo, hi)
         return page(tag, pairs[:limit], len(pairs) > limit)
@@ -235,7 +257,7 @@ class Store:
         """The reply to an opening of a cursor, which has the range as it is now."""
         if max(len(lo), len(hi)) > KEY_MAX:
             return reply(tag, KEY_SIZE)
-        if version >= len(self.parents):
+        if not self.has(version):
             return reply(tag, UNKNOWN_VERSION)
         if len(self.cursors) == CURSORS_MAX:
             return reply(tag, CURSOR_LIMIT)

@@ -13,12 +13,12 @@ The checks stand in `tests/checks/`, one subject a file; what several subjects n
 import sys
 
 from checks import (
-    arguments, batches, calls, checking, commands, crashes, cursors, damage, endings, exports, faults, files,
+    arguments, batches, calls, checking, commands, crashes, cursors, damage, drops, endings, exports, faults, files,
     filters, following, frames, kept, levels, manifests, memory, pages, power, stops, streams, syncs, workload)
 from program import run_checks
 
 SUBJECTS = [
-    frames, commands, cursors, arguments, streams, files, pages, kept, levels, filters, memory, workload, damage, manifests, checking, crashes,
+    frames, commands, drops, cursors, arguments, streams, files, pages, kept, levels, filters, memory, workload, damage, manifests, checking, crashes,
     batches, stops, power, faults, calls, syncs, endings, following, exports]
 CHECKS = [check for subject in SUBJECTS for check in subject.CHECKS]
 

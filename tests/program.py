@@ -221,6 +221,7 @@ def expect_levels(name, data, store):
     expect(f"{name}, generation, region and slot", (contents.head.generation, contents.head.region, contents.slot),
            (times + 1, times % 2, times % 2))
     expect(f"{name}, manifest", manifest[:5], emptied[:5])
+    expect(f"{name}, marks of dropped versions", manifest.marks, promotions.marks_of(emptied))
     expect(f"{name}, levels", [level.number for level in manifest.levels], sorted(emptied.levels))
     for level in manifest.levels:
         horizon, parts = emptied.levels[level.number]
@@ -290,7 +291,7 @@ def expect_sound(name, data):
 
 
 def expect_alike(name, got, store):
-    for what in ("limits", "parents", "pairs"):
+    for what in ("limits", "parents", "dropped", "pairs"):
         expect(f"{name}, {what}", getattr(got, what), getattr(store, what))
     expect(f"{name}, counts", got.counts(), store.counts())
 

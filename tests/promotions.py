@@ -5,22 +5,22 @@ It is written from docs/DEFINITIONS.md and shares no line with the program. Wher
 
 import collections
 
-from formats import Array, Contents, Entry, Level, Logged, Manifest, entries_of, live_in, new_head, order
-from model import CLONE, PUT
+from formats import Array, Contents, Entry, Level, Logged, Manifest, dropped_in, entries_of, live_in, new_head, order
+from model import CLONE, DROP, PUT, UPDATES
 
 # An array is its number, its versions, how many entries are live in that version of it which has the fewest, and its entries
 Part = collections.namedtuple("Part", "id versions least entries")
-# What was emptied into levels: by the number of a level its horizon and its arrays
-Emptied = collections.namedtuple("Emptied", "changes updates written next_array parents levels")
+# What was emptied into levels: by the number of a level its horizon and its arrays; and which versions were dropped before
+Emptied = collections.namedtuple("Emptied", "changes updates written next_array parents levels dropped")
 
-NOTHING = Emptied(0, 0, 0, 1, (), {})
+NOTHING = Emptied(0, 0, 0, 1, (), {}, frozenset())
 
 
 def last_updates(changes):
     """The last update of each key and version."""
     updates = {}
     for kind, version, *fields in changes:
-        if kind != CLONE:
+        if kind in UPDATES:
             updates[fields[0], version] = Entry(fields[0], version, fields[1] if kind == PUT else None)
     return updates
 
@@ -95,8 +95,9 @@ def emptied_into(emptied, changes, mem):
     if parts:
         levels[target] = (len(parents) + 1, parts)
     return Emptied(
-        emptied.changes + len(changes), emptied.updates + sum(change[0] != CLONE for change in changes),
-        emptied.written + sum(len(part.entries) for part in parts), emptied.next_array + len(parts), parents, levels)
+        emptied.changes + len(changes), emptied.updates + sum(change[0] in UPDATES for change in changes),
+        emptied.written + sum(len(part.entries) for part in parts), emptied.next_array + len(parts), parents, levels,
+        emptied.dropped.union(version for kind, version, *_ in changes if kind == DROP))
 
 
 def entries_merged(emptied, changes, mem):
@@ -152,7 +153,7 @@ def opened(data, contents):
     """The journal of a run that opens a file with these bytes."""
     levels = {level.number: (level.horizon, [Part(array.id, array.versions, array.least, tuple(entries_of(data, array)))
                                              for array in level.arrays]) for level in contents.manifest.levels}
-    emptied = Emptied(*contents.manifest[:5], levels)
+    emptied = Emptied(*contents.manifest[:5], levels, frozenset(dropped_in(contents.manifest)))
     return Journal(contents.head.mem, contents.head.generation - 1, emptied, [change for change, _ in contents.journal])
 
 
@@ -169,7 +170,13 @@ def contents_after(changes, limits):
     times, emptied, journal = after(changes, limits[0])
     levels = tuple(Level(number, horizon, tuple(map(described, parts))) for number, (horizon, parts) in sorted(emptied.levels.items()))
     head = new_head(*limits)._replace(generation=times + 1, region=times % 2)
-    return Contents(times % 2, head, Manifest(*emptied[:5], levels), (), [Logged(change, None) for change in journal])
+    manifest = Manifest(*emptied[:5], levels, marks=marks_of(emptied))
+    return Contents(times % 2, head, manifest, (), [Logged(change, None) for change in journal])
+
+
+def marks_of(emptied):
+    """The marks of versions in the manifest that was written as the journal was emptied."""
+    return tuple(int(version in emptied.dropped) for version in range(len(emptied.parents) + 1)) if emptied.dropped else ()
 
 
 def described(part):

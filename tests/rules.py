@@ -72,8 +72,9 @@ def broken_above(it, above, manifest, journal):
     horizon = it.level.horizon
     if horizon > len(manifest.parents) + 1 or any(horizon > other.level.horizon for other in above):
         yield "i"
-    closed = {parent for child, parent in enumerate(manifest.parents, 1) if child < horizon}
-    updated = {change[1] for change, _ in journal if change[0] != model.CLONE}
+    dropped = formats.dropped_in(manifest).union(change[1] for change, _ in journal if change[0] == model.DROP)
+    closed = {parent for child, parent in enumerate(manifest.parents, 1) if child < horizon and child not in dropped}
+    updated = {change[1] for change, _ in journal if change[0] in model.UPDATES}
     if closed & updated.union(*([entry.version for entry in other.leads] for other in above)):
         yield "j"
 

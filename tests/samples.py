@@ -5,7 +5,7 @@ import os
 
 import formats
 import promotions
-from model import clone, close_cursor, delete, frame, get, info, next_pairs, open_cursor, put, scan, stat
+from model import clone, close_cursor, delete, drop, frame, get, info, next_pairs, open_cursor, put, scan, stat
 from program import StoreFile, bytes_of
 
 BATCH_MAX = 16  # most changes that become durable together
@@ -91,12 +91,17 @@ def altered(path, place, piece):
         file.write(piece)
 
 
-def drawn_changes(chance, count, versions, keys, clones):
-    """Puts, deletes and clones over a store with so many versions; most are accepted."""
-    frames = []
+def drawn_changes(chance, count, versions, keys, clones, drops=0, dropped=()):
+    """Puts, deletes, clones and drops over a store with so many versions, of which some were dropped; most are accepted."""
+    frames, gone = [], set(dropped)
     for tag in range(count):
         version = chance.randrange(versions) if chance.random() < 0.4 else max(0, versions - 1 - chance.randrange(4))
-        if chance.random() < clones:
+        if version in gone and chance.random() < 0.9:
+            version = chance.choice([other for other in range(versions) if other not in gone][-6:])
+        if drops and chance.random() < drops:
+            frames.append(drop(tag, version))
+            gone |= {version} - {0}  # or it is refused, and is left alone from here on
+        elif chance.random() < clones:
             frames.append(clone(tag, version))
             versions += 1
         elif chance.random() < 0.3:
@@ -104,6 +109,11 @@ def drawn_changes(chance, count, versions, keys, clones):
         else:
             frames.append(put(tag, b"%d" % chance.randrange(keys), chance.randbytes(chance.randrange(6)), version))
     return frames
+
+
+def drawn_over(chance, count, store, keys, clones):
+    """Such changes over this store, half as many of them drops as clones."""
+    return drawn_changes(chance, count, len(store.parents), keys, clones, clones / 2, store.dropped)
 
 
 def batch_ends(store, frames):
@@ -131,9 +141,9 @@ def batch_ends(store, frames):
     return ends + [after.counts()[2]] if batch else ends
 
 
-def drawn_frames(chance, count, versions, keys, clones):
-    """All commands, and bodies that are none."""
-    frames = drawn_changes(chance, count, versions, keys, clones)
+def drawn_frames(chance, count, store, keys, clones):
+    """All commands over a store, and bodies that are none."""
+    frames, versions = drawn_over(chance, count, store, keys, clones), len(store.parents)
     first = frames[0]
     for tag in range(count):
         version, key = chance.randrange(versions + count // 8), b"%d" % chance.randrange(keys)
@@ -168,7 +178,7 @@ def drawn_beside_cursors(chance, count, store, keys, clones):
         elif draw < 0.5 + openings / 3:
             frames.append(close_cursor(tag, number))
         elif draw < 0.95:
-            frames += drawn_changes(chance, 1, len(store.parents), keys, clones)
+            frames += drawn_over(chance, 1, store, keys, clones)
         else:
             frames.append(stat(tag))
         store.answer(frames[-1][4:])

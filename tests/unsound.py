@@ -163,12 +163,12 @@ def stacked(*specimens_by_number, backwards=False):
 
 # Levels that break rules together
 
-def two_levels(first, second, parents, journal=(), lies=()):
+def two_levels(first, second, parents, journal=(), lies=(), marks=()):
     """Level 1 has the first arrays with their horizon, and level 2 the second ones."""
     parts = itertools.count(1)
     strata = [Stratum(number, horizon, [found._replace(id=next(parts)) for found in arrays])
               for number, (horizon, arrays) in enumerate((first, second), 1)]
-    return laid_out(strata, parents, journal, lies)
+    return laid_out(strata, parents, journal, lies, marks=marks)
 
 
 def broken_together():
@@ -185,6 +185,20 @@ def broken_together():
         (2, [above]), (2, [only((0, 1), says(b"a", 0))]), (0,))
     yield Breach("j", 2, 0), "so it is, and a descriptor is wrong", two_levels(
         (2, [above]), (2, [only((0, 1), says(b"a", 0))]), (0,), lies={1: {"least": 0}})
+    deeper = (3, [only((0, 1, 2), says(b"a", 0))])
+    wide = (3, [only((0, 1, 2), says(b"b", 0))])
+    yield Breach("j", 2, 0), "it has two such children, one of which was dropped", two_levels(wide, deeper, (0, 0), marks=(0, 1, 0))
+    yield None, "both such children were dropped", two_levels(wide, deeper, (0, 0), marks=(0, 1, 1))
+    drops = [(formats.DROP, 2), (formats.DROP, 1)]
+    yield None, "both were dropped by the journal, which has a change of it then", two_levels(
+        wide, deeper, (0, 0), [*drops, (formats.PUT, 0, b"c", b"1")])
+    yield Breach("j", 2, 0), "one was dropped by the journal", two_levels(wide, deeper, (0, 0), drops[:1])
+    yield Breach("j", 2, 0), "its child is there, and was cloned and that clone dropped", two_levels(
+        wide, (3, [only((0, 1, 2), says(b"a", 0))]), (0, 1), marks=(0, 0, 1))
+    yield None, "it is dropped with all below it, and has a lead above them", two_levels(
+        (3, [only((1, 2), says(b"b", 1))]), deeper, (0, 1), marks=(0, 1, 1))
+    yield Breach("b", 1, 0), "a dropped version sees a key and is in no tag", two_levels(
+        (3, [only((1,), says(b"b", 1))]), deeper, (0, 1), marks=(0, 1, 1))
     yield None, "its child is not below that horizon", two_levels((2, [above]), (1, [only((0,), says(b"a", 0))]), (0,))
     yield None, "its child was made by the journal", two_levels(
         (1, [only((0,), says(b"b", 0))]), (1, [only((0,), says(b"a", 0))]), (), [(formats.PUT, 0, b"c", b"1"), (formats.CLONE, 0)])

@@ -7,7 +7,7 @@ import fractions
 
 import formats
 import model
-from model import CLONE, DELETE, PUT
+from model import CLONE, DELETE, DROP, PUT, UPDATES
 
 MEM = 64
 LIMITS = MEM, 2 ** 24, 2 ** 14  # M, C and V of the store that the job `workload` makes
@@ -44,7 +44,7 @@ def changes(seed, count):
 def frame(tag, change):
     """The frame of a change."""
     kind, version, *fields = change
-    return {PUT: model.put, DELETE: model.delete, CLONE: model.clone}[kind](tag, *fields, version)
+    return {PUT: model.put, DELETE: model.delete, CLONE: model.clone, DROP: model.drop}[kind](tag, *fields, version)
 
 
 def frames(seed, count):
@@ -67,7 +67,7 @@ def store_after(made):
 def summary_text(seed, contents):
     """The lines that the job prints of a store with these contents, to whose changes this seed led."""
     manifest, journal = contents.manifest, [change for change, _ in contents.journal]
-    updates = sum(change[0] != CLONE for change in journal)
+    updates = sum(change[0] in UPDATES for change in journal)
     count, arrays = manifest.changes + len(journal), formats.arrays_of(manifest)
     stored = sum(array.entries for array in arrays) + updates
     yield f"workload seed {seed} changes {count}"
@@ -89,7 +89,7 @@ def beyond_bounds(contents):
     """Where a store's levels and what was written go beyond what is promised."""
     head, manifest, journal = contents.head, contents.manifest, contents.journal
     count, arrays = manifest.changes + len(journal), formats.arrays_of(manifest)
-    updates = sum(change[0] != CLONE for change, _ in journal)
+    updates = sum(change[0] in UPDATES for change, _ in journal)
     if sum(array.entries for array in arrays) + updates > 2 * (manifest.updates + updates):
         yield "more entries are stored than two for each update"
     if any(3 * array.least < array.entries for array in arrays):

@@ -8,15 +8,17 @@ import time
 import formats
 import model
 from model import (
-    bodies_of, clone, close_cursor, delete, frame, get, info, next_pairs, open_cursor, put, reply, scan, stat)
+    bodies_of, clone, close_cursor, delete, drop, frame, get, info, next_pairs, open_cursor, put, reply, scan, stat)
 from program import (
     DEADLINE, StoreFile, bytes_of, close, complaint, expect, expect_alike, expect_sound, expect_told, in_memory, serve, start)
-from samples import BATCH_MAX, batch_ends, drawn_changes
+from samples import BATCH_MAX, batch_ends, drawn_over
 from tracing import calls_of, traced, transfers_of
 
-# What is served in one piece, and where a fault is met: a batch that is full, one with a clone in it, and two with a get between.
+# What is served in one piece, and where a fault is met: a batch that is full, one with a clone in it, one with a drop, and two with a
+# get between.
 FULL = [put(tag, b"%02d" % tag, b"v") for tag in range(BATCH_MAX)]
 WITH_CLONE = [put(1, b"a", b"1"), put(2, b"b", b"2"), clone(3), put(4, b"a", b"3", 1), delete(5, b"b", 1)]
+WITH_DROP = [put(1, b"a", b"1"), clone(2), put(3, b"a", b"3", 1), drop(4, 1), put(5, b"b", b"2")]
 COMMIT = ["write", "sync", "write", "sync"]
 CUT_BY_A_GET = [put(1, b"a", b"1"), put(2, b"b", b"2"), get(3, b"a"), put(4, b"a", b"3"), put(5, b"c", b"4")]
 
@@ -89,7 +91,7 @@ def a_client_that_waits_costs_one_read_and_one_write_a_reply(folder):
 def a_stream_is_answered_alike_wherever_it_is_cut(folder):
     chance = random.Random(39)
     fresh = StoreFile(folder, 16, 1000, 100)
-    frames = drawn_changes(chance, 32, 1, 6, 0.2)
+    frames = drawn_over(chance, 32, fresh.model, 6, 0.2)
     for place, other in ((3, get(90, b"1")), (9, scan(91)), (17, put(92, b"", b"")), (25, stat(93)), (26, get(94, b"2", 1)),
                          (30, put(95, b"k", b"v", 99)), (33, clone(96, 98)), (37, get(97, b"3"))):
         frames.insert(place, other)
@@ -126,7 +128,7 @@ def kills_amid_batches_leave_all_or_none(folder):
     for turn in range(200):
         if turn % 10 == 0:
             store = StoreFile(folder, chance.choice((4, 20, 64)), 100000, 16384)
-        frames = drawn_changes(chance, 60, len(store.model.parents), 6, 0.2)
+        frames = drawn_over(chance, 60, store.model, 6, 0.2)
         ends = [store.model.counts()[2], *batch_ends(store, frames)]
         child = start(store.path)
         child.stdin.write(b"".join(frames))  # less than the pipe takes at once, so the program reads all of it at once
@@ -147,7 +149,7 @@ def kills_amid_batches_leave_all_or_none(folder):
 
 
 def a_batch_that_fails_is_told_of_once(folder):
-    for name, frames in (("a full batch", FULL), ("with a clone", WITH_CLONE), ("cut by a get", CUT_BY_A_GET)):
+    for name, frames in (("a full batch", FULL), ("with a clone", WITH_CLONE), ("with a drop", WITH_DROP), ("cut by a get", CUT_BY_A_GET)):
         statuses = set()
         for call in ("pwrite64", "write", "fdatasync"):
             for number in range(1, 12):

@@ -4,9 +4,9 @@ import random
 import struct
 
 import model
-from model import clone, delete, frame, get, info, page, put, reply, scan, sized, stat
+from model import clone, delete, drop, frame, get, info, page, put, reply, scan, sized, stat
 from program import GET_A, PUT_A, StoreFile, hexed, in_every_cutting, run
-from samples import ABC, SETTINGS, drawn_changes, drawn_frames
+from samples import ABC, SETTINGS, drawn_frames, drawn_over
 
 
 def another_version_is_unknown(folder):
@@ -80,7 +80,7 @@ def pages_follow_one_another_through_levels(folder):
     chance = random.Random(25)
     for turn in range(12):
         store = StoreFile(folder, chance.choice((4, 8)), 100000, 16384)
-        frames = drawn_changes(chance, chance.choice((60, 400)), 1, chance.choice((5, 40)), chance.choice((0.05, 0.3)))
+        frames = drawn_over(chance, chance.choice((60, 400)), store.model, chance.choice((5, 40)), chance.choice((0.05, 0.3)))
         store.expect_served(f"turn {turn}", [b"".join(frames)])
         for version in chance.sample(range(len(store.model.parents)), min(6, len(store.model.parents))):
             keys = sorted(store.model.pairs[version])
@@ -121,7 +121,7 @@ def versions_are_as_the_model_has_them(folder):
                 version, key = chance.randrange(chance.choice((1, 4, 12, 41))), b"%d" % chance.randrange(6)
                 frames.append(chance.choice((
                     put(tag, key, chance.randbytes(chance.randrange(9)), version), delete(tag, key, version),
-                    get(tag, key, version), clone(tag, version), info(tag, version), stat(tag))))
+                    get(tag, key, version), clone(tag, version), drop(tag, version), info(tag, version), stat(tag))))
             data = b"".join(frames)
             cuts = sorted(chance.sample(range(len(data)), chance.choice((0, 1, 30))))
             store.expect_served(f"turn {turn}, run {run}", [data[i:j] for i, j in zip([0, *cuts], [*cuts, len(data)])])
@@ -138,7 +138,7 @@ def random_streams_are_answered_over_several_runs(folder):
         store = StoreFile(folder, chance.choice((4, 5, 8, 30)), chance.choice((200, 100000)), chance.choice((3, 60, 16384)))
         keys, clones = chance.choice((1, 8, 100)), chance.choice((0.02, 0.2, 0.5))
         for number in range(chance.choice((1, 2, 5))):
-            frames = drawn_frames(chance, chance.choice((20, 200)), len(store.model.parents), keys, clones)
+            frames = drawn_frames(chance, chance.choice((20, 200)), store.model, keys, clones)
             data = b"".join(frames)
             cuts = sorted(chance.sample(range(len(data)), chance.choice((0, 1, 10))))
             pieces = [data[i:j] for i, j in zip([0, *cuts], [*cuts, len(data)])]

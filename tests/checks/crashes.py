@@ -12,7 +12,7 @@ from model import bodies_of, get, open_cursor, put, reply
 from program import (
     DEADLINE, GET_A, PUT_A, StoreFile, Wrong, bytes_of, close, complaint, expect, expect_prefix, expect_sound, read_exactly, send, serve,
     start)
-from samples import drawn_beside_cursors, drawn_changes, drawn_frames
+from samples import drawn_beside_cursors, drawn_frames, drawn_over
 
 
 def killed(path, frames, replies, pause):
@@ -59,14 +59,14 @@ def kills_amid_promotions_lose_nothing(folder):
         if turn % 8 == 0:
             store = StoreFile(folder, 4, 100000, 16384)
             keys, clones = chance.choice((3, 30)), chance.choice((0.1, 0.4))
-        frames = drawn_changes(chance, 80, len(store.model.parents), keys, clones)
+        frames = drawn_over(chance, 80, store.model, keys, clones)
         got = killed(store.path, frames, chance.randrange(9 * 60), chance.random() / 300)
         want = copy.deepcopy(store.model).serve(b"".join(frames))[0]
         answered = len(bodies_of(got))
         expect(f"turn {turn}, replies", got == want[:len(got)], True)
         store.model = expect_prefix(f"turn {turn}", store.path, store.model, frames, answered)
         if turn % 4 == 3:
-            store.expect_served(f"turn {turn}, again", drawn_frames(chance, 15, len(store.model.parents), keys, clones))
+            store.expect_served(f"turn {turn}, again", drawn_frames(chance, 15, store.model, keys, clones))
 
 
 def kills_with_open_cursors_lose_nothing(folder):

@@ -9,7 +9,7 @@ import formats
 import model
 from model import BLOCK, bodies_of, clone, close_cursor, delete, next_pairs, open_cursor, page, put, reply, stat
 from program import StoreFile, Talk, Wrong, bytes_of, expect, hexed, in_every_cutting, in_memory
-from samples import ABC, drawn_beside_cursors, drawn_changes
+from samples import ABC, drawn_beside_cursors, drawn_over
 
 
 def a_cursor_shows_its_range_as_it_was(folder):
@@ -126,7 +126,7 @@ def blocks_stay_while_a_cursor_reads_them_and_no_longer(folder):
         with Talk(f"turn {turn}", store) as talk:
             for number in range(400):
                 if chance.random() < 0.04 and len(held) < 12:
-                    version = chance.randrange(len(store.model.parents))
+                    version = chance.choice(store.model.living())
                     cursor = talk.open(version=version)
                     held[cursor] = blocks_read_at(bytes_of(store.path), store.model.parents[1:], version)
                     named += len(held[cursor])
@@ -136,7 +136,7 @@ def blocks_stay_while_a_cursor_reads_them_and_no_longer(folder):
                     given_back.update(held.pop(cursor))
                 if held:
                     talk.ask(next_pairs(number, chance.choice(list(held)), 1))
-                talk.ask(drawn_changes(chance, 1, len(store.model.parents), keys, clones)[0])
+                talk.ask(drawn_over(chance, 1, store.model, keys, clones)[0])
                 data = bytes_of(store.path)
                 for cursor, blocks in held.items():
                     changed = [block for block, there in blocks.items() if formats.block_at(data, block) != there]

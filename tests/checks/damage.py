@@ -188,7 +188,7 @@ def a_published_store_overwritten_with_noise_is_refused_by_name(folder):
 def full_store(chance, folder, mem):
     """The bytes of a store whose journal fills one region, with two versions and more in levels."""
     frames, journal, store = [], promotions.Journal(mem), model.Store(mem, 1000, 10)
-    for frame in drawn_changes(chance, 400, 1, 8, 0.05):
+    for frame in drawn_changes(chance, 400, 1, 8, 0.08, 0.03):
         frames.append(frame)
         store.answer(frame[4:])
         if len(store.changes) > journal.times * mem + len(journal.changes):
@@ -227,7 +227,9 @@ def expect_exported(name, path, store):
     for version, pairs in enumerate(store.pairs):
         before = left_behind(path)
         out, status, said = run(["export", path, str(version)])
-        if version in store.unread:
+        if not store.has(version):
+            expect(f"{name}, export of version {version}, dropped", (out, status), (b"", model.NO_VERSION))
+        elif version in store.unread:
             expect(f"{name}, export of version {version}, damaged", status, model.DAMAGED)
         else:
             expect(f"{name}, export of version {version}", (out, status), (replicas.exported(pairs), model.ENDED))

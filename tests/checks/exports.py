@@ -12,7 +12,7 @@ import replicas
 from model import BLOCK, bodies_of, put
 from program import (
     DEADLINE, PROGRAM, Skipped, StoreFile, bytes_of, complaint, expect, hexed, in_memory, left_behind, run, serve)
-from samples import PUBLISHED, SETTINGS, altered, drawn_changes, store_after
+from samples import PUBLISHED, SETTINGS, altered, drawn_over, store_after
 
 ROW = hexed("0000001b 00000001 01 00000000 000b 757365722f312f6e616d65 0003 416e6e"
             "0000001b 00000002 01 00000000 000b 757365722f322f6e616d65 0003 526f62")
@@ -27,10 +27,11 @@ def exported(path, version):
 
 
 def expect_exports(name, store):
-    """Each version of a file is exported as the model has it, and the one behind the last is unknown."""
+    """Each version of a file is exported as the model has it. A dropped one is unknown, and so is the one behind the last."""
     for version, pairs in enumerate(store.model.pairs):
-        expect(f"{name}, version {version}", exported(store.path, version), (replicas.exported(pairs), 0, b""))
-    expect(f"{name}, no version", exported(store.path, len(store.model.pairs)), (b"", 12, complaint(12)))
+        want = (replicas.exported(pairs), 0, b"") if store.model.has(version) else (b"", model.NO_VERSION, complaint(model.NO_VERSION))
+        expect(f"{name}, version {version}", exported(store.path, version), want)
+    expect(f"{name}, no version", exported(store.path, len(store.model.pairs)), (b"", model.NO_VERSION, complaint(model.NO_VERSION)))
 
 
 def a_version_is_exported_as_puts_of_its_pairs(folder):
@@ -67,7 +68,7 @@ def exports_are_those_of_the_table(folder):
     for turn in range(12):
         store = StoreFile(folder, chance.choice((4, 8, 30)), 100000, 200)
         for _ in range(3):
-            data = b"".join(drawn_changes(chance, 60, len(store.model.parents), chance.choice((4, 30)), 0.15))
+            data = b"".join(drawn_over(chance, 60, store.model, chance.choice((4, 30)), 0.15))
             expect(f"turn {turn}", serve(store.path, [data]), (*store.model.serve(data), b""))
             expect_exports(f"turn {turn}", store)
 

@@ -16,7 +16,7 @@ from model import bodies_of, frame, put
 from program import (
     DEADLINE, GET_A, PIPES, PROGRAM, PUT_A, StoreFile, bytes_of, close, complaint, expect, expect_alike, expect_sound, expect_told, fed,
     hexed, in_memory, run)
-from samples import BATCH_MAX, drawn_changes, drawn_frames
+from samples import BATCH_MAX, drawn_frames, drawn_over
 from tracing import calls_of
 
 CHANGE_A = hexed("0000000e 00000000 01 00000000 01 61 0001 31")
@@ -65,23 +65,24 @@ def what_is_no_change_is_malformed(folder):
     store, chance = StoreFile(folder, 8, 100, 10), random.Random(47)
     bodies = [b"", b"\0", b"\0\0\0", b"\0\0\0\0", hexed("00000000 00"), hexed("00000000 00 00000000"), hexed("00000000 05 00000000"),
               hexed("00000000 01 00000000 00 0000"), hexed("00000000 01 00000000 01 61 0401") + bytes(1025), PUT_A[4:],
-              hexed("00000000 03 00000000 00"), hexed("ffffffff 03 00000000"), hexed("00000000 a7 03 00000000")]
+              hexed("00000000 03 00000000 00"), hexed("ffffffff 03 00000000"), hexed("00000000 a7 03 00000000"), hexed("00000000 04 000000"),
+              hexed("00000000 04 00000001 00")]
     for number, change in enumerate(((model.PUT, 0, b"k" * 255, b"v" * 1024), (model.DELETE, 0, b"k" * 255), (model.CLONE, 0),
-                                     (model.PUT, 1, b"k", b""), (model.DELETE, 1, b"k"))):
+                                     (model.PUT, 1, b"k", b""), (model.DELETE, 1, b"k"), (model.DROP, 1))):
         body = replicas.change_body(number, change)
         bodies += [body[:place] for place in {*range(12), len(body) - 1, chance.randrange(len(body))}] + [body + b"\0", body]
     followed(store, [b"".join(map(frame, bodies))])
-    expect("all five are taken", store.model.counts()[2], 5)
+    expect("all six are taken", store.model.counts()[2], 6)
 
 
 def refusals_of_a_follower_are_those_of_the_table(folder):
     store = StoreFile(folder, 4, 7, 3)
-    changes = [(model.PUT, 9, b"a", b"1"), (model.CLONE, 1), (model.CLONE, 0), (model.PUT, 0, b"a", b"1"), (model.CLONE, 1), (model.CLONE, 0),
+    changes = [(model.DROP, 0), (model.DROP, 9), (model.PUT, 9, b"a", b"1"), (model.CLONE, 1), (model.CLONE, 0), (model.PUT, 0, b"a", b"1"), (model.CLONE, 1), (model.CLONE, 0), (model.DROP, 1),
                (model.DELETE, 1, b"a"), (model.PUT, 2, b"a", b"1"), (model.DELETE, 2, b"b"), (model.PUT, 2, b"a", b"2"),
                (model.PUT, 2, b"a", b"3"), (model.DELETE, 2, b"a"), (model.PUT, 2, b"a", b"4")]
     sent = b"".join(replicas.change_frame(number, change) for change in changes for number in range(8))
     statuses = {body[4:5] + body[9:] for body in bodies_of(followed(store, [sent]))}
-    wanted = {bytes([4, status]) for status in (model.UNKNOWN_VERSION, model.FROZEN, model.VERSION_LIMIT, model.CHANGE_LIMIT)}
+    wanted = {bytes([4, status]) for status in (model.UNKNOWN_VERSION, model.ROOT, model.FROZEN, model.VERSION_LIMIT, model.CHANGE_LIMIT)}
     expect("what was seen", statuses, {b"\0\0", b"\1\0", b"\2\0", *wanted})
 
 
@@ -90,7 +91,7 @@ def a_leader_is_silent_of_what_it_refuses_and_of_what_changes_nothing(folder):
     for turn in range(12):
         store = StoreFile(folder, chance.choice((4, 9, 64)), chance.choice((40, 1000)), chance.choice((5, 100)))
         for _ in range(3):
-            frames = drawn_frames(chance, 40, len(store.model.parents), 6, 0.2)
+            frames = drawn_frames(chance, 40, store.model, 6, 0.2)
             data = b"".join(frames)
             cuts = sorted(chance.randrange(len(data)) for _ in range(chance.randrange(4)))
             led(store, [data[at:to] for at, to in zip([0, *cuts], [*cuts, len(data)]) if at < to])
@@ -134,7 +135,7 @@ def what_a_journal_has_is_sent_with_its_numbers_after_many_changes(folder):
     chance, sizes = random.Random(49), set()
     store = StoreFile(folder, 4, 1000, 100)
     for _ in range(20):
-        led(store, [b"".join(drawn_changes(chance, chance.randrange(1, 12), len(store.model.parents), 5, 0.2))])
+        led(store, [b"".join(drawn_over(chance, chance.randrange(1, 12), store.model, 5, 0.2))])
         sizes.add(len(bodies_of(led(store, []))))
     # four in the active region, and behind it two at most
     expect("changes in the journal", (min(sizes) > 0, max(sizes) <= 6), (True, True))
@@ -253,7 +254,7 @@ class Copies:
 
     def run_leader(self, stops):
         """Has the leader take changes, and kills it amid them. Whether it was killed."""
-        frames = drawn_changes(self.chance, self.chance.randrange(1, 50), len(self.store.parents), 12, 0.1)
+        frames = drawn_over(self.chance, self.chance.randrange(1, 50), self.store, 12, 0.1)
         sent, is_killed = ran("lead", self.leader.path, b"".join(frames), self.stop(15 * len(frames)) if stops else None)
         self.note(sent)
         data = bytes_of(self.leader.path)

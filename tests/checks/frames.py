@@ -8,7 +8,7 @@ import threading
 
 import model
 from model import (
-    bodies_of, clone, close_cursor, delete, frame, get, info, next_pairs, open_cursor, page, put, reply, scan, sized, stat,
+    bodies_of, clone, close_cursor, delete, drop, frame, get, info, next_pairs, open_cursor, page, put, reply, scan, sized, stat,
     tag_of)
 from program import DEADLINE, GET_A, PUT_A, TOP, StoreFile, close, expect, hexed, in_every_cutting, read_exactly, start
 
@@ -25,7 +25,7 @@ def a_put_is_found_and_another_key_is_absent(folder):
 
 
 def an_opcode_that_is_not_there_is_malformed(folder):
-    in_every_cutting(folder, "opcode 11", hexed("00000005 00000001 0b"), (hexed("00000005 00000001 16"), 0))
+    in_every_cutting(folder, "opcode 12", hexed("00000005 00000001 0c"), (hexed("00000005 00000001 16"), 0))
 
 
 def a_short_body_is_malformed_and_the_run_goes_on(folder):
@@ -36,7 +36,7 @@ def a_short_body_is_malformed_and_the_run_goes_on(folder):
 
 def a_body_that_is_not_just_its_fields_is_malformed(folder):
     for whole in (PUT_A, GET_A, delete(1, b"a"), clone(2), info(3), stat(4), scan(5, b"a", b"bc"), open_cursor(6, b"a", b"bc"),
-                  next_pairs(7, 1), close_cursor(8, 1)):
+                  next_pairs(7, 1), close_cursor(8, 1), drop(9, 1)):
         whole = whole[4:]
         bodies = [whole[:length] for length in range(len(whole))] + [whole + b"\0", whole + whole]
         data = b"".join(frame(body) for body in bodies)
@@ -119,7 +119,7 @@ def noise_ends_with_a_named_status(folder):
 def the_examples_of_the_protocol_are_frames(folder):
     commands, replies = (re.findall(r"^\| (\d+) \| (.*?) \|.*?\| `([0-9a-f ]+)` \|", page, re.M)
                          for page in (TOP / "docs" / "PROTOCOL.md").read_text().split("## Replies"))
-    expect("examples", (len(commands), len(replies)), (10, 22))
+    expect("examples", (len(commands), len(replies)), (11, 23))
     for number, name, digits in commands + replies:
         data = hexed(digits)
         expect(f"{name}, its length", struct.unpack(">I", data[:4])[0], len(data) - 4)

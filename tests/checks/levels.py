@@ -11,7 +11,7 @@ import promotions
 import workloads
 from model import BLOCK, get, put
 from program import DEADLINE, PROGRAM, PUT_A, StoreFile, bytes_of, complaint, expect, expect_said, expect_told, hexed, run
-from samples import DISTINCT, PUBLISHED, PURGED, SETTINGS, altered, drawn_changes, store_after
+from samples import DISTINCT, PUBLISHED, PURGED, SETTINGS, altered, drawn_over, store_after
 
 # The block and the bytes of the manifest of each
 SPELLINGS = [
@@ -139,7 +139,7 @@ def every_array_is_a_third_live(folder):
         mem = chance.choice((4, 8))
         store = StoreFile(folder, mem, 100000, 16384)
         keys, clones, count = chance.choice((1, 4, 30)), chance.choice((0.05, 0.3, 0.7)), chance.choice((100, 500))
-        store.expect_served(f"turn {turn}", [b"".join(drawn_changes(chance, count, 1, keys, clones))])
+        store.expect_served(f"turn {turn}", [b"".join(drawn_over(chance, count, store.model, keys, clones))])
         data = bytes_of(store.path)
         contents = formats.read(data)
         stored = 0

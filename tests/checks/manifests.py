@@ -51,6 +51,8 @@ def at_the_bounds():
     yield "the deepest level", HEAD, with_level(TREE, 1, number=22)
     yield "no level", HEAD, TREE._replace(levels=())
     yield "one version", HEAD, formats.EMPTY._replace(changes=2)
+    for marks in ((0, 0, 0, 1), (0, 0, 1, 1), (0, 1, 1, 1)):
+        yield f"marks {marks}", HEAD, TREE._replace(marks=marks)
 
 
 def refused_spellings():
@@ -100,7 +102,7 @@ def refused_openings():
         ("entries", with_array(FIRST, leads=0, least=0)), ("blocks", with_array(FIRST, extents=((7, 1), (11, 2)))),
         ("the next array", TREE._replace(next_array=16384 * 12 + 2)), ("what was written", TREE._replace(written=33554432 * 12 + 1)),
         ("what was written, all", TREE._replace(written=2 ** 64 - 1)), ("the next array, all", TREE._replace(next_array=2 ** 64 - 1)),
-        ("what was compacted", TREE._replace(compacted=33554432 * 12 + 1)), ("a version that was dropped", TREE._replace(marks=(0, 0, 0, 1))),
+        ("what was compacted", TREE._replace(compacted=33554432 * 12 + 1)),
     ):
         yield name, HEAD, tree
     yield "versions", HEAD._replace(versions_max=3), TREE

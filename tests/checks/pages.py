@@ -10,7 +10,7 @@ import subprocess
 import formats
 from checks.kept import with_kept
 from formats import Head
-from model import BLOCK, put
+from model import BLOCK, clone, drop, put
 from program import DEADLINE, PROGRAM, TOP, StoreFile, bytes_of, expect, expect_told, in_memory
 from samples import PUBLISHED, store_after
 
@@ -68,10 +68,10 @@ def manifests_are_as_shown(folder):
 
 
 def records_and_entries_are_as_shown(folder):
-    records, = map(bytes_in, examples("Journal regions"))
-    store, _ = store_after(folder, 4, [put(1, b"a", b"1"), put(2, b"b", b"22")])
-    data = bytes_of(store.path)
-    expect("records", data[2 * BLOCK:3 * BLOCK], records.ljust(BLOCK, b"\0"))
+    puts, drops = map(bytes_in, examples("Journal regions"))
+    for records, frames in ((puts, [put(1, b"a", b"1"), put(2, b"b", b"22")]), (drops, [clone(1), drop(2, 1)])):
+        store, _ = store_after(folder, 4, frames)
+        expect("records", bytes_of(store.path)[2 * BLOCK:3 * BLOCK], records.ljust(BLOCK, b"\0"))
     entries, = map(bytes_in, examples("Blocks of arrays"))
     store, contents = store_after(folder, 4, [put(tag, b"a", b"1") for tag in range(6)])
     array, = formats.arrays_of(contents.manifest)

@@ -9,7 +9,7 @@ import formats
 import model
 from model import BLOCK, Store, bodies_of, close_cursor, frame, get, info, next_pairs, open_cursor, put, scan, stat
 from program import StoreFile, Wrong, bytes_of, expect, expect_kept, expect_opened, expect_sound, serve
-from samples import BATCH_MAX, batch_ends, drawn_beside_cursors, drawn_changes, folders_of
+from samples import BATCH_MAX, batch_ends, drawn_beside_cursors, drawn_over, folders_of
 from tracing import calls_of, traced
 
 
@@ -121,7 +121,7 @@ def a_cut_of_power_loses_nothing_acknowledged(folder):
     for turn, together in enumerate((False, False, True, True)):
         mem = 40 if turn == 3 else 4
         store, again = StoreFile(folder, mem, 1000, 100), StoreFile(folder, mem, 1000, 100)
-        frames = drawn_beside_cursors(chance, 90, store.model, 6, 0.2) if turn == 1 else drawn_changes(chance, 50, 1, 6, 0.2)
+        frames = drawn_beside_cursors(chance, 90, store.model, 6, 0.2) if turn == 1 else drawn_over(chance, 50, store.model, 6, 0.2)
         history = served_history(folder, f"turn {turn}", store, frames, together)
         for number, answered, synced, pending in moments(history):
             for choice, data in enumerate(images_of(synced, pending, chance)):
@@ -197,7 +197,7 @@ def killed_history(folder, first, last, chance):
     with open(store.path, "wb") as file:
         file.write(data)
     store.model = copy.deepcopy(first.stores[formats.opened(data)[1].counts()[2]])
-    frames = [stat(0), *drawn_changes(chance, 12, len(store.model.parents), 6, 0.2)]
+    frames = [stat(0), *drawn_over(chance, 12, store.model, 6, 0.2)]
     history = served_history(folder, f"after call {last}", store, frames)
     return history._replace(synced=synced, pending=pending, least=first.made[answered], ends=sorted({*first.ends, *history.ends}),
                             stores={**first.stores, **history.stores})
@@ -207,7 +207,7 @@ def histories(folder, chance):
     """Runs by name: one that makes a store, one that serves it over publications, and one after each kill of that one."""
     yield "format", formatted_history(folder)
     store = StoreFile(folder, 4, 1000, 100)
-    served = served_history(folder, "serve", store, drawn_changes(chance, 25, 1, 6, 0.2))
+    served = served_history(folder, "serve", store, drawn_over(chance, 25, store.model, 6, 0.2))
     yield "serve", served
     syncs = list(roles_of(served))
     for role in ("the flag of a record", "the flag of a superblock"):

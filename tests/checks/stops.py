@@ -4,14 +4,14 @@ import collections
 
 import model
 from faulty import KILLED, Rig, Script, changes_in, counts_of, expect_goes_on, expect_outcome, made_over
-from model import clone, delete, put
+from model import clone, delete, drop, put
 from program import expect, expect_said
 from shim import Fault
 
 DEPTH = 3
 AHEAD = 2  # changes that a run makes behind its recovery; those at a full journal promote it, and the second one publishes
 
-CHANGES = [put(1, b"a", b"1"), put(2, b"b", b"2"), clone(3), put(4, b"a", b"3", 1), delete(5, b"b", 1), put(6, b"c", b"4", 1)]
+CHANGES = [put(1, b"a", b"1"), clone(2), put(3, b"a", b"3", 1), clone(4, 1), drop(5, 2), delete(6, b"b", 1), put(7, b"c", b"4", 1)]
 # What a store took before, so that its journal is full, in either region, and with levels below
 EARLIER = {"a new store": [], "a full journal": [put(tag, b"%d" % tag, b"e") for tag in range(4)],
            "a second level": [put(tag, b"%d" % tag, b"e") for tag in range(16)]}

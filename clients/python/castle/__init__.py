@@ -13,6 +13,7 @@ docs/CLIENT.md goes through all of it.
 
 from .batch import Batch
 from .branches import Snapshot
+from .dropping import Drops
 from .errors import CastleError, Ended, Refused
 from .exporting import Imported, export
 from .frames import Info, Limits, Page, Stat
@@ -27,7 +28,7 @@ from .storetext import Counts
 from .verdict import Damaged, Sound, Unsound, Verdict
 from .view import VersionView
 
-__all__ = ["Array", "Batch", "CastleError", "Counts", "Damaged", "Difference", "Differences", "Ended", "Imported", "Info", "Level", "Levels",
+__all__ = ["Array", "Batch", "CastleError", "Counts", "Damaged", "Difference", "Differences", "Drops", "Ended", "Imported", "Info", "Level", "Levels",
            "Limits", "Lost", "Merge", "Name", "Names", "Page", "Refused", "Salvage", "Scan", "Snapshot", "Sound", "Stat", "Store", "ThreeWay",
            "Unsound", "Verdict", "VersionView", "backup", "export", "salvage"]
 __version__ = "0.1.0"

@@ -23,7 +23,7 @@ class Batch:
                 batch.get(0, key)
         values = batch.results
 
-    `results` has what the commands gave, in their order: None for put and delete, the value or None for get, the
+    `results` has what the commands gave, in their order: None for put, delete and drop, the value or None for get, the
     number for clone, `Page`, `Info`, `Stat`. They are all there at the end of the `with` block, or after `finish()`; before,
     those that came so far. A command that was refused, by the program or here, has its exception there, and those behind it
     are carried out none the less. The first is raised at the end, unless the batch was made with `return_exceptions`. A
@@ -72,6 +72,10 @@ class Batch:
         """Makes a version with the same pairs."""
         self._program.send(self.results, self._commands.clone, version)
 
+    def drop(self, version: Version) -> None:
+        """Takes a version away for good. Its names are let go of at the end of the batch."""
+        self._program.send(self.results, self._commands.drop, version)
+
     def page(self, version: Version, lower: Data = b"", upper: Data = b"", *, prefix: Data = b"",
              limit: int = frames.PAGE_MAX) -> None:
         """Asks for the first pairs of a range, as `Store.page` does."""
@@ -88,6 +92,8 @@ class Batch:
     def finish(self) -> List[Result]:
         """Waits until all is answered, and gives the results."""
         self._program.settle(self.results)
+        self._program.explain(self.results)
+        self._commands.let_go()
         if not self._return_exceptions:
             for result in self.results:
                 if isinstance(result, errors.CastleError):

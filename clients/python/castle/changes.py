@@ -24,7 +24,7 @@ class Change(NamedTuple):
 
     number: int
     kind: int
-    """`PUT`, `DELETE`, `CLONE`, or `DROP`, which no store takes yet."""
+    """`PUT`, `DELETE`, `CLONE` or `DROP`."""
     version: int
     key: bytes = b""
     value: Optional[bytes] = None
@@ -68,11 +68,16 @@ def clone(number: int, version: int) -> bytes:
     return HEAD.pack(9, number, CLONE, version)
 
 
+def drop(number: int, version: int) -> bytes:
+    """The frame of a drop."""
+    return HEAD.pack(9, number, DROP, version)
+
+
 def of_command(number: int, frame: bytes) -> bytes:
     """The frame that a leader writes for the frame of a command, if it accepts that as the change of this number."""
     opcode, version = frame[8], frames.NUMBER.unpack_from(frame, frames.HEAD.size)[0]
-    if opcode == frames.CLONE:
-        return clone(number, version)
+    if opcode in (frames.CLONE, frames.DROP):
+        return clone(number, version) if opcode == frames.CLONE else drop(number, version)
     head = frames.KEY_HEAD.size
     size = frames.SIZE.unpack_from(frame, frames.VERSION_HEAD.size)[0]
     key, rest = frame[head:head + size], frame[head + size + 2:]

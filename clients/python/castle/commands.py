@@ -4,7 +4,7 @@ from __future__ import annotations
 
 import struct
 from itertools import chain
-from typing import List, Sequence, Tuple, Union, cast
+from typing import List, Sequence, Set, Tuple, Union, cast
 
 from . import errors, frames
 from .edits import Edits
@@ -40,6 +40,7 @@ class Commands:
         self._read_only = read_only
         self.changes = 0
         """How many changes were asked for so far, whether they are made or not."""
+        self._drops: Set[int] = set()  # versions that were asked to be dropped, and whose names may stand still
 
     def number(self, version: Version) -> int:
         """The number of a version, which may be given by its name."""
@@ -113,6 +114,24 @@ class Commands:
         number = self.number(version)
         self._names.forget_strays()
         return frames.clone(self._program.tag, number)
+
+    def drop(self, version: Version) -> bytes:
+        """The frame of a drop. Behind its answer `let_go` takes the version's names away."""
+        self._change("drop")
+        number = self.number(version)
+        self.edits.forget(number)
+        self._drops.add(number)
+        return frames.drop(self._program.tag, number)
+
+    def let_go(self) -> List[str]:
+        """Takes the names away of versions that were asked to be dropped, and were, and gives those names.
+
+        Where an exception cuts it off, the next call takes them.
+        """
+        with self._program.lock:
+            names = self._names.let_go(self._drops) if self._drops else []
+            self._drops = set()
+            return names
 
     def _bounds(self, lower: Data, upper: Data, prefix: Data) -> Tuple[bytes, bytes]:
         """The bounds of the range between two bounds whose keys begin with a prefix."""

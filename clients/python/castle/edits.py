@@ -13,8 +13,8 @@ LOOKED_UP = 1000  # keys whose values are looked up in place of two scans, at mo
 class Edits:
     """The keys that were put or deleted at each version that was made since the store was opened, by whoever alone changes it.
 
-    A version is changed only until it is cloned. So where a version differs from its parent, it was changed itself. Keys are
-    noted before they are sent, also those of changes that are refused then.
+    A version is not changed as long as it has a child. So where a version differs from its parent, it was changed itself. Keys are
+    noted before they are sent, also those of changes that are refused then. Of a version that is dropped nothing is known.
     """
 
     def __init__(self, first: int) -> None:
@@ -22,7 +22,7 @@ class Edits:
         self.first = first
         self._keys: Dict[int, Set[bytes]] = {}
         self._parents: Dict[int, int] = {}
-        self._lost: Set[int] = set()  # versions of too many keys
+        self._lost: Set[int] = set()  # versions of too many keys, and those that may be dropped
         self._count = 0
 
     def note(self, version: int, keys: Iterable[bytes]) -> None:
@@ -35,6 +35,12 @@ class Edits:
         self._count += len(known)
         if self._count > KEPT:
             self._count -= len(self._keys.pop(version))
+            self._lost.add(version)
+
+    def forget(self, version: int) -> None:
+        """Knows nothing more of a version, which may be dropped from now on."""
+        if version >= self.first:
+            self._count -= len(self._keys.pop(version, ()))
             self._lost.add(version)
 
     def between(self, first: int, second: int, parent_of: Callable[[int], Optional[int]], prefix: bytes) -> Optional[List[bytes]]:

@@ -41,15 +41,25 @@ class Refused(CastleError):
 
 
 class UnknownVersion(Refused):
+    """`version` is its number, where that is known. One that was dropped is told as a `Dropped`."""
+
     status = 16
     what = "the store has no version of this number"
-    remedy = "Use 0 or a number that a clone gave; `stat` tells how many versions there are."
+    remedy = "Use 0 or a number that a clone gave; `tree` shows the versions that there are."
+    version: Optional[int] = None
+
+
+class Dropped(UnknownVersion):
+    """The version was there, and was dropped: by this program or by another one."""
+
+    what = "the version was dropped"
+    remedy = "`tree` shows the versions that there are; a dropped one does not come back."
 
 
 class Frozen(Refused):
     status = 17
-    what = "the version has a child and takes no more puts and deletes"
-    remedy = "Clone it, and write to the clone."
+    what = "the version has a child, and takes no puts and deletes and no drop"
+    remedy = "Clone it, and write to the clone; or drop its children first."
 
 
 class UnknownCursor(Refused):
@@ -63,7 +73,8 @@ class UnknownCursor(Refused):
 class VersionLimit(Refused):
     status = 19
     what = "the store has as many versions as it was made for"
-    remedy = "Go on with the versions that there are, or make a store for more (V): `dump --all` and `load --all` move everything."
+    remedy = ("Go on with the versions that there are, or make a store for more (V): `dump --all` and `load --all` move everything. "
+              "Dropped versions count as well.")
 
 
 class ChangeLimit(Refused):
@@ -110,6 +121,12 @@ class FrameTooLong(Refused):
     status = 26
     what = "a frame was longer than 2,048 bytes"
     remedy = "This is a mistake of the client; what was answered before holds. Open the store again."
+
+
+class Root(Refused):
+    status = 27
+    what = "version 0 can't be dropped"
+    remedy = "Drop the versions below it, or make a new store."
 
 
 class NoMemory(Refused):
@@ -284,8 +301,8 @@ class NoSuchVersion(Ended):
 
     status = 12
     text = "unknown version"
-    what = "the store has no version of this number, and nothing was written"
-    remedy = "Use 0 or a number that a clone gave; `levels` tells how many versions there are."
+    what = "the store has no version of this number, or it was dropped, and nothing was written"
+    remedy = "Use 0 or a number that a clone gave and that was not dropped; `castle-shell FILE tree` shows them."
 
 
 class LauncherRefused(Ended):

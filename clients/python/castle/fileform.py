@@ -1,14 +1,14 @@
-"""The form of a store's file, as far as a salvage needs it: superblocks, the manifest, and the blocks of arrays.
+"""The form of a store's file, as far as it is read here: superblocks, the manifest, the journal, and the blocks of arrays.
 
-docs/FORMATS.md has every field. What is read here says where entries are, and never what a version has: that the program
-tells.
+docs/FORMATS.md has every field. What is read here says where entries are, and which versions were cloned from which and dropped,
+and never what a version has: that the program tells.
 """
 
 from __future__ import annotations
 
 import os
 import struct
-from typing import Callable, Iterator, List, NamedTuple, Optional, Sequence, Set, Tuple
+from typing import Callable, Dict, Iterator, List, NamedTuple, Optional, Sequence, Set, Tuple
 
 from .frames import VALUE_MAX
 
@@ -25,6 +25,9 @@ LEVEL_HEAD = struct.Struct(">BII")
 ARRAY_HEAD = struct.Struct(">QIIII")
 EXTENT = struct.Struct(">II")
 RECORD_MAX = 1288  # bytes of a record of the journal
+RECORD_HEAD = struct.Struct(">BBI")  # its flag, its kind and its version
+FLAG = 0xa7  # of a record that counts
+PUT, DELETE, CLONE, DROP = 1, 2, 3, 4  # kinds of records
 
 Place = Tuple[bytes, int]  # a key and a version of an entry
 Entry = Tuple[bytes, int, Optional[bytes]]  # these with the value; None where the key has none
@@ -77,8 +80,17 @@ class Manifest(NamedTuple):
     parents: Tuple[int, ...]
     """The parent of each version from 1 on."""
     marks: bytes
-    """A byte for each version from 0 on, in format 2 alone."""
+    """A byte for each version from 0 on, which is 1 if it was dropped. In format 2 alone."""
     levels: Tuple[Level, ...]
+
+
+class Lineage(NamedTuple):
+    """The versions of a store, those of its journal among them."""
+
+    parents: Tuple[Optional[int], ...]
+    """What each version was cloned from; None for version 0."""
+    dropped: Dict[int, int]
+    """The dropped ones in the order of their numbers, with the same."""
 
 
 class Block(NamedTuple):
@@ -153,6 +165,61 @@ def _array_of(data: bytes, at: int) -> Tuple[Array, int]:
     tags = NUMBER.unpack_from(data, at)[0]
     versions = struct.unpack_from(f">{tags}I", data, at + 4)
     return Array(number, entries, leads, least, extents, versions), at + 4 + 4 * tags
+
+
+def read_journal(file: int, head: Head) -> Iterator[Tuple[int, int]]:
+    """The kind and the version of each change in the journal. A ValueError tells that a record is none."""
+    count = 0
+    for change in _region(file, head, head.region):
+        yield change
+        count += 1
+    if count == head.mem:
+        yield from _region(file, head, 1 - head.region)
+
+
+def _region(file: int, head: Head, region: int) -> Iterator[Tuple[int, int]]:
+    """Those of one of its regions."""
+    size = -(-(RECORD_MAX * head.mem + 1) // BLOCK) * BLOCK
+    data, at = _bytes_at(file, 2 * BLOCK + region * size, size), 0
+    for _ in range(head.mem):
+        if at >= size or data[at] != FLAG:
+            return
+        try:
+            _, kind, version = RECORD_HEAD.unpack_from(data, at)
+            at = _record_end(data, at + RECORD_HEAD.size, kind)
+        except (struct.error, IndexError):
+            raise ValueError("a record of the journal ends behind its region") from None
+        yield kind, version
+
+
+def _record_end(data: bytes, at: int, kind: int) -> int:
+    """Where a record ends whose version ends there."""
+    if kind in (CLONE, DROP):
+        return at
+    if kind not in (PUT, DELETE):
+        raise ValueError(f"the journal has a record of kind {kind}")
+    at += 1 + data[at]
+    return at if kind == DELETE else at + SIZE.size + int(SIZE.unpack_from(data, at)[0])
+
+
+def lineage_of(file: int, head: Head, manifest: Manifest) -> Lineage:
+    """The versions of a store with this superblock and manifest. A ValueError tells that its journal can't be read."""
+    parents: List[Optional[int]] = [None, *manifest.parents]
+    dropped = {version for version, mark in enumerate(manifest.marks) if mark}
+    for kind, version in read_journal(file, head):
+        if kind == CLONE:
+            parents.append(version)
+        elif kind == DROP:
+            dropped.add(version)
+    if not dropped <= set(range(1, len(parents))):
+        raise ValueError("a version was dropped that is not there")
+    return Lineage(tuple(parents), {version: parents[version] or 0 for version in sorted(dropped)})
+
+
+def read_lineage(file: int) -> Lineage:
+    """The versions of a store. A ValueError tells that its file can't be read here."""
+    head = read_head(file)
+    return lineage_of(file, head, read_manifest(file, head))
 
 
 def _bytes_at(file: int, place: int, size: int) -> bytes:

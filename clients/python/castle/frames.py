@@ -7,7 +7,7 @@ from typing import List, NamedTuple, Optional, Sequence, Tuple, Union
 
 from . import text
 
-PUT, DELETE, GET, CLONE, SCAN, INFO, OPEN_CURSOR, NEXT_PAIRS, CLOSE_CURSOR, STAT = 1, 2, 3, 4, 5, 6, 7, 8, 9, 10
+PUT, DELETE, GET, CLONE, SCAN, INFO, OPEN_CURSOR, NEXT_PAIRS, CLOSE_CURSOR, STAT, DROP = 1, 2, 3, 4, 5, 6, 7, 8, 9, 10, 11
 DONE, FOUND, ABSENT, PAIRS, MADE, PLACE, OPENED, COUNTS = 0, 1, 2, 3, 4, 5, 6, 7
 ASK_LIMITS, LIMITS = 64, 8  # a hub's own command, and its reply
 DAMAGED = 34
@@ -47,17 +47,18 @@ class Info(NamedTuple):
     depth: int
     """How many ancestors it has."""
     frozen: bool
-    """Whether it has a child, and so takes no more puts and deletes."""
+    """Whether it has a child that was not dropped, and so takes no puts and deletes, and no drop."""
 
 
 class Stat(NamedTuple):
     """What a store has in all."""
 
     versions: int
+    """How many were made, version 0 and those that were dropped among them."""
     updates: int
     """Puts and deletes that were made."""
     changes: int
-    """Updates and clones that were made; at most as many as the store was made for."""
+    """Updates, clones and drops that were made; at most as many as the store was made for."""
     cursors: int
 
 
@@ -113,6 +114,11 @@ def clone(tag: int, version: int) -> bytes:
     return VERSION_HEAD.pack(9, tag, CLONE, version)
 
 
+def drop(tag: int, version: int) -> bytes:
+    """Takes a version away for good."""
+    return VERSION_HEAD.pack(9, tag, DROP, version)
+
+
 def scan(tag: int, version: int, lower: bytes, upper: bytes, limit: int) -> bytes:
     """Asks for the first pairs from the lower bound on and before the upper one; an empty upper bound is none."""
     bounds = SIZE.pack(len(lower)) + lower + SIZE.pack(len(upper)) + upper
@@ -151,7 +157,7 @@ def limits(tag: int) -> bytes:
 
 
 NAMES = {PUT: "put", DELETE: "delete", GET: "get", CLONE: "clone version", SCAN: "page of version", INFO: "info version",
-         OPEN_CURSOR: "scan of version", NEXT_PAIRS: "next pairs of cursor", CLOSE_CURSOR: "close cursor", STAT: "stat",
+         OPEN_CURSOR: "scan of version", NEXT_PAIRS: "next pairs of cursor", CLOSE_CURSOR: "close cursor", STAT: "stat", DROP: "drop version",
          ASK_LIMITS: "limits"}
 
 
@@ -170,6 +176,14 @@ def describe(frame: bytes) -> str:
     key = frame[KEY_HEAD.size:KEY_HEAD.size + size]
     shown = text.shown(key) if size <= SHOWN_MAX else f"{text.shown(key[:SHOWN_MAX // 2])}.. ({size:,} bytes)"
     return f"{name} {shown} at version {version}"
+
+
+def version_of(frame: bytes) -> Optional[int]:
+    """The version that a command is of; None where it is of none."""
+    if len(frame) < VERSION_HEAD.size or frame[8] in (NEXT_PAIRS, CLOSE_CURSOR):
+        return None
+    version: int = NUMBER.unpack_from(frame, HEAD.size)[0]
+    return version
 
 
 # Replies

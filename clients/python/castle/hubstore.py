@@ -11,12 +11,12 @@ import threading
 import time
 import weakref
 from functools import partial
-from typing import TYPE_CHECKING, Callable, List, NoReturn, Optional, cast
+from typing import TYPE_CHECKING, Dict, List, NoReturn, Optional, cast
 
 from . import errors, forks, frames, hubsocket
 from .commands import Commands
 from .edits import Edits
-from .frames import Limits, Stat
+from .frames import Limits
 from .levels import Levels
 from .names import Names
 from .process import CHUNK, LIMIT, poll_of
@@ -115,8 +115,8 @@ class Connection:
 class NoNames(Names):
     """No names. They are in a file beside the store, and whoever serves the store has that."""
 
-    def __init__(self, address: str, count: Callable[[], int], lock: "threading._RLock") -> None:
-        super().__init__("", address, count, partial(_refuse_names, address), lock)  # no file has an empty path
+    def __init__(self, address: str, lock: "threading._RLock") -> None:
+        super().__init__("", address, lambda _: [], partial(_refuse_names, address), lock)  # no file has an empty path
         self.warning = f"{address}: names can't be had over a hub; versions go by their numbers"
 
     def version(self, name: str) -> int:
@@ -164,15 +164,12 @@ class HubStore(Store):
         """Waits until the hub has answered once."""
         program = self._program
 
-        def count() -> int:
-            return cast(Stat, program.call(lambda: frames.stat(program.tag))).versions
-
         try:
-            count()
+            program.call(lambda: frames.stat(program.tag))
         except errors.CastleError as error:
             error.command = "open"
             raise
-        self.names = NoNames(self.path, count, program.lock)
+        self.names = NoNames(self.path, program.lock)
         self._commands = Commands(program, self.names, False, Edits(frames.NUMBER_MAX + 1))  # others change it too
 
     def _free(self) -> int:
@@ -184,6 +181,10 @@ class HubStore(Store):
     def limits(self) -> Limits:
         """What the store was made for: M, C and V. The hub tells them."""
         return cast(Limits, self._program.call(lambda: frames.limits(self._program.tag)))
+
+    def dropped(self) -> Dict[int, int]:
+        """A `NotOverHub`: what dropped versions were cloned from is read from the store's file."""
+        raise errors.NotOverHub("where dropped versions hung can't be had over a hub", file=self.path, command="dropped")
 
     def levels(self) -> Levels:
         """A `NotOverHub`: they are read from the store's file."""

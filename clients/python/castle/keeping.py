@@ -131,7 +131,8 @@ def lines(found: Salvage, to: str, is_json: bool) -> Iterator[str]:
     if is_json:
         yield from map(jsonform.line_of, _fields(found, os.fsencode(to)))
         return
-    yield f"wrote {shown(os.fsencode(to))}: {counted(found.versions, 'version')}, {counted(found.changes, 'update')}"
+    gone = f", of which {found.dropped:,} {'is' if found.dropped == 1 else 'are'} dropped" if found.dropped else ""
+    yield f"wrote {shown(os.fsencode(to))}: {counted(found.versions, 'version')}{gone}, {counted(found.changes, 'update')}"
     if found.doubt is not None:
         yield f"in doubt: the file breaks rule {found.doubt.rule} ({found.doubt}), so any pair may be wrong or missing"
     if found.blocks:
@@ -143,7 +144,8 @@ def lines(found: Salvage, to: str, is_json: bool) -> Iterator[str]:
 
 
 def _fields(found: Salvage, to: bytes) -> Iterator[Dict[str, object]]:
-    yield {"wrote": to, "versions": found.versions, "changes": found.changes, "damaged": list(found.blocks), "whole": found.is_whole}
+    yield {"wrote": to, "versions": found.versions, "dropped": found.dropped, "changes": found.changes, "damaged": list(found.blocks),
+           "whole": found.is_whole}
     if found.doubt is not None:
         yield {"doubt": found.doubt.rule, "level": found.doubt.level, "array": found.doubt.array}
     for lost in found.lost:

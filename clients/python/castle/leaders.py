@@ -144,8 +144,12 @@ class Leader:
         """Makes a version with the same pairs. Once it is there, `versions` is one more, and its number is the last one of them."""
         self.send(frames.clone(0, version))
 
+    def drop(self, version: int) -> None:
+        """Takes a version away for good, which has no child. Names are those of the store's file: its next opening leaves them out."""
+        self.send(frames.drop(0, version))
+
     def send(self, frame: bytes) -> None:
-        """Sends the frame of a put, a delete or a clone."""
+        """Sends the frame of a put, a delete, a clone or a drop."""
         self._check()
         self._unsent.append(frame)
         self._asked.append(frame)

@@ -8,10 +8,11 @@ import re
 import threading
 import warnings
 from datetime import datetime, timezone
-from typing import Callable, Dict, Iterator, List, Mapping, MutableMapping, NamedTuple, Optional
+from typing import AbstractSet, Callable, Dict, Iterator, List, Mapping, MutableMapping, NamedTuple, Optional, Sequence
 
-from .errors import NameFault, NamesWarning, TextFault, UnknownName, UnknownVersion
+from .errors import CastleError, Dropped, NameFault, NamesWarning, TextFault, UnknownName, UnknownVersion
 from .files import sync_folder, write_whole
+from .frames import NUMBER_MAX
 from .text import cell, encoded, unescaped
 
 NAME = re.compile(r"(?!\d+$)\w[\w.-]{0,63}")
@@ -41,34 +42,38 @@ class Names(MutableMapping[str, int]):
     several names.
 
     A file that can't be read leaves the store without names, and is not touched: changes raise its `NameFault` until it
-    is mended or removed. Names of versions that the store doesn't have are left out, and leave the file with the next change
-    of names or before the next clone, which could get such a number. `warning` tells of both, as does a `NamesWarning`.
+    is mended or removed. Names of versions that the store doesn't have, or has dropped, are left out, and leave the file with the
+    next change of names or before the next clone, which could get such a number. `warning` tells of both, as does a `NamesWarning`.
     """
 
     warning = ""
     """What is wrong with the file, as it was opened; empty where nothing is."""
 
-    def __init__(self, path: str, store: str, count: Callable[[], int], guard: Callable[[], object],
-                 lock: "threading._RLock") -> None:
+    def __init__(self, path: str, store: str, refusals: Callable[[Sequence[int]], Sequence[Optional[CastleError]]],
+                 guard: Callable[[], object], lock: "threading._RLock") -> None:
         """The names in the file at this path, of the store at another one.
 
-        `count` tells how many versions the store has. `guard` fails where names may not be changed. The lock is that
-        around the store's commands.
+        `refusals` gives for each of some versions what a command at it is refused with; None where the store has it. `guard` fails
+        where names may not be changed. The lock is that around the store's commands.
         """
         self.path = path
         self._store = store
-        self._count = count
+        self._refusals = refusals
         self._guard = guard
         self._lock = lock
         self._names: Dict[str, Name] = {}
-        self._strays: Dict[str, Name] = {}  # names of versions that the store doesn't have
+        self._strays: Dict[str, Name] = {}  # names of versions that the store doesn't have, which the file has still
         self._fault: Optional[NameFault] = None
         self._read()
         if self._fault is not None:
             self.warning = f"{self._fault} The store has no names until then."
         elif self._strays:
-            listed = _listed([f"{name} {stray.version}" for name, stray in self._strays.items()])
-            self.warning = f"{self.path}: names of versions that the store doesn't have are left out: {listed}"
+            lost = self._lost({it.version for it in self._strays.values()})
+            told = []
+            for what, are_dropped in (("that the store doesn't have", False), ("that were dropped", True)):
+                names = [f"{name} {it.version}" for name, it in self._strays.items() if isinstance(lost[it.version], Dropped) == are_dropped]
+                told += [f"names of versions {what} are left out: {_listed(names)}"] if names else []
+            self.warning = f"{self.path}: {'; '.join(told)}"
         if self.warning:
             warnings.warn(self.warning, NamesWarning, stacklevel=3)
 
@@ -90,9 +95,9 @@ class Names(MutableMapping[str, int]):
             self._fault = fault.with_traceback(None)
         if self._fault is not None:
             found = {}
-        versions = self._count() if found else 0
-        self._names = {name: it for name, it in found.items() if it.version < versions}
-        self._strays = {name: it for name, it in found.items() if it.version >= versions}
+        lost = self._lost({it.version for it in found.values()}) if found else {}
+        self._names = {name: it for name, it in found.items() if it.version not in lost}
+        self._strays = {name: it for name, it in found.items() if it.version in lost}
 
     def _take(self, found: Dict[str, Name], number: int, line: str) -> None:
         """Adds the name of a line."""
@@ -173,6 +178,22 @@ class Names(MutableMapping[str, int]):
             del left[name]
             self._write(left)
 
+    def let_go(self, versions: AbstractSet[int]) -> List[str]:
+        """Takes the names away of those of some versions that the store does not have any more, and gives these names.
+
+        They are no names from here on, also where the file can't be written; then they leave it with the next change of names.
+        """
+        with self._lock:
+            named = versions & {it.version for it in self._names.values()}
+            lost = self._lost(named) if named else {}
+            if not lost:
+                return []
+            gone = {name: it for name, it in self._names.items() if it.version in lost}
+            self._strays = {**self._strays, **gone}
+            self._names = {name: it for name, it in self._names.items() if name not in gone}
+            self._write(dict(self._names))
+            return sorted(gone)
+
     def check_changeable(self) -> None:
         """Fails where names can't be changed: the file can't be read, the store was moved, or it is a private copy."""
         self._guard()
@@ -210,8 +231,23 @@ class Names(MutableMapping[str, int]):
         if not isinstance(version, int) or isinstance(version, bool):
             raise NameFault(f"the version of the name {name} is {version!r}, and no number",
                             f"Give its number, as in names[{name!r}] = 1.", file=self._store)
-        if not 0 <= version < self._count():
+        if not 0 <= version <= NUMBER_MAX:
             raise UnknownVersion(file=self._store, command=f"name version {version}")
+        refusal = self._refusals([version])[0]
+        if refusal is not None:
+            refusal.command = f"name version {version}"
+            raise refusal
+
+    def _lost(self, versions: AbstractSet[int]) -> Dict[int, UnknownVersion]:
+        """Those of some versions that the store doesn't have, each with what says so."""
+        asked = sorted(version for version in versions if version <= NUMBER_MAX)
+        lost = {version: UnknownVersion() for version in versions if version > NUMBER_MAX}
+        for version, refusal in zip(asked, self._refusals(asked)):
+            if isinstance(refusal, UnknownVersion):
+                lost[version] = refusal
+            elif refusal is not None:
+                raise refusal
+        return lost
 
     def of(self, version: int) -> List[str]:
         """The names of a version, in the order of the alphabet."""

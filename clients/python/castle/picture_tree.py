@@ -52,10 +52,11 @@ def svg(tree: Tree, keys: Mapping[int, Count], heading: str) -> Iterator[str]:
 def _texts(tree: Tree, node: Node, keys: Mapping[int, Count]) -> Tuple[str, str]:
     """The two lines of a box."""
     first = node.versions[0]
+    gone = f", {tree.gone(node)}" if tree.gone(node) else ""
     if len(node.versions) > 1:
-        return f"{len(node.versions)} versions", f"{first} to {node.versions[-1]}"
+        return f"{len(node.versions)} versions", f"{first} to {node.versions[-1]}{gone}"
     names = ", ".join(tree.names.get(first, ()))
-    return f"{first} {names}".rstrip(), f"{keys[first]}, {'frozen' if node.children else 'leaf'}"
+    return f"{first} {names}".rstrip(), f"{keys[first]}, {'frozen' if node.children else 'leaf'}{gone}"
 
 
 def _beside(tree: Tree, texts: List[Tuple[str, str]]) -> List[Place]:

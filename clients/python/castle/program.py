@@ -13,7 +13,7 @@ import struct
 import sys
 import threading
 from collections import deque
-from typing import TYPE_CHECKING, Callable, Deque, Iterator, List, NamedTuple, NoReturn, Optional, Sequence, Tuple, Union
+from typing import TYPE_CHECKING, Callable, Deque, Iterator, List, NamedTuple, NoReturn, Optional, Sequence, Tuple, Union, cast
 
 from . import errors, forks, frames
 from .frames import NUMBER_MAX
@@ -145,7 +145,8 @@ class Program:
         self._ask(sink, make, words)
         answer = sink[0]
         if isinstance(answer, errors.CastleError):
-            raise answer
+            self.explain(sink)
+            raise cast(errors.CastleError, sink[0])
         return answer
 
     def open(self, make: Callable[..., bytes], *words: object) -> Cursor:
@@ -153,7 +154,8 @@ class Program:
         cursor = Cursor(self._dropped)
         self._ask(cursor, make, words)
         if isinstance(cursor[0], errors.CastleError):
-            raise cursor[0]
+            self.explain(cursor)
+            raise cast(errors.CastleError, cursor[0])
         return cursor
 
     def open_all(self, before: Callable[[], bytes], openings: Sequence[Callable[[], bytes]]) -> Tuple[Result, List[Cursor], Result]:
@@ -259,6 +261,31 @@ class Program:
                 self._exchange(0, left)
             finally:
                 self._is_busy = False
+
+    def explain(self, results: List[Result]) -> None:
+        """Has answers tell of versions that were dropped, in place of versions that the store doesn't have. For these it asks the store."""
+        unknown = {place: result for place, result in enumerate(results) if type(result) is errors.UnknownVersion}
+        asked = sorted({refusal.version for refusal in unknown.values() if refusal.version is not None})
+        if not asked:
+            return
+        found: List[Result] = []
+        try:
+            with self.lock:
+                self.send(found, lambda: frames.stat(self.tag))
+                for version in asked:
+                    self.send(found, lambda: frames.info(self.tag, version))
+                self.settle(found)
+        except errors.CastleError:
+            return  # it takes no more commands
+        stat, *places = found
+        if not isinstance(stat, frames.Stat):
+            return
+        # one that was asked for before it was made is there now
+        dropped = {version for version, place in zip(asked, places) if version < stat.versions and isinstance(place, errors.UnknownVersion)}
+        for place, refusal in unknown.items():
+            if refusal.version in dropped:
+                results[place] = told = errors.Dropped(file=refusal.file, command=refusal.command)
+                told.version = refusal.version
 
     def wait(self, act: Callable[[], None]) -> None:
         """Does something while all is answered and no command can come: one amid it raises `Busy`."""
@@ -443,13 +470,20 @@ class Program:
                     fault = f"a reply of status {status} can't be read"
                     break
             else:
-                answers.append(errors.refusal(status, data[at + 9:stop], self.file, frames.describe(frame)))
+                answers.append(self._refusal(status, data[at + 9:stop], frame))
             at = stop
             expected = expected + 1 & NUMBER_MAX
         done = expected - heard.first & NUMBER_MAX
         if done == len(heard.commands) and at < end:
             fault = "a reply came that is to no command"
         return answers, data[at:], done, fault
+
+    def _refusal(self, status: int, fields: bytes, frame: bytes) -> errors.Refused:
+        """The refusal of a command."""
+        error = errors.refusal(status, fields, self.file, frames.describe(frame))
+        if isinstance(error, errors.UnknownVersion):
+            error.version = frames.version_of(frame)
+        return error
 
     @staticmethod
     def _count_done(data: bytes, tag: int, asked: List[bytes]) -> int:

@@ -64,15 +64,15 @@ def backup(log: Union[Log, RedisLog], leader: Path, to: Path, program: Optional[
 # Commands and what they give, as lines
 
 def commands_of(lines: Iterator[str]) -> Iterator[bytes]:
-    """The frames of lines `put KEY VALUE [@V]`, `delete KEY [@V]` and `clone [@V]`. A `Wrong` tells of another one."""
-    sizes = {"put": 2, "delete": 1, "clone": 0}
+    """The frames of lines `put KEY VALUE [@V]`, `delete KEY [@V]`, `clone [@V]` and `drop @V`. A `Wrong` tells of another one."""
+    sizes = {"put": 2, "delete": 1, "clone": 0, "drop": 0}
     for number, line in enumerate(lines, 1):
         if not line.strip() or line.startswith("#"):
             continue
         name, *rest = text.words(line)
-        version = rest.pop().text[1:] if rest and rest[-1].is_version else "0"
+        version = rest.pop().text[1:] if rest and rest[-1].is_version else "" if name.text == "drop" else "0"
         if sizes.get(name.text) != len(rest) or not version.isascii() or not version.isdigit() or int(version) > frames.NUMBER_MAX:
-            raise errors.Wrong(f"line {number} is no change", "Write put KEY VALUE @V, delete KEY @V or clone @V.")
+            raise errors.Wrong(f"line {number} is no change", "Write put KEY VALUE @V, delete KEY @V, clone @V or drop @V.")
         words = [word.data for word in rest]
         if sum(map(len, words)) > frames.BODY_MAX - 13:
             raise errors.Wrong(f"line {number} has a key or a value that is too long", "Keys have 255 bytes, values 1,024.")
@@ -200,7 +200,7 @@ def parser() -> argparse.ArgumentParser:
     with_end(read)
     status = with_log(job("status", _status, "tell what the log has, and how far copies are behind it"))
     status.add_argument("copies", nargs="*", metavar="COPY")
-    job("commands", _commands, "turn lines put KEY VALUE @V, delete KEY @V and clone @V into frames")
+    job("commands", _commands, "turn lines put KEY VALUE @V, delete KEY @V, clone @V and drop @V into frames")
     show = job("show", _show, "show frames of changes or of receipts as lines")
     show.add_argument("form", choices=("changes", "receipts"))
     return whole

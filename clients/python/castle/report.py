@@ -7,10 +7,11 @@ from __future__ import annotations
 
 import os
 import time
-from typing import Callable, Iterable, Iterator, List, Mapping, NamedTuple, Sequence
+from typing import Callable, Iterable, Iterator, List, Mapping, NamedTuple, Optional, Sequence
 from xml.sax.saxutils import escape
 
 from . import __version__, picture_levels, picture_tree
+from .dropping import hanging_in, told
 from .frames import Info, Pair
 from .keycount import Count, count_keys
 from .levels import Level, Levels
@@ -47,7 +48,10 @@ class Overview(NamedTuple):
     allocated: int
     is_copy: bool
     levels: Levels
-    versions: Sequence[Info]
+    versions: Sequence[Optional[Info]]
+    """None for a dropped one."""
+    hanging: Mapping[int, int]
+    """How many dropped versions hang at a version, as `dropping.hanging` has them."""
     names: Mapping[int, Sequence[str]]
     keys: Mapping[int, Count]
     """Of each version that the tree draws by itself."""
@@ -62,23 +66,30 @@ def gathered(store: Store, until_stopped: Callable[[Iterable[Pair]], Iterator[Pa
     """
     levels, versions = store.levels(), store.versions()
     names = {version: store.names.of(version) for version in set(store.names.values())}
-    single = Tree([info.parent for info in versions], names).single()
+    single = Tree(versions, names).single()
     keys = count_keys(store, single, until_stopped)
     samples = {version: [key for key, _ in store.page(version, limit=SAMPLE).pairs]
                for version in listed(single, names, versions)[:LISTED]}
     found = os.stat(store.path)
     return Overview(cell(os.fsencode(os.path.basename(store.path))), time.strftime("%Y-%m-%d %H:%M:%S %z"), found.st_size,
-                 found.st_blocks * 512, store.read_only, levels, versions, names, keys, samples)
+                 found.st_blocks * 512, store.read_only, levels, versions, hanging_in(store, versions), names, keys, samples)
 
 
-def listed(single: Iterable[int], names: Mapping[int, Sequence[str]], versions: Sequence[Info]) -> List[int]:
+def listed(single: Iterable[int], names: Mapping[int, Sequence[str]], versions: Sequence[Optional[Info]]) -> List[int]:
     """The versions that have a name or take changes; the table has the first of them."""
-    return sorted(version for version in single if names.get(version) or not versions[version].frozen)
+    return sorted(version for version in single if names.get(version) or not _info(versions, version).frozen)
+
+
+def _info(versions: Sequence[Optional[Info]], version: int) -> Info:
+    """The place of a version that is there."""
+    info = versions[version]
+    assert info is not None
+    return info
 
 
 def page(overview: Overview) -> Iterator[str]:
     """The page, piece by piece."""
-    title = f"{overview.name}: {counted(len(overview.versions), 'version')}, {counted(overview.levels.changes, 'change')}"
+    title = f"{overview.name}: {told(overview.versions)}, {counted(overview.levels.changes, 'change')}"
     yield '<!DOCTYPE html>\n<html lang="en" xmlns="http://www.w3.org/1999/xhtml">\n<head>\n<meta charset="utf-8"/>\n'
     yield f'<meta http-equiv="Content-Security-Policy" content="{POLICY}"/>\n'
     yield f"<title>{escape(title)}</title>\n<style>{STYLE}</style>\n</head>\n<body>\n<h1>{escape(title)}</h1>\n"
@@ -115,7 +126,7 @@ def meter(gauge: Gauge) -> Markup:
 
 def _tree(overview: Overview, title: str) -> Iterator[str]:
     """The tree as a picture, and its versions that have a name or take changes."""
-    tree = Tree([info.parent for info in overview.versions], overview.names)
+    tree = Tree(overview.versions, overview.names, None, overview.hanging)
     yield "<h2>Versions</h2>\n<figure>\n"
     yield from picture_tree.svg(tree, overview.keys, title)
     yield "</figure>\n<h2>Versions with a name, and leaves</h2>\n"
@@ -128,7 +139,7 @@ def _tree(overview: Overview, title: str) -> Iterator[str]:
 
 def _version(overview: Overview, version: int) -> List[str]:
     """A version's row."""
-    info = overview.versions[version]
+    info = _info(overview.versions, version)
     sample = ", ".join(quoted(key) for key in overview.samples.get(version, ()))
     return [f"{version}", ", ".join(overview.names.get(version, ())), "" if info.parent is None else f"{info.parent}",
             f"{info.depth:,}", "frozen" if info.frozen else "takes changes", str(overview.keys[version]), sample]

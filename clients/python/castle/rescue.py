@@ -49,8 +49,8 @@ def salvage(path: Path, to: Path, program: Optional[str] = None, *, overwrite: b
             progress: Progress = silent) -> Salvage:
     """Makes a new store of what a damaged store's file still gives, which nobody has open, and tells what is lost.
 
-    The file is never written. The new store has the same versions, by their numbers, and the same names. A child is a
-    clone of its parent, with what differs applied. A pair that the file has at a version is there, or it lies in one of the ranges
+    The file is never written. The new store has the same versions, by their numbers, and the same names; those that were dropped are
+    dropped there. A child is a clone of its parent, with what differs applied. A pair that the file has at a version is there, or it lies in one of the ranges
     of `Salvage.lost`; a pair that is there was read from blocks that are not damaged.
 
     `Unreadable` tells that nothing can be read, and `Doubtful` that the file breaks a rule of a sound store: any pair

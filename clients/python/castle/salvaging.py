@@ -12,10 +12,11 @@ import itertools
 import os
 from contextlib import ExitStack
 from functools import partial
-from typing import TYPE_CHECKING, Callable, Dict, Iterator, List, NamedTuple, Optional, Sequence, Set, Tuple
+from typing import TYPE_CHECKING, Callable, Container, Dict, Iterator, List, NamedTuple, Optional, Sequence, Set, Tuple
 
 from . import agreement, errors, fileform, losses
-from .fileform import Array, Block, Entry, Level
+from .dropping import drop_all
+from .fileform import Array, Block, Entry, Level, Lineage
 from .frames import Pair
 from .levels import listed
 from .losses import Gap, Range, Segment
@@ -68,6 +69,7 @@ class Salvage(NamedTuple):
     """What a salvage gave."""
 
     versions: int
+    """How many were made, dropped ones among them."""
     changes: int
     """Puts and deletes that the new store took."""
     blocks: Tuple[int, ...]
@@ -76,6 +78,8 @@ class Salvage(NamedTuple):
     """A pair that is not in the new store has its key in one of these ranges, at one of its versions."""
     doubt: Optional[Unsound]
     """A rule that the file breaks. Then any pair may be wrong, and any may be missing."""
+    dropped: int = 0
+    """How many of the versions are dropped, as they are in the file."""
 
     @property
     def is_whole(self) -> bool:
@@ -98,6 +102,11 @@ class Damage:
         with open(path, "rb", 0) as file:
             self.head = fileform.read_head(file.fileno())
             self.manifest = fileform.read_manifest(file.fileno(), self.head)
+
+    def lineage(self) -> Lineage:
+        """The versions with their parents, and those that were dropped. The program has opened the file, so its journal can be read."""
+        with open(self.path, "rb", 0) as file:
+            return fileform.lineage_of(file.fileno(), self.head, self.manifest)
 
     def search(self, told: Set[int]) -> None:
         """Looks at each block of each array. These are damaged, since the program called them so."""
@@ -223,7 +232,11 @@ class Views:
         self._stack = stack
         self._stores: Dict[Optional[int], "Store"] = {}
         self.head = damage.head
-        self.parents = [info.parent for info in self.at(None).versions()]
+        self.parents, self.dropped = damage.lineage()
+        living = [version not in self.dropped for version in range(len(self.parents))]
+        if [info is not None for info in self.at(None).versions()] != living:
+            raise errors.WrongProtocol("the file has other versions than the program tells", "It is of a later build than this package.",
+                                       file=kit.file)
         self.plans = losses.plan(damage.gaps, self.parents)
 
     def at(self, level: Optional[int]) -> "Store":
@@ -273,16 +286,20 @@ class Filling:
         self._progress = progress
 
     def run(self) -> None:
-        """Makes all versions, parents before children."""
+        """Makes all versions, parents before children, and then drops those that were dropped, which get no pairs of their own."""
         total = len(self._views.parents)
         for version, parent in enumerate(self._views.parents):
             self._progress("versions made", version, total)
             if parent is not None:
                 self._store.clone(parent)
             self.found.append([])
+            if version in self._views.dropped:
+                continue
             changes = self._views.changes(version, self.found[-1])
             while self._send(version, list(itertools.islice(changes, WINDOW))):
                 self._progress(f"pairs and deletions made, {version + 1:,} of {counted(total, 'version')}", self.changes, None)
+        for number, _ in enumerate(drop_all(self._store, self._views.dropped)):
+            self._progress("versions dropped", min(total, (number + 1) * WINDOW), None)
 
     def _send(self, version: int, window: List[Change]) -> bool:
         """Makes these changes, and tells whether there are any."""
@@ -296,11 +313,13 @@ class Filling:
         return bool(window)
 
 
-def lost_of(plans: Sequence[Sequence[Segment]], found: Sequence[Sequence[int]]) -> Iterator[Lost]:
-    """The ranges that are lost, each with its versions, in the order of keys."""
+def lost_of(plans: Sequence[Sequence[Segment]], found: Sequence[Sequence[int]], dropped: Container[int] = ()) -> Iterator[Lost]:
+    """The ranges that are lost, each with its versions, in the order of keys. Dropped versions lose nothing."""
     versions: Dict[Range, List[int]] = {}
     pairs: Dict[Range, int] = {}
     for version, parts in enumerate(plans):
+        if version in dropped:
+            continue
         for place, missed in enumerate(losses.ranges(parts)):
             versions.setdefault(missed, []).append(version)
             pairs[missed] = pairs.get(missed, 0) + (found[version][place] if place < len(found[version]) else 0)
@@ -332,8 +351,8 @@ def salvage(path: str, place: Place, kit: Kit, doubtful: bool, progress: Progres
     if not verdict:
         raise errors.NotSound(f"the new store is not sound: {verdict}", "This is a mistake of the program; nothing was made.",
                               file=kit.file)
-    lost = tuple(lost_of(views.plans, made.found))
-    return Salvage(len(views.parents), made.changes, tuple(sorted(damage.blocks)), lost, damage.doubt)
+    lost = tuple(lost_of(views.plans, made.found, views.dropped))
+    return Salvage(len(views.parents), made.changes, tuple(sorted(damage.blocks)), lost, damage.doubt, len(views.dropped))
 
 
 def _filled(views: Views, place: Place, kit: Kit, changes_max: int, progress: Progress) -> Filling:

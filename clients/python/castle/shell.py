@@ -7,7 +7,8 @@ import sys
 from collections import deque
 from typing import Callable, ContextManager, Dict, Iterable, Iterator, List, Optional, Sequence, TextIO, TypeVar
 
-from . import dump, exports, jsonform, keeping, levels, listing, loading, outfile, picture_levels, picture_tree, report, storetext, tree, verdict
+from . import (
+    dropping, dump, exports, jsonform, keeping, levels, listing, loading, outfile, picture_levels, picture_tree, report, storetext, tree, verdict)
 from .branches import Snapshot, nameless
 from .errors import CastleError, Ended, MergeConflict, NotSound, UnknownName, UnknownVersion, Wrong
 from .frames import NUMBER_MAX, Info, prefix_end
@@ -145,9 +146,7 @@ class Shell:
         The output of each command goes through what `paged` gives, and `remember` gets each line.
         """
         self.is_typed = True
-        stat = self.store.stat()
-        self.say(f"{self.name}: {counted(stat.versions, 'version')}, {counted(stat.changes, 'change')}. "
-                 "`help` lists the commands.")
+        self.say(f"{self._heading(self.store.versions())}. `help` lists the commands.")
         with self.interrupts:
             while not self.is_done:
                 try:
@@ -206,9 +205,18 @@ class Shell:
         self.say(f"error: {place}{error.what}{remedy}", error=f"{place}{error.what}", remedy=error.remedy)
 
     def prompt(self) -> str:
-        """The store, the version, its names, and whether it takes changes. A branch that it follows stands in front."""
+        """The store, the version, its names, and whether it takes changes. A branch that it follows stands in front.
+
+        Where somebody else dropped the version it goes to version 0, and says so.
+        """
+        try:
+            info = self.store.info(self.here)
+        except UnknownVersion as error:
+            self.say(f"version {self.here} was dropped; the prompt goes to version 0", error=str(error))
+            self.here, self.branch = 0, None
+            info = self.store.info(0)
         names = "".join(f" {name}" for name in self.store.names.of(self.here) if name != self.branch)
-        frozen = " (frozen)" if self.store.info(self.here).frozen else ""
+        frozen = " (frozen)" if info.frozen else ""
         return f"{self.name}{f' {self.branch}' if self.branch else ''} @{self.here}{names}{frozen}> "
 
     def _follow(self) -> None:
@@ -357,6 +365,68 @@ class Shell:
                 self.store.names[name] = made
         self.say(f"made {self.titled(made)}", version=made, names=self.store.names.of(made))
 
+    def drop(self, rest: List[Word]) -> None:
+        if not rest and self._version is None:
+            raise Wrong("no version is named", f"Say which one is dropped: {COMMANDS['drop'].usage}.")
+        version, is_tree = self.version(rest), "--tree" in self.options
+        if "--yes" in self.options and not is_tree:
+            raise Wrong(f"usage: {COMMANDS['drop'].usage}")
+        try:
+            parent = self.store.info(version).parent
+        except UnknownVersion as error:
+            error.command = f"drop version {version}"
+            raise
+        titled = self.titled(version)
+        made = self._drop_tree(version) if is_tree else dropping.Drops([version], self.store.drop(version))
+        if made is None:
+            self.say("nothing was dropped")
+            return
+        several = f"{counted(len(made.versions), 'version')}, {levels.listed(sorted(made.versions))}"
+        self._say_dropped(titled if made.versions == [version] else several, made)
+        self._leave(version, parent)
+
+    def _drop_tree(self, version: int) -> Optional[dropping.Drops]:
+        """Drops a version with all below it; where these are several only if the user says so."""
+        count = len(dropping.below(self.store.versions(), version))
+        if version and count > 1 and "--yes" not in self.options:
+            what = f"drop {self.titled(version)} and the {counted(count - 1, 'version')} below it"
+            if not self._agrees(what, f"`drop {version} --tree --yes` drops all {count:,}."):
+                return None
+        line = Line()
+        try:
+            return self.store.drop_tree(version, progress=teller(self.interrupts, line))
+        except (Stopped, KeyboardInterrupt):
+            left = len(dropping.below(self.store.versions(), version))
+            raise Stopped(f"stopped, with {count - left:,} of {counted(count, 'version')} dropped") from None
+        finally:
+            line.clear()
+
+    def _agrees(self, what: str, remedy: str) -> bool:
+        """Asks whether to do something. It fails where nobody can be asked."""
+        if self.json or not (self.is_typed or self._is_single and sys.stdin is not None and sys.stdin.isatty()):
+            raise Wrong(f"to {what} wants a yes, and nobody is asked here", remedy)
+        self.out.flush()
+        try:
+            answer = self.interrupts.read(lambda: input(f"{what}? [y/N] "))
+        except (EOFError, KeyboardInterrupt):
+            raise Stopped("stopped; nothing was done") from None
+        return answer.strip().lower() in ("y", "yes")
+
+    def _say_dropped(self, what: str, made: dropping.Drops) -> None:
+        """Tells what was dropped, and which names are let go of."""
+        names, whose = made.names, "its" if len(made.versions) == 1 else "the"
+        is_one = len(names) == 1
+        gone = f"; {whose} {'name' if is_one else 'names'} {', '.join(names)} {'is' if is_one else 'are'} let go of" if names else ""
+        self.say(f"dropped {what}{gone}", dropped=sorted(made.versions), names=names)
+
+    def _leave(self, version: int, parent: Optional[int]) -> None:
+        """Has the prompt go to the parent of a version that was dropped, where it was at that one or below it."""
+        try:
+            self.store.info(self.here)
+        except UnknownVersion:
+            self.here, self.branch = parent or 0, None
+            self.conclude(f"now at {self.titled(self.here)}, of which version {version} was cloned")
+
     def snapshot(self, rest: List[Word]) -> None:
         branch, description = self._branch(), rest[1].name if rest[1:] else ""
         self._go_on(branch, self.store.snapshot(branch, rest[0].name, description))
@@ -455,21 +525,25 @@ class Shell:
 
     def tree(self, rest: List[Word]) -> None:
         infos = self.store.versions()
+        hanging = dropping.hanging_in(self.store, infos)
         is_long = [word.text for word in rest] == ["--long"]
         if (not rest or is_long) and self.json:
             for version, info in enumerate(infos):
-                self.say("", **self._placed(version, info))
+                if info is not None:
+                    self.say("", **self._placed(version, info), dropped=hanging.get(version, 0))
             return
         if not rest or is_long:
             labels = listing.labels(self.store.names, is_long)
-            for line in self._until_stopped(tree.Tree([info.parent for info in infos], labels, self.here).lines()):
+            for line in self._until_stopped(tree.Tree(infos, labels, self.here, hanging).lines()):
                 self.say(line)
+            if None in infos and not hanging:
+                self.say(f"{counted(infos.count(None), 'version')} dropped; a hub does not tell where they hung")
             return
         names = {version: self.store.names.of(version) for version in set(self.store.names.values())}
         if rest[0].text != "--svg" or len(rest) != 2:
             raise Wrong(f"usage: {COMMANDS['tree'].usage}")
         outfile.check(rest[1].path, self.store.path)
-        drawn = tree.Tree([info.parent for info in infos], names)
+        drawn = tree.Tree(infos, names, None, hanging)
         keys = count_keys(self.store, drawn.single(), self._until_stopped)
         self._save(rest[1], picture_tree.svg(drawn, keys, self._heading(infos)))
 
@@ -500,9 +574,9 @@ class Shell:
         if not (found or self._is_single or self.is_typed):
             raise NotSound(file=self.store.path, command="check")
 
-    def _heading(self, infos: List[Info]) -> str:
+    def _heading(self, infos: List[Optional[Info]]) -> str:
         changes = counted(self.store.stat().changes, "change")
-        return f"{self.name}: {counted(len(infos), 'version')}, {changes}"
+        return f"{self.name}: {dropping.told(infos)}, {changes}"
 
     def report(self, rest: List[Word]) -> None:
         outfile.check(rest[0].path, self.store.path)
@@ -641,6 +715,8 @@ COMMANDS: Dict[str, Command] = {
     "use": Command(VERSIONS, "use V", "goes to a version, by its number or name", Shell.use, 0, 1),
     "clone": Command(VERSIONS, "clone [NAME] [@V]", "makes a version with the same pairs, which freezes this one",
                      Shell.clone, 0, 1),
+    "drop": Command(VERSIONS, "drop V [--tree [--yes]]", "takes a version away for good; --tree all below it too, and asks before", Shell.drop,
+                    0, 1, True, {"--tree": "", "--yes": ""}),
     "switch": Command(VERSIONS, "switch NAME", "goes to a branch, and with it wherever it moves", Shell.switch, 1, 1, False),
     "snapshot": Command(VERSIONS, "snapshot NAME [DESCRIPTION] [@V]", "keeps a branch as it is under a name, and goes on in a clone",
                         Shell.snapshot, 1, 2),

@@ -12,14 +12,15 @@ import weakref
 from collections import deque
 from functools import partial
 from types import TracebackType
-from typing import TYPE_CHECKING, Callable, List, NoReturn, Optional, Tuple, Type, Union, cast
+from typing import TYPE_CHECKING, Callable, Dict, List, NoReturn, Optional, Sequence, Tuple, Type, Union, cast
 from weakref import WeakSet
 
-from . import branches, checking, errors, fileform, files, frames, hubsocket, levels, outfile, storetext, verdict
+from . import branches, checking, dropping, errors, fileform, files, frames, hubsocket, levels, outfile, storetext, verdict
 from .batch import Batch
 from .branches import Snapshot
 from .commands import Commands, Data, Version, data_of
 from .copies import PrivateCopy
+from .dropping import Drops
 from .edits import Edits
 from .frames import Info, Limits, Page, Stat
 from .levels import Levels
@@ -27,7 +28,7 @@ from .lock import Lock, unchanged
 from .merge import Merge, merge
 from .names import Names, remove_names
 from .process import LIMIT, Process, find_program
-from .program import Program
+from .program import Program, Result
 from .scan import Difference, Differences, Scan, differences
 from .storecopy import Progress, silent
 from .storetext import Counts, Loading
@@ -112,9 +113,6 @@ class Store:
         except errors.Ended as error:
             raise _explained(error, "open", self._served)
 
-        def count() -> int:
-            return cast(Stat, program.call(lambda: frames.stat(program.tag))).versions
-
         def guard() -> None:
             program.check()
             if is_copy:
@@ -123,7 +121,7 @@ class Store:
                 raise errors.StoreMoved(file=program.file, command="names")
 
         # these hold the program and not the store, which is closed where nobody has it any more
-        self.names = Names(path + ".names", self.path, count, guard, program.lock)
+        self.names = Names(path + ".names", self.path, partial(refusals, program), guard, program.lock)
         self._commands = Commands(program, self.names, is_copy, Edits(versions))
 
     @staticmethod
@@ -249,8 +247,30 @@ class Store:
         return cast(Optional[bytes], self._program.call(self._commands.get, version, key))
 
     def clone(self, version: Version) -> int:
-        """Makes a version with the same pairs, and tells its number. The version that it was made of is frozen then."""
+        """Makes a version with the same pairs, and tells its number. The version that it was made of is frozen as long as that is there."""
         return cast(int, self._program.call(self._commands.clone, version))
+
+    def drop(self, version: Version) -> List[str]:
+        """Takes a version away for good, and gives the names that it had, which are let go of.
+
+        It has to have no child: `Frozen` tells of one. Version 0 is never dropped: `Root`. From then on every command of that version
+        raises `Dropped`, and its number is not used again. A scan of it that began before goes on. A version whose children are all
+        dropped takes puts again. What the version had stays in the file: no bytes come free.
+        """
+        number = self.number(version)
+        with self._program.lock:
+            if self.names.of(number):
+                self.names.check_changeable()
+            return dropping.drop(self, number)
+
+    def drop_tree(self, version: Version, *, progress: Progress = silent) -> Drops:
+        """Drops a version and all below it, those without children first, and tells which, and which names are let go of.
+
+        `Root` and `ChangeLimit` come before any is dropped. Each is dropped by itself: where it ends early, some are. `progress` is
+        called as the work goes on, and an exception of it ends the work between two windows.
+        """
+        with self._program.lock:
+            return dropping.drop_tree(self, self.number(version), progress)
 
     def info(self, version: Version) -> Info:
         """A version's place in the tree."""
@@ -373,12 +393,29 @@ class Store:
 
     # What is made of that
 
-    def versions(self) -> List[Info]:
-        """The place of each version, in the order of their numbers."""
-        batch = self.batch()
+    def versions(self) -> List[Optional[Info]]:
+        """The place of each version, in the order of their numbers; None for one that was dropped."""
+        batch = self.batch(return_exceptions=True)
         for number in range(self.stat().versions):
             batch.info(number)
-        return cast(List[Info], batch.finish())
+        found: List[Optional[Info]] = []
+        for result in batch.finish():
+            if isinstance(result, errors.CastleError) and not isinstance(result, errors.UnknownVersion):
+                raise result
+            found.append(result if isinstance(result, Info) else None)
+        return found
+
+    def dropped(self) -> Dict[int, int]:
+        """The versions that were dropped, in the order of their numbers, each with the one that it was cloned from.
+
+        The program does not tell that any more, so it is read from the file while the program waits.
+        """
+        found: List[Dict[int, int]] = []
+        try:
+            self._at_rest(lambda file: found.append(fileform.read_lineage(file).dropped))
+        except ValueError as error:
+            raise errors.NotAStore(f"its versions can't be read: {error}", file=self.path, command="dropped") from None
+        return found[0]
 
     def diff(self, before: Version, after: Version, *, prefix: Data = b"") -> Differences:
         """The keys that begin with `prefix` and whose values differ between two versions as they are at this call, in order.
@@ -515,6 +552,17 @@ def check_file(real: str, file: str) -> None:
     if not stat.S_ISREG(kind) and not stat.S_ISBLK(kind):
         what = "a folder" if stat.S_ISDIR(kind) else "no plain file"
         raise errors.NotAStore(f"it is {what}, and no store", "Give the path of a store's file.", file=file, command="open")
+
+
+def refusals(program: Program, versions: Sequence[int]) -> List[Optional[errors.CastleError]]:
+    """For each of some versions what a command at it is refused with; None where the store has it."""
+    results: List[Result] = []
+    with program.lock:
+        for version in versions:
+            program.send(results, lambda: frames.info(program.tag, version))
+        program.settle(results)
+        program.explain(results)
+    return [result if isinstance(result, errors.CastleError) else None for result in results]
 
 
 def _is_writable(real: str, file: str) -> bool:

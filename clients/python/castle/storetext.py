@@ -4,6 +4,9 @@ The first line is `# castle store 1, TITLE`. Each version begins with `version`,
 version 0. A line `name`, NAME, TIME, DESCRIPTION follows for each of its names, and then in the order of their keys
 `+`, KEY, VALUE for each pair that the parent has not, and `-`, KEY for each key that it has beyond. The last line
 is `# end, 2 versions, 1 name, 3 changes`. Tabs stand between the words of a line, which are written as in a dump.
+
+For a version that was dropped there is the line `dropped`, its number and its parent's. Where there is one the first line begins
+with `# castle store 2`, so that a client which knows no drops does not take it.
 """
 
 from __future__ import annotations
@@ -11,9 +14,10 @@ from __future__ import annotations
 import contextlib
 import re
 import tempfile
-from typing import TYPE_CHECKING, Dict, Iterable, Iterator, List, NamedTuple, NoReturn, Optional, TextIO, Tuple, Union
+from typing import TYPE_CHECKING, Dict, Iterable, Iterator, List, NamedTuple, NoReturn, Optional, Set, TextIO, Tuple, Union
 
 from . import branches, dump, errors, outfile
+from .dropping import drop_all
 from .errors import DumpFault, NameFault
 from .names import NAME, Name, read_name, written_name
 from .text import cell, encoded, shortened
@@ -23,7 +27,8 @@ if TYPE_CHECKING:
     from .store import Store
 
 FIRST = "# castle store 1"
-HEAD = re.compile(rf"{FIRST}(,.*)?")
+WITH_DROPS = "# castle store 2"
+HEAD = re.compile(rf"({FIRST}|{WITH_DROPS})(,.*)?")
 END = "# end, "
 CHECKED = 10000  # changes that a check reads between two times that it tells how far it is
 WINDOW = 256  # commands that a load sends at once; it can be stopped between two windows
@@ -51,8 +56,12 @@ def lines_of(store: "Store", title: str) -> Iterator[str]:
     store.names.check_readable()
     names = [(name, store.names.about(name)) for name in store.names]
     infos, named, changes = store.versions(), 0, 0  # they are asked for behind the names, so that each name has its version
-    yield f"{FIRST}, {cell(encoded(title))}\n"
+    dropped = store.dropped() if None in infos else {}
+    yield f"{WITH_DROPS if dropped else FIRST}, {cell(encoded(title))}\n"
     for version, info in enumerate(infos):
+        if info is None:
+            yield f"dropped\t{version}\t{dropped[version]}\n"
+            continue
         yield f"version\t{version}\n" if info.parent is None else f"version\t{version}\t{info.parent}\n"
         while named < len(names) and names[named][1].version == version:
             yield "\t".join(["name", names[named][0], *written_name(names[named][1])]) + "\n"
@@ -81,7 +90,14 @@ class Change(NamedTuple):
     value: Optional[bytes]
 
 
-Item = Union[int, Change]  # an int is the parent of the version that follows
+class Version(NamedTuple):
+    """A version that follows, with its parent."""
+
+    parent: int
+    is_dropped: bool = False
+
+
+Item = Union[Version, Change]
 
 
 class Reader:
@@ -92,14 +108,21 @@ class Reader:
         self._file = file
         self._line = 0
         self._versions = 0
+        self._dropped: Set[int] = set()
+        self._takes_drops = False
         self._changes = 0
         self._last: Optional[bytes] = None  # the key of the line before, in the same version
         self._has_ended = False
 
     @property
     def counts(self) -> Counts:
-        """What was read so far."""
+        """What was read so far. Dropped versions are counted as well."""
         return Counts(self._versions, len(self.names), self._changes)
+
+    @property
+    def dropped(self) -> List[int]:
+        """The dropped versions that were read so far, each behind those below it."""
+        return sorted(self._dropped, reverse=True)
 
     def items(self, lines: Iterable[str]) -> Iterator[Item]:
         """The versions but for version 0, each before its changes. `names` has the names that came so far."""
@@ -107,6 +130,8 @@ class Reader:
             line = written.rstrip("\n")
             if self._line == 1 and not HEAD.fullmatch(line):
                 self._refuse("is not that of a dump of a store", f"It begins with {FIRST}; `load FILE` takes one of a version.")
+            if self._line == 1:
+                self._takes_drops = line.startswith(WITH_DROPS)
             if self._has_ended:
                 self._refuse("stands behind the end", "Remove it, or dump again.")
             if line.startswith("#"):
@@ -132,24 +157,35 @@ class Reader:
         """What a line says, as words between tabs."""
         kind, count = words[0], len(words)
         if kind == "version" and count in (2, 3):
-            yield from self._version(words[1:])
-        elif kind == "name" and count in (2, 3, 4) and self._versions and self._last is None:
+            yield from self._version(words[1:], False)
+        elif (kind, count) == ("dropped", 3) and self._versions and self._takes_drops:
+            yield from self._version(words[1:], True)
+        elif kind == "name" and count in (2, 3, 4) and self._is_filled and self._last is None:
             self._name(words[1], words[2:])
-        elif (kind, count) in (("+", 3), ("-", 2)) and self._versions:
+        elif (kind, count) in (("+", 3), ("-", 2)) and self._is_filled:
             yield self._change(words[1:])
         else:
             self._refuse("is neither a version, nor a name of it, nor a change in it")
 
-    def _version(self, words: List[str]) -> Iterator[int]:
-        """The parent of a version, for any but version 0."""
+    @property
+    def _is_filled(self) -> bool:
+        """Whether names and changes may follow: the last version is there, and was not dropped."""
+        return self._versions > 0 and self._versions - 1 not in self._dropped
+
+    def _version(self, words: List[str], is_dropped: bool) -> Iterator[Version]:
+        """A version with its parent, for any but version 0."""
         numbers = [int(word) if re.fullmatch("[0-9]{1,9}", word) else -1 for word in words]
         if numbers[0] != self._versions or len(numbers) != (2 if self._versions else 1):
             self._refuse(f"is not that of version {self._versions} with its parent")
         if self._versions and not 0 <= numbers[1] < self._versions:
             self._refuse(f"has a parent that is no version before {self._versions}")
+        if not is_dropped and self._dropped.intersection(numbers[1:]):
+            self._refuse("has a parent that was dropped")
+        if is_dropped:
+            self._dropped.add(self._versions)
         self._versions += 1
         self._last = None
-        yield from numbers[1:]
+        yield from (Version(parent, is_dropped) for parent in numbers[1:])
 
     def _name(self, name: str, words: List[str]) -> None:
         if not NAME.fullmatch(name):
@@ -213,10 +249,10 @@ class Loading:
             if number % CHECKED == 0:
                 yield
         versions, _, changes = reader.counts
-        branches.check_room(store, versions - 1, versions - 1 + changes, self._file)
+        branches.check_room(store, versions - 1, versions - 1 + changes + len(reader.dropped), self._file)
 
     def load(self, lines: Iterable[str]) -> Iterator[None]:
-        """Makes the versions and their changes, window by window, and gives all names by one write at the end."""
+        """Makes the versions and their changes, window by window, drops those that were dropped, and gives all names by one write."""
         reader, batch, sent = Reader(self._file), self._store.batch(), 0
         for item in reader.items(lines):
             _send(batch, reader.counts.versions - 1, item)
@@ -228,6 +264,7 @@ class Loading:
                 yield
         batch.finish()
         self.counts = reader.counts._replace(names=0)
+        yield from drop_all(self._store, reader.dropped)
         if reader.names:
             with outfile.told(self._store.names.path, "written"):
                 self._store.names.restore(reader.names)
@@ -236,8 +273,8 @@ class Loading:
 
 def _send(batch: "Batch", version: int, item: Item) -> None:
     """Makes this version as a clone of its parent, or makes a change in it."""
-    if isinstance(item, int):
-        batch.clone(item)
+    if isinstance(item, Version):
+        batch.clone(item.parent)
     elif item.value is None:
         batch.delete(version, item.key)
     else:

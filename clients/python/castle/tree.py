@@ -4,6 +4,8 @@ from __future__ import annotations
 
 from typing import Iterator, List, Mapping, NamedTuple, Optional, Sequence, Tuple
 
+from .frames import Info
+
 WIDTH = 100  # columns, where a chain goes on in a line of its own
 ELIDED = 3  # so many versions in a row without name or branch are drawn as one
 
@@ -17,12 +19,18 @@ class Node(NamedTuple):
 
 
 class Tree:
-    """Versions with their parents and names, ready to be drawn. It takes time in proportion to their number."""
+    """Versions with their parents and names, ready to be drawn. It takes time in proportion to their number.
 
-    def __init__(self, parents: Sequence[Optional[int]], names: Mapping[int, Sequence[str]],
-                 here: Optional[int] = None) -> None:
+    Dropped versions are not drawn. `hanging` says of a version how many of them hang there: below it, with none between that is drawn.
+    """
+
+    def __init__(self, infos: Sequence[Optional[Info]], names: Mapping[int, Sequence[str]], here: Optional[int] = None,
+                 hanging: Mapping[int, int] = {}) -> None:
+        """The places of all versions are given; None for one that was dropped."""
         self.names = names
         self.here = here
+        self.hanging = hanging
+        parents = [None if info is None else info.parent for info in infos]
         self.children: List[List[int]] = [[] for _ in parents]
         for version, parent in enumerate(parents):
             if parent is not None:
@@ -58,11 +66,16 @@ class Tree:
 
     def label(self, node: Node) -> str:
         """What stands for a node in the text."""
-        version = node.versions[0]
+        version, gone = node.versions[0], self.gone(node)
         if len(node.versions) > 1:
-            return f"({len(node.versions)} versions, {version} to {node.versions[-1]})"
+            return f"({len(node.versions)} versions, {version} to {node.versions[-1]}{f', {gone}' if gone else ''})"
         names = ", ".join(self.names.get(version, ()))
-        return f"{version}{f' {names}' if names else ''}{' (here)' if version == self.here else ''}"
+        return f"{version}{f' {names}' if names else ''}{' (here)' if version == self.here else ''}{f' ({gone})' if gone else ''}"
+
+    def gone(self, node: Node) -> str:
+        """How many dropped versions hang at a node, in words; empty where none does."""
+        count = sum(self.hanging.get(version, 0) for version in node.versions)
+        return f"{count:,} dropped" if count else ""
 
     def lines(self) -> Iterator[str]:
         """The tree as lines of text. An only child stands on the line of its parent."""

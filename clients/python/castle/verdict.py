@@ -43,7 +43,7 @@ RULES: Dict[str, Rule] = {
               "Every version. The store may do more work than is promised.", MOVE),
     "i": Rule("The level has a greater horizon than one above it.",
               "Every version.", MOVE),
-    "j": Rule("A version had a child when the level was made, and has changes in a level above it.",
+    "j": Rule("A version has a child that was there when the level was made, and has changes in a level above it.",
               "Versions that are no descendants of that one. A descendant may show a value of that one in place of a nearer one.",
               RESTORE),
     "k": Rule("The array's numbers in the manifest are not those of its entries.",

@@ -4,7 +4,7 @@ from __future__ import annotations
 
 import random
 import sys
-from typing import Dict, List, NamedTuple, Optional
+from typing import Dict, List, NamedTuple, Optional, Set
 
 from support import TOP
 
@@ -25,6 +25,7 @@ class Whole(NamedTuple):
     """Those of its arrays."""
     parents: List[Optional[int]]
     tables: List[Dict[bytes, bytes]]
+    dropped: Set[int]
 
 
 def stores(seed: int) -> List[Whole]:
@@ -32,7 +33,7 @@ def stores(seed: int) -> List[Whole]:
     found = []
     for base in damages.bases(seed):
         store = formats.store_of(base.data, base.contents)
-        found.append(Whole(base.data, base.blocks, store.parents, store.pairs))
+        found.append(Whole(base.data, base.blocks, store.parents, store.pairs, store.dropped))
     return found
 
 

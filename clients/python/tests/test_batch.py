@@ -25,6 +25,7 @@ class Versions:
         self.versions_max = versions_max
         self.pairs: List[Dict[bytes, bytes]] = [{}]
         self.parents: List[Optional[int]] = [None]
+        self.dropped: Set[int] = set()
         self.updates = self.changes = 0
         self.cursors = 0
 
@@ -32,7 +33,19 @@ class Versions:
         depth, at = 0, self.parents[version]
         while at is not None:
             depth, at = depth + 1, self.parents[at]
-        return Info(self.parents[version], depth, version in self.parents)
+        return Info(self.parents[version], depth, self.is_frozen(version))
+
+    def living(self) -> List[int]:
+        """The versions that were not dropped."""
+        return [version for version in range(len(self.pairs)) if version not in self.dropped]
+
+    def refusal(self, version: int) -> Optional[Type[Refused]]:
+        """What a command of a version is refused with that is not there; None where it is."""
+        return errors.UnknownVersion if version >= len(self.pairs) else errors.Dropped if version in self.dropped else None
+
+    def is_frozen(self, version: int) -> bool:
+        """Whether a version has a child that was not dropped."""
+        return any(parent == version and child not in self.dropped for child, parent in enumerate(self.parents))
 
     def range(self, version: int, lower: bytes, upper: bytes) -> List[Pair]:
         """The pairs of a range."""
@@ -42,8 +55,8 @@ class Versions:
         """What a command gives; a refusal by its class."""
         if command == "stat":
             return Stat(len(self.pairs), self.updates, self.changes, self.cursors)
-        if version >= len(self.pairs):
-            return errors.UnknownVersion
+        if self.refusal(version):
+            return self.refusal(version)
         if command == "page":
             found = self.range(version, *words)
             return Page(found[:PIECE], len(found) > PIECE)
@@ -58,10 +71,16 @@ class Versions:
             self.parents.append(version)
             self.changes += 1
             return len(self.pairs) - 1
-        if version in self.parents:
+        if command == "drop" and not version:
+            return errors.Root
+        if self.is_frozen(version):
             return errors.Frozen
-        self.updates += 1
         self.changes += 1
+        if command == "drop":
+            self.dropped.add(version)
+            self.pairs[version] = {}
+            return None
+        self.updates += 1
         if command == "put":
             self.pairs[version][words[0]] = words[1]
         else:
@@ -69,10 +88,11 @@ class Versions:
         return None
 
 
-def drawn(chance: random.Random, versions: int) -> Tuple[str, int, Tuple[bytes, ...]]:
+def drawn(chance: random.Random, plain: Versions) -> Tuple[str, int, Tuple[bytes, ...]]:
     """A command, a version that may be there, and the command's words."""
-    command = chance.choices(("put", "delete", "get", "clone", "info", "stat"), (30, 10, 50, 1, 5, 4))[0]
-    version = chance.randrange(max(0, versions - 6), versions + 1)
+    versions = len(plain.pairs)
+    command = chance.choices(("put", "delete", "get", "clone", "drop", "info", "stat"), (30, 10, 50, 2, 1, 5, 4))[0]
+    version = chance.choice((chance.randrange(max(0, versions - 6), versions + 1), chance.choice(plain.living()[-6:])))
     key = b"key/%d" % chance.randrange(60)
     words = {"put": (key, chance.randbytes(chance.choice((0, 3, 60, 1024)))), "delete": (key,), "get": (key,)}
     return command, version, words.get(command, ())
@@ -116,27 +136,34 @@ def kinds(results: List[object]) -> List[object]:
     return [type(result) if isinstance(result, Refused) else result for result in results]
 
 
+def alike(got: Sequence[object], want: Sequence[object]) -> Tuple[List[object], List[object]]:
+    """Both, but what was asked of a version before it was made is wanted as it is told at the end of a batch."""
+    return list(got), [one if one is errors.Dropped and other is errors.UnknownVersion else other for one, other in zip(got, want)]
+
+
 class BatchTest(StoreCase):
     def test_ten_thousand_commands_give_what_a_dictionary_of_versions_does(self) -> None:
-        chance, plain, want = random.Random(22), Versions(60), []
-        store = self.made(256, 100000, 60)
+        chance, plain, want = random.Random(22), Versions(150), []
+        store = self.made(256, 100000, 150)
         with store.batch(return_exceptions=True) as batch:
             for _ in range(10000):
-                command, version, words = drawn(chance, len(plain.pairs))
+                command, version, words = drawn(chance, plain)
                 getattr(batch, command)(*(() if command == "stat" else (version, *words)))
                 want.append(plain.answer(command, version, *words))
         got = kinds(list(batch.results))
         self.assertEqual(len(got), 10000)
-        for number, (one, other) in enumerate(zip(got, want)):
-            self.assertEqual(one, other, f"command {number}")
+        self.assertEqual(*alike(got, want))
         seen = {kind for kind in want if isinstance(kind, type)}
-        self.assertEqual(seen, {errors.UnknownVersion, errors.Frozen, errors.VersionLimit})
+        self.assertEqual(seen, {errors.UnknownVersion, errors.Dropped, errors.Root, errors.Frozen, errors.VersionLimit})
         store.close()
-        again = self.opened().batch()
-        for version, pairs in enumerate(plain.pairs):
+        store = self.opened()
+        again = store.batch()
+        living = plain.living()
+        self.assertEqual([version for version, info in enumerate(store.versions()) if info is not None], living)
+        for version in living:
             for number in range(60):
                 again.get(version, b"key/%d" % number)
-        self.assertEqual(again.finish(), [pairs.get(b"key/%d" % number) for pairs in plain.pairs for number in range(60)])
+        self.assertEqual(again.finish(), [plain.pairs[version].get(b"key/%d" % number) for version in living for number in range(60)])
 
     def test_full_pipes_block_nobody(self) -> None:
         store = self.made()
@@ -320,7 +347,7 @@ class ReadingTest(StoreCase):
     in_memory = True
 
     def test_scans_amid_commands_give_what_a_dictionary_of_versions_does(self) -> None:
-        chance, plain, store = random.Random(29), Versions(40), self.made(8, 100000, 40)
+        chance, plain, store = random.Random(29), Versions(60), self.made(8, 100000, 60)
         keys = [b"key/%03d" % number for number in range(700)]
         readings: List[Reading] = []
         want: List[object] = []
@@ -331,11 +358,12 @@ class ReadingTest(StoreCase):
                 plain.answer("put", 0, key, b"")
         batch = store.batch(return_exceptions=True)
         for number in range(3000):
-            version, key = chance.randrange(max(0, len(plain.pairs) - 4), len(plain.pairs) + (chance.random() < 0.02)), chance.choice(keys)
-            draw = chance.choices(("change", "clone", "page", "stat", "open", "read", "end"), (45, 1, 3, 5, 16, 22, 6))[0]
+            last = range(max(0, len(plain.pairs) - 4), len(plain.pairs) + 1)
+            version, key = chance.choice(last if chance.random() < 0.03 else plain.living()[-4:]), chance.choice(keys)
+            draw = chance.choices(("change", "clone", "drop", "page", "stat", "open", "read", "end"), (44, 2, 1, 3, 5, 16, 22, 6))[0]
             if draw == "open":
                 lower, upper = chance.choice((b"", b"", key, key + b"\0")), chance.choice((b"", b"", b"", chance.choice(keys)))
-                fails = errors.UnknownVersion if version >= len(plain.pairs) else errors.CursorLimit if plain.cursors == 64 else None
+                fails = plain.refusal(version) or (errors.CursorLimit if plain.cursors == 64 else None)
                 try:
                     readings.append(Reading(store.scan(version, lower, upper), plain, plain.range(version, lower, upper)))
                     self.assertIsNone(fails)
@@ -359,9 +387,8 @@ class ReadingTest(StoreCase):
                 words = words[:1] if command == "delete" else words
                 getattr(batch, command)(*(() if command == "stat" else (version, *words)))
                 want.append(plain.answer(command, version, *words))
-        for number, (one, other) in enumerate(zip(kinds(batch.finish()), want)):
-            self.assertEqual(one, other, f"command {number}")
-        self.assertEqual((len(batch.results), seen), (len(want), {None, errors.UnknownVersion, errors.CursorLimit}))
+        self.assertEqual(*alike(kinds(batch.finish()), want))
+        self.assertEqual((len(batch.results), seen), (len(want), {None, errors.UnknownVersion, errors.Dropped, errors.CursorLimit}))
         for reading in readings:
             self.assertEqual(*reading.take(1000))
         self.assertEqual((store.stat().cursors, plain.cursors), (0, 0))

@@ -69,13 +69,16 @@ class RefusalsTest(StoreCase):
         self.refused(errors.UnknownVersion, "get", -1, b"a")
         self.assertEqual(self.store.clone(0), 1)
         error = self.refused(errors.Frozen, "put", 0, b"b", b"2")
-        self.assertEqual(str(error), f"{self.path}: put b at version 0: the version has a child and takes no more puts and "
-                                     "deletes. Clone it, and write to the clone.")
+        self.assertEqual(str(error), f"{self.path}: put b at version 0: the version has a child, and takes no puts and deletes and no "
+                                     "drop. Clone it, and write to the clone; or drop its children first.")
         self.refused(errors.Frozen, "delete", 0, b"a")
         self.refused(errors.VersionLimit, "clone", 1)
+        self.refused(errors.Root, "drop", 0)
+        self.refused(errors.UnknownVersion, "drop", 2)
         self.store.put(1, b"b", b"2")
         self.store.put(1, b"b", b"3")
         self.refused(errors.ChangeLimit, "put", 1, b"b", b"4")
+        self.refused(errors.ChangeLimit, "drop", 1)
         self.assertEqual(self.store.get(1, b"b"), b"3")
 
     def test_sizes_are_refused(self) -> None:

@@ -109,7 +109,7 @@ class ProbeTest(HubCase):
     def probes(self) -> List[Tuple[bytes, str]]:
         """The frames of the page that tell what a build has, and the reply where it has that."""
         rows = re.findall(r"^\| \d+ \| \w+ \| `([0-9a-f ]+)` \| (\w+) \|$", PAGE.split("## What a build has")[1], re.M)
-        self.assertEqual(len(rows), 10)
+        self.assertEqual(len(rows), 11)
         return [(bytes.fromhex(frame), reply) for frame, reply in rows]
 
     def test_what_a_build_has_is_told_by_frames_that_change_nothing(self) -> None:

@@ -23,7 +23,7 @@ Contents = Tuple[List[Optional[int]], List[Dict[bytes, bytes]]]
 def contents_of(path: str) -> Contents:
     """The parents and the pairs of each version of a store."""
     with Store(path) as store:
-        parents = [info.parent for info in store.versions()]
+        parents = [info and info.parent for info in store.versions()]
         return parents, [dict(store.scan(version)) for version in range(len(parents))]
 
 

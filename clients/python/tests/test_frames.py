@@ -24,7 +24,7 @@ class FramesTest(unittest.TestCase):
         made = {"Put": frames.put(7, 0, b"a", b"1"), "Delete": frames.delete(1, 0, b"a"), "Get": frames.get(8, 0, b"a"),
                 "Clone": frames.clone(2, 0), "Scan": frames.scan(3, 0, b"a", b"", 10), "Info": frames.info(4, 0),
                 "OpenCursor": frames.open_cursor(5, 0, b"", b""), "NextPairs": frames.next_pairs(6, 1, 256),
-                "CloseCursor": frames.close_cursor(7, 1), "Stat": frames.stat(8)}
+                "CloseCursor": frames.close_cursor(7, 1), "Stat": frames.stat(8), "DropVersion": frames.drop(9, 1)}
         for name, frame in made.items():
             found = re.search(rf"^\| \d+ \| {name} \| [^|]*\| `([0-9a-f ]+)` \| tag", PROTOCOL, re.M)
             assert found, name
@@ -53,6 +53,7 @@ class FramesTest(unittest.TestCase):
         self.assertEqual(frames.describe(frames.put(1, 3, b"a b", b"v")), 'put "a b" at version 3')
         self.assertEqual(frames.describe(frames.get(1, 3, b"\xff")), r"get \xff at version 3")
         self.assertEqual(frames.describe(frames.clone(1, 3)), "clone version 3")
+        self.assertEqual(frames.describe(frames.drop(1, 3)), "drop version 3")
         self.assertEqual(frames.describe(frames.info(1, 3)), "info version 3")
         self.assertEqual(frames.describe(frames.scan(1, 3, b"", b"", 1)), "page of version 3")
         self.assertEqual(frames.describe(frames.open_cursor(1, 3, b"a", b"")), "scan of version 3")
@@ -61,8 +62,14 @@ class FramesTest(unittest.TestCase):
         self.assertEqual(frames.describe(frames.stat(1)), "stat")
         self.assertEqual(frames.describe(frames.put(1, 3, b"k" * 60, b"v")), f"put {'k' * 60} at version 3")
         self.assertEqual(frames.describe(frames.get(1, 3, b"k" * 256)), f"get {'k' * 30}.. (256 bytes) at version 3")
-        for body in (b"", b"\0\0\0\0\x01", b"\0\0\0\0\x08\0\0\0\0", b"\0\0\0\0\x0b"):
+        for body in (b"", b"\0\0\0\0\x01", b"\0\0\0\0\x08\0\0\0\0", b"\0\0\0\0\x0b", b"\0\0\0\0\x0c\0\0\0\0"):
             self.assertEqual(frames.describe(len(body).to_bytes(4, "big") + body), "a frame that is no command")
+
+    def test_the_version_of_a_command_is_found(self) -> None:
+        for frame in (frames.put(1, 3, b"a", b"v"), frames.get(1, 3, b"a"), frames.drop(1, 3), frames.scan(1, 3, b"", b"", 1)):
+            self.assertEqual(frames.version_of(frame), 3)
+        for frame in (frames.stat(1), frames.next_pairs(1, 3, 1), frames.close_cursor(1, 3), frames.limits(1)):
+            self.assertIsNone(frames.version_of(frame))
 
     def test_the_end_of_a_prefix_leaves_out_no_key(self) -> None:
         self.assertEqual(frames.prefix_end(b"a/"), b"a0")

@@ -41,8 +41,8 @@ def interrupted(call: Callable[[], object], at: int, names: str, opcodes: bool =
         frame.f_trace_opcodes = opcodes
         if event == "call":
             begun.difference_update([place for place in begun if place[0] == id(frame)])
-        text = linecache.getline(frame.f_code.co_filename, frame.f_lineno).strip()
-        if text == "try:":
+        text = linecache.getline(frame.f_code.co_filename, frame.f_lineno or 0).strip()
+        if text in ("", "try:"):  # none is of the end of a `with` block
             return step
         if event == "line" and text.startswith("with "):
             place = id(frame), frame.f_lineno
@@ -203,6 +203,25 @@ class StepsTest(StoreCase):
         gc.collect()
         self.assertEqual(len(os.listdir("/proc/self/fd")), len(before))
         self.assertEqual(Threads(lambda: Store(self.path).close()).join(), [])  # no lock of all stores is left taken
+
+    def test_a_drop_that_is_interrupted_at_any_step_is_done_with_its_names_or_not_at_all(self) -> None:
+        store, seen = self.made(64, 100000, 2000), set()
+        for opcodes in (False, True):
+            clone = store.clone(0)
+            store.names["a"] = clone
+            files = "program names dropping" if opcodes else "program store commands names dropping files"
+            for at in self.steps(lambda _: store.drop(clone), files, opcodes, 40, 7 if opcodes else 1):
+                infos = store.versions()  # the end of a batch lets go of names where that was cut off
+                seen.add(infos[clone] is None)
+                self.assertEqual(dict(store.names), {} if infos[clone] is None else {"a": clone}, f"at {at}")
+                if infos[clone] is None:
+                    self.assertRaises(errors.Dropped, store.get, clone, "a")
+                    clone = store.clone(0)
+                    store.names["a"] = clone
+                    self.assertEqual(self.names_told(), [f"a {clone}"], f"at {at}")
+        self.assertEqual(seen, {False, True})
+        store.close()
+        self.assertEqual(dict(self.opened().names), {})
 
     def test_names_that_are_interrupted_at_any_step_are_the_old_or_the_new_ones(self) -> None:
         store = self.made()

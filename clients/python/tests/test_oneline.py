@@ -180,7 +180,7 @@ class JsonTest(StoreCase):
         place = {"version": 1, "names": ["staging"], "parent": 0, "ancestors": 1, "frozen": False}
         first = {"version": 0, "names": [], "parent": None, "ancestors": 0, "frozen": True}
         *told, name = self.told("names describe staging next", "info 1", "tree", "stat", "names")
-        self.assertEqual(told, [place, first, place, {"versions": 2, "updates": 5, "changes": 6, "cursors": 0}])
+        self.assertEqual(told, [place, {**first, "dropped": 0}, {**place, "dropped": 0}, {"versions": 2, "updates": 5, "changes": 6, "cursors": 0}])
         self.assertRegex(name.pop("time"), r"^\d{4}-\d\d-\d\dT\d\d:\d\d:\d\dZ$")
         self.assertEqual(name, {"name": "staging", "version": 1, "description": "next"})
         self.assertEqual(self.told("dump staging", "scan --limit 1 @1"), [

@@ -9,6 +9,7 @@ from unittest import mock
 from support import StoreCase
 
 from drawing import Picture, overlaps
+from test_tree import placed
 
 from castle import keycount
 from castle.keycount import Count, count_keys
@@ -21,7 +22,7 @@ NONE: Names = {}
 
 def picture_of(parents: Sequence[Optional[int]], names: Names = NONE, heading: str = "s.store") -> Picture:
     """The picture of a tree in which each version has as many keys as its number says."""
-    tree = Tree(parents, names)
+    tree = Tree(placed(parents), names)
     return Picture("".join(svg(tree, {version: Count(version) for version in tree.single()}, heading)))
 
 
@@ -40,8 +41,14 @@ class TreePictureTest(unittest.TestCase):
         kinds = ("frozen", "frozen named", "open", "open named", "row")
         self.assertEqual([len(picture.of(kind)) for kind in kinds], [1, 1, 1, 1, 1])
 
+    def test_dropped_versions_are_counted_where_they_hang(self) -> None:
+        tree = Tree(placed([None, 0, 0, 1, 3, 4, 5, 6], {2}), {}, None, {0: 1, 4: 2000})
+        picture = Picture("".join(svg(tree, {version: Count(version) for version in tree.single()}, "s")))
+        for text in ("0 keys, frozen, 1 dropped", "5 versions", "1 to 6, 2,000 dropped", "7 keys, leaf"):
+            self.assertIn(text, picture.written())
+
     def test_keys_that_were_not_all_counted_are_said_to_be_more(self) -> None:
-        picture = Picture("".join(svg(Tree([None], {}), {0: Count(256, True)}, "s")))
+        picture = Picture("".join(svg(Tree(placed([None]), {}), {0: Count(256, True)}, "s")))
         self.assertIn("over 256 keys, leaf", picture.written())
         self.assertEqual([str(Count(0)), str(Count(1)), str(Count(2000, True))], ["0 keys", "1 key", "over 2,000 keys"])
 

@@ -17,7 +17,7 @@ import threading
 import traceback
 import warnings
 from functools import partial
-from typing import Any, Callable, Dict, Iterator, List, NoReturn, Optional, Tuple
+from typing import Any, Callable, Dict, Iterator, List, NoReturn, Optional, Set, Tuple
 from unittest import mock
 
 from support import StoreCase, Threads, in_child, is_gone
@@ -38,11 +38,17 @@ class File:
         self.paths = {path}
         self.versions: List[Pairs] = [{}]
         self.parents: List[Optional[int]] = [None]
+        self.dropped: Set[int] = set()
         self.changes = 0
+
+    def living(self) -> List[int]:
+        """The versions that were not dropped."""
+        return [number for number in range(len(self.versions)) if number not in self.dropped]
 
     def ends(self) -> List[int]:
         """The versions that take puts."""
-        return [number for number in range(len(self.versions)) if number not in self.parents]
+        parents = {self.parents[number] for number in self.living()}
+        return [number for number in self.living() if number not in parents]
 
 
 class Holder:
@@ -104,7 +110,7 @@ class World:
             (14, self.open), (3, self.look), (12, self.change), (8, self.ask), (6, self.scan), (6, self.read_on), (4, self.batch),
             (3, self.clone), (5, self.name), (4, self.branch), (4, self.threads), (4, self.fork), (2, self.linger), (3, self.child_opens),
             (3, self.child_ends), (4, self.move), (2, self.link), (2, self.unlink), (3, self.kill), (2, self.kill_amid),
-            (5, self.close), (4, self.drop), (4, self.interrupt)]
+            (5, self.close), (4, self.lose), (4, self.interrupt), (4, self.drop)]
 
     def full(self, path: str) -> str:
         return os.path.join(self.folder, path)
@@ -147,14 +153,15 @@ class World:
 
     def shown(self, path: str) -> Dict[str, int]:
         """The names that a store has which is opened at this path."""
-        count = len(self.at[path].versions)
-        return {name: version for name, version in self.names.get(path, {}).items() if version < count}
+        living = self.at[path].living()
+        return {name: version for name, version in self.names.get(path, {}).items() if version in living}
 
     def expect_all(self, store: Store, file: File) -> None:
         """The store has what the model says."""
         expect(store.stat()[:3:2] == (len(file.versions), file.changes), (store.stat(), len(file.versions), file.changes))
-        for version, pairs in enumerate(file.versions):
-            expect(dict(store.scan(version)) == pairs, f"version {version}")
+        for version in file.living():
+            expect(dict(store.scan(version)) == file.versions[version], f"version {version}")
+        expect([version for version, info in enumerate(store.versions()) if info is None] == sorted(file.dropped), "dropped versions")
 
     # Draws
 
@@ -218,8 +225,8 @@ class World:
         if it is None or it.store is None:
             return
         store, version = it.store, self.chance.randrange(len(it.file.versions))
-        if it.is_dead:
-            self.refused(it, CastleError, lambda: store.get(version, KEYS[0]))
+        if it.is_dead or version in it.file.dropped:
+            self.refused(it, CastleError if it.is_dead else errors.Dropped, lambda: store.get(version, KEYS[0]))
             return
         for key in KEYS:
             expect(store.get(version, key) == it.file.versions[version].get(key), (it.path, version, key))
@@ -233,7 +240,7 @@ class World:
         it = self.living()
         if it is None or it.store is None or len(it.scans) > 5:
             return
-        version = self.chance.randrange(len(it.file.versions))
+        version = self.chance.choice(it.file.living())
         it.scans.append((it.store.scan(version), sorted(it.file.versions[version].items())))
 
     def read_on(self) -> None:
@@ -272,7 +279,7 @@ class World:
         it = self.living()
         if it is None or it.store is None or len(it.file.versions) > 150:
             return
-        version, store = self.chance.randrange(len(it.file.versions)), it.store
+        version, store = self.chance.choice(it.file.living()), it.store
         if it.strays and self.at.get(it.path) is not it.file:
             self.refused(it, errors.StoreMoved, lambda: store.clone(version))
             return
@@ -286,12 +293,38 @@ class World:
         if it.strays:
             self.names[it.path], it.strays = dict(it.names), False
 
+    def drop(self) -> None:
+        """Drops a version, whose names are let go of, or is refused. It is where the file was moved and the version has a name."""
+        it = self.living()
+        if it is None or it.store is None:
+            return
+        store, version = it.store, self.chance.choice((*it.file.ends(), self.chance.randrange(len(it.file.versions))))
+        named = sorted(name for name, number in it.names.items() if number == version)
+        kinds = [(bool(named) and self.at.get(it.path) is not it.file, errors.StoreMoved), (version in it.file.dropped, errors.Dropped),
+                 (version == 0, errors.Root), (version not in it.file.ends(), errors.Frozen)]
+        for fails, kind in kinds:
+            if fails:
+                self.refused(it, kind, lambda: store.drop(version))
+                return
+        expect(store.drop(version) == named, "the names of a dropped version")
+        self.dropped(it, version)
+
+    def dropped(self, it: Open, version: int) -> None:
+        it.file.dropped.add(version)
+        it.file.changes += 1
+        named = [name for name, number in it.names.items() if number == version]
+        for name in named:
+            del it.names[name]
+        if named:
+            self.names[it.path], it.strays = dict(it.names), False
+        expect(it.store is not None and dict(it.store.names) == it.names, "names")
+
     def name(self) -> None:
         """Sets or removes a name, which is refused where the file was moved."""
         it = self.living()
         if it is None or it.store is None:
             return
-        names, version, name = it.store.names, self.chance.randrange(len(it.file.versions)), self.chance.choice("xyz")
+        names, version, name = it.store.names, self.chance.choice(it.file.living()), self.chance.choice("xyz")
         if self.at.get(it.path) is not it.file:
             self.refused(it, errors.StoreMoved, lambda: names.update({name: version}))
             return
@@ -525,7 +558,7 @@ class World:
                     got.append(pair)
             expect(got == want[:len(got)], "a scan of a closed store")
 
-    def drop(self) -> None:
+    def lose(self) -> None:
         """Nobody has a store any more, but for its scans; then it is free."""
         it = self.some()
         if it is None:
@@ -549,12 +582,15 @@ class World:
         store, version = it.store, self.chance.choice(it.file.ends())
         key, value = self.chance.choice(KEYS), b"%d" % next(self.counter)
         clones = self.chance.random() < 0.2 and len(it.file.versions) < 150 and not it.strays
+        drops = not clones and version > 0 and self.chance.random() < 0.2 and self.at.get(it.path) is it.file
         self.due, seconds = KeyboardInterrupt(), self.chance.random() * 0.003 + 1e-5
         try:
             try:
                 signal.setitimer(signal.ITIMER_REAL, seconds)
                 if clones:
                     store.clone(version)
+                elif drops:
+                    store.drop(version)
                 else:
                     store.put(version, key, value)
             finally:
@@ -565,6 +601,9 @@ class World:
         if clones:
             if store.stat().versions > len(it.file.versions):
                 self.cloned(it, version)
+        elif drops:
+            if store.versions()[version] is None:  # which lets go of its names, where that was cut off
+                self.dropped(it, version)
         else:
             found = store.get(version, key)
             expect(found in (value, it.file.versions[version].get(key)), "an interrupted put")

@@ -9,7 +9,7 @@ import subprocess
 import sys
 import time
 import unittest
-from typing import Any, Dict, List, Optional, Tuple
+from typing import Any, Dict, List, Optional, Set, Tuple
 from unittest import mock
 
 from redises import RedisCase
@@ -22,25 +22,29 @@ from test_changelog import change
 
 COPYCAT = str(TOP / "clients" / "python" / "tests" / "copycat")
 COMMAND = str(TOP / "castle-replicate")
-Tables = List[Dict[bytes, bytes]]
+Tables = List[Optional[Dict[bytes, bytes]]]
 
 
 def tables(path: str) -> Tables:
-    """The pairs of each version of a store."""
+    """The pairs of each version of a store; None for a dropped one."""
     with Store(path) as store:
-        return [dict(store.scan(version)) for version in range(store.stat().versions)]
+        return [info and dict(store.scan(version)) for version, info in enumerate(store.versions())]
 
 
 def replayed(sent: List[bytes]) -> Tables:
     """The pairs of each version after these changes."""
     found: Tables = [{}]
     for change in map(changes.change_of, sent):
+        pairs = found[change.version]
+        assert pairs is not None
         if change.kind == changes.CLONE:
-            found.append(dict(found[change.version]))
+            found.append(dict(pairs))
+        elif change.kind == changes.DROP:
+            found[change.version] = None
         elif change.kind == changes.DELETE:
-            found[change.version].pop(change.key, None)
+            pairs.pop(change.key, None)
         else:
-            found[change.version][change.key] = change.value or b""
+            pairs[change.key] = change.value or b""
     return found
 
 
@@ -52,6 +56,7 @@ class ReplicaCase(StoreCase):
         needs("lead")
         self.log = replicate.Log(os.path.join(self.folder, "log"))
         self.copy = os.path.join(self.folder, "copy.store")
+        self.dropped: Set[int] = set()
 
     def stores(self, mem: int = 8, limit: int = 100000, versions: int = 1000) -> None:
         """Makes a leader's store and a copy of it that has nothing."""
@@ -62,10 +67,14 @@ class ReplicaCase(StoreCase):
         """Has the leader take drawn changes."""
         with replicate.Leader(self.path, self.log if keeper is None else keeper) as leader:
             for number in range(count):
-                version, key = max(0, leader.versions - 1 - chance.randrange(3)), f"key/{chance.randrange(20)}"
+                last = [it for it in range(max(0, leader.versions - 5), leader.versions) if it not in self.dropped]
+                version, key = chance.choice(last or [0]), f"key/{chance.randrange(20)}"
                 draw = chance.random()
                 if draw < 0.1:
                     leader.clone(version)
+                elif draw < 0.15:
+                    leader.drop(version)
+                    self.dropped.add(version)  # or it is refused
                 elif draw < 0.3:
                     leader.delete(version, key)
                 else:
@@ -85,13 +94,18 @@ class LeaderTest(ReplicaCase):
             leader.put(0, "a", "2")
             leader.put(1, b"a", b"2")
             leader.delete(7, "a")
+            leader.clone(1)
+            leader.drop(1)
+            leader.drop(2)
+            leader.drop(0)
+            leader.put(1, b"b", b"3")
             for wrong in (lambda: leader.put(1, "", "1"), lambda: leader.put(1, "k", "v" * 1025), lambda: leader.delete(1, "k" * 256)):
                 self.assertRaises((errors.KeySize, errors.ValueSize), wrong)
-        self.assertEqual(leader.led, replicate.Led(3, 3, ["put a at version 0", "delete a at version 7"]))
+        self.assertEqual(leader.led, replicate.Led(6, 6, ["put a at version 0", "delete a at version 7", "drop version 1", "drop version 0"]))
         self.assertRaises(errors.StoreClosed, leader.put, 1, "a", "1")
         self.assertEqual([str(changes.change_of(frame)) for found in self.log.read(0) for frame in found],
-                         ["0 put a 1 @0", "1 clone @0", "2 put a 2 @1"])
-        self.assertEqual(tables(self.path), [{b"a": b"1"}, {b"a": b"2"}])
+                         ["0 put a 1 @0", "1 clone @0", "2 put a 2 @1", "3 clone @1", "4 drop @2", "5 put b 3 @1"])
+        self.assertEqual(tables(self.path), [{b"a": b"1"}, {b"a": b"2", b"b": b"3"}, None])
 
     def test_what_is_sent_reaches_the_leader_at_once_and_the_log_soon(self) -> None:
         self.stores()
@@ -315,9 +329,10 @@ class BackupTest(ReplicaCase):
         with replicate.Leader(self.path, self.log) as leader:
             self.pids.append(leader._process)
             while True:
-                version = max(0, leader.versions - 1 - chance.randrange(2))
-                if chance.random() < 0.005:
-                    leader.clone(version)
+                version = chance.choice((leader.versions - 1, max(0, leader.versions - 2), chance.randrange(leader.versions)))
+                if chance.random() < 0.01:
+                    leader.clone(chance.choice((version, 0)))
+                    leader.drop(chance.choice((version, leader.versions - 1, leader.versions)))
                 leader.put(version, f"key/{chance.randrange(40)}", str(chance.random()))
                 if chance.random() < 0.2:
                     leader.delete(version, f"key/{chance.randrange(40)}")
@@ -547,17 +562,17 @@ class CommandTest(ReplicaCase):
 
     def test_subcommands(self) -> None:
         self.stores()
-        sent = self.sent('# two\nput a 1\n\nput "b c" \\xff @0\nclone @0\ndelete a @1\n')
-        shown = '0 put a 1 @0\n1 put "b c" \\xff @0\n2 clone @0\n3 delete a @1\n'
+        sent = self.sent('# two\nput a 1\n\nput "b c" \\xff @0\nclone @0\ndelete a @1\ndrop @1\n')
+        shown = '0 put a 1 @0\n1 put "b c" \\xff @0\n2 clone @0\n3 delete a @1\n4 drop @1\n'
         self.assertEqual(self.run_command("show", "changes", given=sent), (shown, "", 0))
         self.assertEqual(self.run_command("record", "--pass", "log", given=sent), (sent.decode("utf-8", "replace"), "", 0))
-        self.assertEqual(self.run_command("status", "log", "copy.store"), ("log: first 0, next 4\ncopy.store: next 0, lag 4\n", "", 0))
+        self.assertEqual(self.run_command("status", "log", "copy.store"), ("log: first 0, next 5\ncopy.store: next 0, lag 5\n", "", 0))
         self.assertEqual(self.run_command("read", "log", "2", "--until", "3")[0].encode(), changes.clone(2, 0))
-        self.assertEqual(self.run_command("feed", "log", "copy.store", "--until", "1"), ("copy.store: next 1, lag 3\n", "", 0))
+        self.assertEqual(self.run_command("feed", "log", "copy.store", "--until", "1"), ("copy.store: next 1, lag 4\n", "", 0))
         follow = [find_program(), "follow", "copy.store"]
-        self.assertEqual(self.run_command("feed", "log", "--command", *follow), (f"{' '.join(follow)}: next 4, lag 0\n", "", 0))
+        self.assertEqual(self.run_command("feed", "log", "--command", *follow), (f"{' '.join(follow)}: next 5, lag 0\n", "", 0))
         self.assertEqual(tables(self.copy), tables(self.path))
-        self.assertEqual(self.run_command("backup", "log", "a.store", "b.store"), ("b.store: next 4\n", "", 0))
+        self.assertEqual(self.run_command("backup", "log", "a.store", "b.store"), ("b.store: next 5\n", "", 0))
         self.assertEqual(tables(os.path.join(self.folder, "b.store")), tables(self.path))
         out, said, status = self.run_command("backup", "log", "a.store", "b.store")
         self.assertEqual((out, status), ("", 1))
@@ -577,7 +592,8 @@ class CommandTest(ReplicaCase):
             self.assertEqual(self.run_command(*words)[2], 2, words)
         self.assertIn("no log of changes", self.run_command("status", "absent")[1])
         self.assertIn("line 2 is no change", self.run_command("commands", given=b"clone\nput a\n")[1])
-        self.assertEqual(self.run_command("commands", given=b"get a\n")[2], 1)
+        for line in (b"get a\n", b"drop\n", b"drop 1\n", b"drop a @1\n"):
+            self.assertEqual(self.run_command("commands", given=line)[2], 1)
         sent = self.sent("put a 1\nput b 2\n")
         out, said, status = self.run_command("record", "log", given=sent[:-3])
         self.assertEqual((out, status), ("", 0))

@@ -27,7 +27,7 @@ HOSTILE = ("<script>alert(1)</script>", "]]>", "&amp;\"'", "--><img src=x onerro
 def overview(**changed: Any) -> Overview:
     """What a page shows of the store of `test_levels.LEVELS`, but for some fields."""
     keys = {version: Count(2 + version) for version in range(4)}
-    return Overview("a.store", "2026-11-30 05:00:00 +0000", 10_571_776, 45_056, False, LEVELS, VERSIONS, {1: ["staging"]}, keys,
+    return Overview("a.store", "2026-11-30 05:00:00 +0000", 10_571_776, 45_056, False, LEVELS, VERSIONS, {}, {1: ["staging"]}, keys,
                  {1: [b"a", b"b"]})._replace(**changed)
 
 
@@ -76,6 +76,13 @@ class ReportTest(unittest.TestCase):
         versions_ = [Info(None, 0, True), *leaves * [Info(0, 1, False)]]
         found = Page(page(overview(versions=versions_, keys={version: Count(0) for version in range(leaves + 1)})))
         self.assertEqual((len(found.tables()[2]) - 1, f"These are the first {LISTED} of {leaves}." in found.text), (LISTED, True))
+
+    def test_a_page_tells_how_many_versions_are_dropped_and_where_they_hang(self) -> None:
+        versions = [Info(None, 0, False), Info(0, 1, False), None, None]
+        found = Page(page(overview(versions=versions, hanging={0: 2})))
+        self.assertEqual(found.root.findtext(f"{XHTML}head/{XHTML}title"), "a.store: 2 versions and 2 dropped, 9 changes")
+        self.assertEqual([row[0] for row in found.tables()[2][1:]], ["0", "1"])
+        self.assertIn("2 keys, frozen, 2 dropped", found.pictures()[0].written())
 
     def test_a_page_has_the_levels_and_both_pictures(self) -> None:
         found = Page(page(overview()))

@@ -49,16 +49,19 @@ class SalvageCase(StoreCase):
         left = [name for name in os.listdir(self.folder) if not name.startswith("a.store") and not name.endswith(".lock")]
         self.assertEqual(sorted(left), sorted(others))
 
-    def contents(self, path: str) -> Tuple[List[Optional[int]], List[Dict[bytes, bytes]]]:
-        """The parents and the pairs of each version."""
+    def contents(self, path: str) -> Tuple[List[Optional[int]], List[Optional[Dict[bytes, bytes]]]]:
+        """The parents and the pairs of each version; None for those of a dropped one."""
         with Store(path) as store:
-            parents = [info.parent for info in store.versions()]
-            return parents, [dict(store.scan(version)) for version in range(len(parents))]
+            infos, dropped = store.versions(), store.dropped()
+            parents = [dropped[version] if info is None else info.parent for version, info in enumerate(infos)]
+            return parents, [None if info is None else dict(store.scan(version)) for version, info in enumerate(infos)]
 
     def expect_true(self, found: Salvage, whole: Whole) -> int:
         """What was salvaged is of this store, and what is missing is told. How many pairs there are."""
-        parents, tables = self.contents(self.to)
+        parents, made = self.contents(self.to)
         self.assertEqual(parents, whole.parents)
+        self.assertEqual([version for version, table in enumerate(made) if table is None], sorted(whole.dropped))
+        tables = [table or {} for table in made]
         for version, (table, before) in enumerate(itertools.zip_longest(tables, whole.tables)):
             for key, value in table.items():
                 self.assertEqual(before.get(key), value, (version, key))
@@ -67,7 +70,8 @@ class SalvageCase(StoreCase):
         for lost in found.lost:
             there = sum(is_in(found._replace(lost=(lost,)), version, key) for version, table in enumerate(tables) for key in table)
             self.assertEqual(there, lost.found, lost)
-        self.assertEqual(found.versions, len(parents))
+            self.assertFalse(set(lost.versions) & whole.dropped, lost)
+        self.assertEqual((found.versions, found.dropped), (len(parents), len(whole.dropped)))
         return sum(map(len, tables))
 
 
@@ -114,9 +118,10 @@ class DamageTest(SalvageCase):
     def test_a_store_without_damage_is_salvaged_whole(self) -> None:
         for store in damaged.stores(SEED + 2):
             found = self.salvaged(store.data)
-            self.assertEqual(found[2:], ((), (), None))
+            self.assertEqual(found[2:], ((), (), None, len(store.dropped)))
             self.assertTrue(found.is_whole)
-            self.assertEqual(self.contents(self.to), (store.parents, store.tables))
+            tables = [None if version in store.dropped else table for version, table in enumerate(store.tables)]
+            self.assertEqual(self.contents(self.to), (store.parents, tables))
 
     def test_a_middle_block_does_not_keep_the_others_from_being_read(self) -> None:
         entries = [formats.Entry(b"%03d" % number, 0, b"%d" % number) for number in range(90)]
@@ -209,6 +214,39 @@ class DamageTest(SalvageCase):
         self.assertEqual(found.lost[0][2:], ((1,), 0))
         with Store(self.to) as store:
             self.assertEqual((store.levels().changes_max, len(store.at(0)), len(store.at(1))), (salvaging.CHANGES_MOST, 40, 40))
+
+
+    def test_dropped_versions_stay_dropped_and_lose_nothing(self) -> None:
+        entry, part, stratum = formats.Entry, damaged.damages.Part, damaged.damages.Stratum
+        whole = part(1, (0,), [[entry(b"a", 0, b"1")]])
+        own = part(2, (1, 2), [[entry(b"a", 0, b"1"), entry(b"b", 1, b"2")], [entry(b"c", 2, b"3")]])
+        first, put = formats.first_free(4), (formats.PUT, 0, b"z", b"9")
+        drops: List[Any] = [(formats.DROP, 2), (formats.DROP, 1)]
+        for marks, journal in (((0, 1, 1, 0), []), ((0, 0, 1, 0), drops[1:]), ((), drops), ((0, 1, 1, 1), [put])):
+            data = damaged.damages.laid_out([stratum(1, 4, [whole, own, part(3, (3,), [[entry(b"a", 0, b"1"), entry(b"d", 3, b"4")]])])], (0, 1, 0),
+                                            journal, marks=marks)
+            gone = {1: 0, 2: 1, 3: 0} if sum(marks) == 3 else {1: 0, 2: 1}
+            pairs = {b"a": b"1", b"z": b"9"} if journal == [put] else {b"a": b"1"}
+            want = [pairs, None, None, None if 3 in gone else {b"a": b"1", b"d": b"4"}]
+            for blocks in ((), (first + 1,), (first + 1, first + 2)):
+                broken = data
+                for block in blocks:
+                    broken = with_block(broken, block, b"")
+                with self.subTest(marks=marks, blocks=blocks):
+                    found = self.salvaged(broken)
+                    self.assertEqual((found.versions, found.dropped, found.lost, found.is_whole, found.blocks), (4, len(gone), (), True, blocks))
+                    self.assertEqual(self.contents(self.to), ([None, 0, 1, 0], want))
+                    with Store(self.to) as store:
+                        self.assertEqual(store.dropped(), gone)
+            found = self.salvaged(with_block(data, first, b""))
+            self.assertEqual([lost.versions for lost in found.lost], [(0,)])
+
+    def test_a_salvage_tells_how_many_versions_are_dropped(self) -> None:
+        with self.made() as store:
+            store.drop(store.clone(0))
+            store.drop(store.clone(0))
+            told = carried_out(store, f"salvage {self.to}")
+        self.assertEqual(told, (f"wrote {self.to}: 3 versions, of which 2 are dropped, 0 updates\nnothing is lost\n", "", 0))
 
 
 class OwnerTest(SalvageCase):
@@ -368,7 +406,7 @@ class ShellTest(SalvageCase):
         self.assertRegex(said, "to.store: a castle store is there already")
         out, said, status = self.ran("--json", self.path, "salvage", "--overwrite", "to.store")
         self.assertEqual((out.splitlines(), said, status), ([
-            '{"wrote": "to.store", "versions": 1, "changes": 1, "damaged": [7], "whole": false}',
+            '{"wrote": "to.store", "versions": 1, "dropped": 0, "changes": 1, "damaged": [7], "whole": false}',
             '{"lost": [0], "from": "", "before": null, "found": 1}'], "", 1))
         self.assertEqual(self.ran(self.to, "salvage", "again.store"), ("wrote again.store: 1 version, 1 update\nnothing is lost\n", "", 0))
 

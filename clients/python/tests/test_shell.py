@@ -340,6 +340,76 @@ class ScanningTest(StoreCase):
         self.assertEqual(store.stat().updates, 0)
 
 
+class DropTest(StoreCase):
+    in_memory = True
+
+    def grown(self) -> Store:
+        """A store of versions 0 to 5: 1 (named staging) is a clone of 0, 2 and 3 (named x) of 1, 4 and 5 of 3."""
+        store = self.made()
+        for parent in (0, 1, 1, 3, 3):
+            store.clone(parent)
+        store.names.assign({"staging": 1, "x": 3})
+        return store
+
+    def test_a_version_is_dropped_and_its_names_are_let_go_of(self) -> None:
+        store = self.grown()
+        self.assertEqual(carried_out(store, "drop 4", "drop @5", "drop x", "tree", "put a 1 @0"), (
+            "dropped version 4\ndropped version 5\ndropped version 3 (x); its name x is let go of\n"
+            "0 (here) ─ 1 staging (3 dropped) ─ 2\n", f"castle-shell: line 5: {self.path}: put a at version 0: the version has a child, and takes "
+            "no puts and deletes and no drop. Clone it, and write to the clone; or drop its children first.\n", 1))
+        store.names.assign({"y": 2, "z": 2})
+        self.assertEqual(carried_out(store, "drop 2", "info @1")[0], "dropped version 2 (y, z); its names y, z are let go of\n"
+                         "version 1 (staging): a clone of version 0, 1 ancestor, takes puts and deletes\n")
+        self.assertEqual((dict(store.names), self.names_told()), ({"staging": 1}, ["staging 1"]))
+
+    def test_what_is_not_dropped_says_why(self) -> None:
+        store = self.grown()
+        for line, what in (("drop", "no version is named. Say which one is dropped: drop V [--tree [--yes]]."), ("drop 4 5", "usage: drop V [--tree"),
+                           ("drop 4 @5", "two versions are named: 4 and 5"), ("drop 4 --yes", "usage: drop V [--tree [--yes]]"),
+                           ("drop 4 --all", "no option --all; usage: drop V"), ("drop 0", "drop version 0: version 0 can't be dropped. Drop the"),
+                           ("drop 0 --tree --yes", "drop version 0 and those below it: version 0 can't be dropped"),
+                           ("drop staging", "drop version 1: the version has a child"), ("drop 9", "drop version 9: the store has no version of this number"),
+                           ("drop none", "no version has the name none. Names: staging, x."),
+                           ("drop x --tree", "to drop version 3 (x) and the 2 versions below it wants a yes, and nobody is asked here. "
+                                             "`drop 3 --tree --yes` drops all 3.")):
+            out, complaint, status = carried_out(store, line)
+            self.assertEqual((out, status), ("", 1), line)
+            self.assertIn(what, complaint)
+        self.assertEqual((store.dropped(), store.stat().changes), ({}, 5))
+        self.assertEqual(carried_out(store, "drop 4", "drop 4")[1:], (
+            f"castle-shell: line 2: {self.path}: drop version 4: the version was dropped. `tree` shows the versions that there are; a dropped one "
+            "does not come back.\n", 1))
+
+    def test_a_tree_is_dropped_where_the_script_says_yes(self) -> None:
+        store = self.grown()
+        self.assertEqual(carried_out(store, "drop 4 --tree"), ("dropped version 4\n", "", 0))
+        self.assertEqual(carried_out(store, "drop x --tree --yes", "tree"),
+                         ("dropped 2 versions, 3,5; the name x is let go of\n0 (here) ─ 1 staging (3 dropped) ─ 2\n", "", 0))
+        self.assertEqual(carried_out(store, "drop --yes --tree @staging", "tree"),
+                         ("dropped 2 versions, 1-2; the name staging is let go of\n0 (here) (5 dropped)\n", "", 0))
+
+    def test_the_prompt_goes_to_the_parent_of_what_is_dropped(self) -> None:
+        store = self.grown()
+        self.assertEqual(carried_out(store, "use 4", "drop 4", "clone", "switch x", "drop 3 --tree --yes", "info", "drop 2", "info"), (
+            "dropped version 4\nnow at version 3 (x), of which version 4 was cloned\nmade version 6\n"
+            "dropped 3 versions, 3,5-6; the name x is let go of\nnow at version 1 (staging), of which version 3 was cloned\n"
+            "version 1 (staging): a clone of version 0, 1 ancestor, frozen, since it has a child\n"
+            "dropped version 2\nversion 1 (staging): a clone of version 0, 1 ancestor, takes puts and deletes\n", "", 0))
+
+    def test_one_command_and_json(self) -> None:
+        self.grown().close()
+        self.assertEqual(self.ran("--json", self.path, "drop", "4")[::2], ('{"dropped": [4], "names": []}\n', 0))
+        self.assertEqual(self.ran("--json", self.path, "drop", "3", "--tree")[::2], ("", 2))
+        self.assertEqual(self.ran(self.path, "drop", "3", "--tree", script="y\n")[::2], ("", 2))
+        self.assertEqual(self.ran("--json", self.path, "drop", "3", "--tree", "--yes")[::2], ('{"dropped": [3, 5], "names": ["x"]}\n', 0))
+        self.assertEqual(self.ran("--json", self.path, "tree")[0], (
+            '{"version": 0, "names": [], "parent": null, "ancestors": 0, "frozen": true, "dropped": 0}\n'
+            '{"version": 1, "names": ["staging"], "parent": 0, "ancestors": 1, "frozen": true, "dropped": 3}\n'
+            '{"version": 2, "names": [], "parent": 1, "ancestors": 2, "frozen": false, "dropped": 0}\n'))
+        self.assertEqual(self.ran(self.path, "drop", "2"), ("dropped version 2\n", "", 0))
+        self.assertEqual(self.ran(self.path, "get", "a", "@2")[::2], ("", 2))
+
+
 class OpeningTest(StoreCase):
     """What the shell says of a store as it opens it."""
 
@@ -369,7 +439,7 @@ class OpeningTest(StoreCase):
                               "version 1 (staging): a clone of version 0 (base), 1 ancestor, takes puts and deletes\n"
                               "# castle dump 1, version 1 (staging) of a.store\na\t2\n# end, 1 pair\n0 base\n1 staging\n" + levels)
         for line in ("put b 1 @staging", "delete a @staging", "clone", "clone new", "names set new 0", "names remove base", "names describe base x",
-                     "snapshot new @staging", "release staging base", "merge base staging new", f"load --all {self.folder}/a.dump",
+                     "drop staging", "drop staging --tree", "snapshot new @staging", "release staging base", "merge base staging new", f"load --all {self.folder}/a.dump",
                      f"load {self.folder}/a.dump @staging"):
             out, complaint, status = self.opened_shell(f"{line}\n")
             self.assertEqual((out, status), ("", 1), line)

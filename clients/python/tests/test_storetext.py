@@ -7,7 +7,7 @@ import subprocess
 import sys
 import threading
 from datetime import datetime, timezone
-from typing import Callable, Dict, Iterator, List, Optional, Tuple
+from typing import Callable, Dict, Iterator, List, Optional, Set, Tuple
 from unittest import mock
 
 from session import carried_out, carried_out_amid
@@ -29,13 +29,17 @@ class Model:
     def __init__(self) -> None:
         self.versions: List[Pairs] = [{}]
         self.parents: List[Optional[int]] = [None]
+        self.dropped: Set[int] = set()
         self.names: Dict[str, Name] = {}
 
     def expect(self, case: StoreCase, store: Store) -> None:
         """The store has just this."""
-        case.assertEqual([info.parent for info in store.versions()], self.parents)
+        case.assertEqual([info and info.parent for info in store.versions()],
+                         [None if version in self.dropped else parent for version, parent in enumerate(self.parents)])
+        case.assertEqual(store.dropped(), {version: self.parents[version] for version in sorted(self.dropped)})
         for version, pairs in enumerate(self.versions):
-            case.assertEqual(list(store.scan(version)), sorted(pairs.items()), version)
+            if version not in self.dropped:
+                case.assertEqual(list(store.scan(version)), sorted(pairs.items()), version)
         case.assertEqual({name: store.names.about(name) for name in store.names}, self.names)
 
 
@@ -45,11 +49,13 @@ def read(text: str) -> Model:
     model.versions.clear()
     model.parents.clear()
     first, *lines, last, end = text.split("\n")
-    assert first.startswith("# castle store 1") and end == "", first
-    changes = 0
+    changes, has_drops = 0, any(line.startswith("dropped\t") for line in lines)
+    assert first.startswith(f"# castle store {2 if has_drops else 1}, ") and end == "", first
     for line in lines:
         kind, *words = line.split("\t")
-        if kind == "version":
+        if kind in ("version", "dropped"):
+            if kind == "dropped":
+                model.dropped.add(int(words[0]))
             parent = int(words[1]) if words[1:] else None
             assert int(words[0]) == len(model.versions)
             model.versions.append({} if parent is None else dict(model.versions[parent]))
@@ -125,6 +131,41 @@ class DumpTest(BackupCase):
         read(SMALL).expect(self, other)
         self.assertEqual(carried_out(other, "dump --all")[0], SMALL.replace("a.store", "b.store"))
         self.assertEqual(other.stat()[:3], (3, 5, 7))
+
+    def test_dropped_versions_have_lines_of_their_own_and_are_dropped_where_they_are_loaded(self) -> None:
+        store = self.small()
+        store.clone(store.clone(1))
+        store.drop(4)
+        store.drop(2)
+        text = SMALL.replace("store 1", "store 2").replace("version\t2\t0\n", "dropped\t2\t0\nversion\t3\t1\ndropped\t4\t3\n").replace("3 v", "5 v")
+        self.assertEqual(carried_out(store, "dump --all"), (text, "", 0))
+        store.drop(3)
+        store.drop(1)
+        gone = ("# castle store 2, a.store\nversion\t0\nname\tbase\n+\ta\t1\n+\tb\t2\ndropped\t1\t0\ndropped\t2\t0\ndropped\t3\t1\n"
+                "dropped\t4\t3\n# end, 5 versions, 1 name, 2 changes\n")
+        self.assertEqual(carried_out(store, "dump --all"), (gone, "", 0))
+        for dump, told, counts in ((text, "5 versions, 3 names, 5 changes", (5, 5, 11)), (gone, "5 versions, 1 name, 2 changes", (5, 2, 10))):
+            with self.fresh() as other:
+                self.written("a.dump", dump)
+                self.assertEqual(carried_out(other, f"load --all {self.folder}/a.dump"), (f"loaded {told}\n", "", 0))
+                read(dump).expect(self, other)
+                self.assertEqual((other.stat()[:3], carried_out(other, "dump --all")[0]), (counts, dump.replace("a.store", "b.store")))
+        with self.fresh(9, 5) as other, self.assertRaisesRegex(errors.ChangeLimit, "it takes 10 changes, and the store has room for 9"):
+            other.load_all(self.written("a.dump", gone))
+        for old, new, what in (("store 2", "store 1", "line 6 is neither a version, nor a name of it, nor a change in it"),
+                               ("dropped\t1\t0\n", "dropped\t1\t0\n+\ta\t1\n", "line 7 is neither"),
+                               ("dropped\t1\t0\n", "dropped\t1\t0\nname\tx\n", "line 7 is neither"),
+                               ("dropped\t3\t1", "version\t3\t1", "line 8 has a parent that was dropped"),
+                               ("dropped\t2\t0", "dropped\t2", "line 7 is neither"), ("dropped\t2\t0", "dropped\t3\t0", "line 7 is not that of version 2"),
+                               ("dropped\t2\t0", "dropped\t2\t2", "line 7 has a parent that is no version before 2"),
+                               ("version\t0", "dropped\t0\t0", "line 2 is neither")):
+            with self.fresh() as other, self.assertRaisesRegex(errors.DumpFault, what):
+                other.load_all(self.written("a.dump", gone.replace(old, new)))
+            self.expect_fresh_file()
+
+    def expect_fresh_file(self) -> None:
+        with Store(self.other) as other:
+            self.expect_fresh(other)
 
     def test_a_dump_is_piped_from_one_store_into_another(self) -> None:
         self.small().close()

@@ -12,9 +12,11 @@ import unittest
 from typing import Dict, Optional, Tuple
 from unittest import mock
 
+from hubs import HubCase
 from session import CTRL_C, CTRL_D, PROMPT, Session
 from support import DEADLINE, StoreCase, stop
 
+from castle import Store
 from castle.shell import Shell
 
 
@@ -35,6 +37,22 @@ class TerminalCase(StoreCase):
                 batch.put(0, key, value)
 
 
+@unittest.skipUnless(importlib.util.find_spec("readline"), "this Python has no readline")
+class HubPromptTest(TerminalCase, HubCase):
+    def test_the_prompt_of_a_version_that_another_client_dropped_goes_to_version_0(self) -> None:
+        self.served()
+        with Store(self.address) as store:
+            clone = store.clone(0)
+            session = self.session(self.address)
+            self.assertEqual(session.type(f"use {clone}"), [f"socket @{clone}> "])
+            store.drop(clone)
+            self.assertEqual(session.type("put a 1"), [
+                f"error: put a at version {clone}: the version was dropped",
+                "       `tree` shows the versions that there are; a dropped one does not come back.",
+                f"version {clone} was dropped; the prompt goes to version 0", "socket @0> "])
+            self.assertEqual(session.type("put a 1"), ["done", "socket @0> "])
+
+
 LONG = {f"key/{number:04}".encode(): b"v" * 1000 for number in range(600)}  # more than a terminal takes unread
 
 
@@ -46,8 +64,8 @@ class PromptTest(TerminalCase):
         self.assertEqual(self.greeting.split("\n"), ["a.store: 1 version, 0 changes. `help` lists the commands.", "a.store @0> "])
         self.assertEqual(session.type("clone staging"), ["made version 1 (staging)", "a.store @0 (frozen)> "])
         self.assertEqual(session.type("put a 1"), [
-            "error: put a at version 0: the version has a child and takes no more puts and deletes",
-            "       Clone it, and write to the clone.", "a.store @0 (frozen)> "])
+            "error: put a at version 0: the version has a child, and takes no puts and deletes and no drop",
+            "       Clone it, and write to the clone; or drop its children first.", "a.store @0 (frozen)> "])
         self.assertEqual(session.type("use st\t"), ["a.store @1 staging> "])
         self.assertEqual(session.type("nonsense"), ["error: unknown command nonsense; `help` lists the commands", "a.store @1 staging> "])
         self.assertEqual(session.type("get a"), ["absent", "a.store @1 staging> "])
@@ -80,6 +98,31 @@ class PromptTest(TerminalCase):
             self.assertEqual(prompt, "a.store @0> ")
         self.assertEqual(session.type("put a 1"), ["done", "a.store @0> "])
 
+    def test_a_tree_is_dropped_once_the_user_has_said_yes(self) -> None:
+        with self.made() as store:
+            for parent in (0, 1, 1, 3):
+                store.clone(parent)
+            store.names["x"] = 1
+        session, question = self.session(), r"\[y/N\] $"
+        session.type("use 4")
+        for answer in ("", "n", "no", "nonsense"):
+            self.assertEqual(session.type("drop x --tree", question), ["drop version 1 (x) and the 3 versions below it? [y/N] "])
+            self.assertEqual(session.type(answer), ["nothing was dropped", "a.store @4> "])
+        session.type("drop x --tree", question)
+        self.assertIn("stopped; nothing was done", session.interrupt(r"> $"))
+        session.type("drop x --tree", question)
+        session.send(CTRL_D)
+        self.assertIn("stopped; nothing was done", session.until(r"> $"))
+        self.assertEqual(session.type("drop 2 --tree"), ["dropped version 2", "a.store @4> "])
+        self.assertEqual(session.type("drop x --tree", question), ["drop version 1 (x) and the 2 versions below it? [y/N] "])
+        self.assertEqual(session.type(" YES "), ["dropped 3 versions, 1,3-4; the name x is let go of",
+                                                 "now at version 0, of which version 1 was cloned", "a.store @0> "])
+        self.assertEqual(session.type("tree"), ["0 (here) (4 dropped)", "a.store @0> "])
+        session.type("quit", None)
+        self.assertEqual(session.close(), 0)
+        with open(os.path.join(self.folder, ".castle_history"), encoding="utf-8") as file:
+            self.assertNotIn("YES", file.read())
+
     def test_a_version_with_two_names_is_shown_with_both(self) -> None:
         self.made().close()
         session = self.session()
@@ -111,6 +154,9 @@ class PromptTest(TerminalCase):
                             ("load --a\tprod\t", ["error: the store is not fresh: it has changes or names",
                                                   "       Make a new one with `castle format`, and load into that."]),
                             ("merge --th\tst\tst\tx", ["error: merge: both are version 1", "       Name two versions."]),
+                            ("clone idea @st\t", ["made version 2 (idea)"]),
+                            ("drop --tr\t id\t", ["dropped version 2 (idea); its name idea is let go of"]),
+                            ("help dr\t", ["drop V [--tree [--yes]]", "    takes a version away for good; --tree all below it too, and asks before"]),
                             ("dump --a\tproduct\t", ["wrote product.dump"]), ("names desc\tst\t x", []), ("switch st\t", []),
                             ("names rem\tst\t", [])):
             self.assertEqual(session.type(typed)[:-1], want, typed)

@@ -1,10 +1,13 @@
 """The version tree as text."""
 
+import random
 import unittest
-from typing import List, Mapping, Optional, Sequence
+from typing import Container, Dict, List, Mapping, Optional, Sequence
 
 import support  # noqa: F401: finds the package
 
+from castle import Info
+from castle.dropping import hanging
 from castle.tree import Tree
 
 NONE: Mapping[int, Sequence[str]] = {}
@@ -12,7 +15,12 @@ NONE: Mapping[int, Sequence[str]] = {}
 
 def lines(parents: Sequence[Optional[int]], names: Mapping[int, Sequence[str]] = NONE,
           here: Optional[int] = None) -> List[str]:
-    return list(Tree(parents, names, here).lines())
+    return list(Tree(placed(parents), names, here).lines())
+
+
+def placed(parents: Sequence[Optional[int]], dropped: Container[int] = ()) -> List[Optional[Info]]:
+    """The places of versions with these parents."""
+    return [None if version in dropped else Info(parent, 0, False) for version, parent in enumerate(parents)]
 
 
 class TreeTest(unittest.TestCase):
@@ -42,5 +50,32 @@ class TreeTest(unittest.TestCase):
 
     def test_every_version_is_drawn_once(self) -> None:
         parents: List[Optional[int]] = [None, *[version * 7 // 9 for version in range(300)]]
-        nodes = Tree(parents, {5: ["a"]}).nodes
+        nodes = Tree(placed(parents), {5: ["a"]}).nodes
         self.assertEqual(sorted(version for node in nodes for version in node.versions), list(range(301)))
+
+    def test_dropped_versions_are_counted_where_they_hang(self) -> None:
+        parents = [None, 0, 1, 1, 3, 0, 5, 5, 6, 2]
+        for dropped, drawn in (({4: 3}, ["0", "├─ 1", "│  ├─ 2 ─ 9", "│  └─ 3 (1 dropped)", "└─ 5", "   ├─ 6 ─ 8", "   └─ 7"]),
+                               ({3: 1, 4: 3, 9: 2}, ["0", "├─ 1 (2 dropped) ─ 2 (1 dropped)", "└─ 5", "   ├─ 6 ─ 8", "   └─ 7"]),
+                               ({5: 0, 6: 5, 7: 5, 8: 6}, ["0 (4 dropped) ─ 1", "                ├─ 2 ─ 9", "                └─ 3 ─ 4"])):
+            self.assertEqual(list(Tree(placed(parents, dropped), {}, None, hanging(dropped)).lines()), drawn)
+        row: List[Optional[int]] = [None, *range(6), 3, 4]
+        self.assertEqual(list(Tree(placed(row, {7, 8}), {}, 0, hanging({7: 3, 8: 4})).lines()), ["0 (here) ─ (5 versions, 1 to 5, 2 dropped) ─ 6"])
+
+    def test_a_dropped_version_hangs_at_the_nearest_one_that_is_there(self) -> None:
+        chance = random.Random(52)
+        for _ in range(200):
+            parents: List[Optional[int]] = [None, *(chance.randrange(version) for version in range(1, 30))]
+            dropped: Dict[int, int] = {}
+            for version in chance.sample(range(1, 30), 20):
+                below = [child for child, parent in enumerate(parents) if parent == version and child not in dropped]
+                if not below:
+                    dropped[version] = parents[version] or 0
+            counts: Dict[int, int] = {}
+            for version in dropped:
+                while version in dropped:
+                    version = dropped[version]
+                counts[version] = counts.get(version, 0) + 1
+            self.assertEqual(dict(hanging(dropped)), counts)
+            nodes = Tree(placed(parents, dropped), {}, None, hanging(dropped)).nodes
+            self.assertEqual(sorted(version for node in nodes for version in node.versions), sorted(set(range(30)) - set(dropped)))

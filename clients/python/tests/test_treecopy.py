@@ -20,7 +20,7 @@ import castle
 from castle import Limits, Store, errors, frames, treecopy
 from castle.program import Program
 
-Contents = Tuple[List[Optional[int]], List[Dict[bytes, bytes]]]
+Contents = Tuple[List[Optional[int]], List[Optional[Dict[bytes, bytes]]]]
 
 
 class CopyCase(HubCase):
@@ -35,9 +35,9 @@ class CopyCase(HubCase):
         self.assertEqual(sorted(left), sorted(names))
 
     def contents(self, store: Store) -> Contents:
-        """The parents and the pairs of each version."""
-        parents = [info.parent for info in store.versions()]
-        return parents, [dict(store.scan(version)) for version in range(len(parents))]
+        """The parents and the pairs of each version; None for those of a dropped one."""
+        infos = store.versions()
+        return [info and info.parent for info in infos], [info and dict(store.scan(version)) for version, info in enumerate(infos)]
 
     def copied(self) -> Contents:
         """The same of the copy, which is sound."""
@@ -49,10 +49,13 @@ class CopyCase(HubCase):
         """Has a store take drawn changes."""
         chance = random.Random(seed)
         for number in range(count):
-            tips = [version for version, info in enumerate(store.versions()) if not info.frozen]
+            tips = [version for version, info in enumerate(store.versions()) if info is not None and not info.frozen]
             tip = chance.choice(tips)
+            if tip and chance.random() < 0.1:
+                store.drop(tip)
+                continue
             if store.stat().versions < versions and chance.random() < 0.2:
-                store.clone(chance.choice((tip, chance.randrange(store.stat().versions))))
+                store.clone(chance.choice((tip, chance.choice([version for version, info in enumerate(store.versions()) if info]))))
                 continue
             if chance.random() < 0.3:
                 store.delete(tip, f"k{chance.randrange(30)}")
@@ -102,7 +105,7 @@ class TreeCopyTest(CopyCase):
             for turn in range(6):
                 before = store.stat().updates
                 store.backup(self.to, overwrite=turn > 0)
-                sizes = [len(table) for table in self.copied()[1][1:]]
+                sizes = [len(table or ()) for table in self.copied()[1][1:]]
                 self.assertIn(sum(sizes), range(before, store.stat().updates + 1))
                 # a prefix: each tip is as far as the one before it, or one key behind
                 self.assertEqual(sizes, [(sum(sizes) + len(tips) - 1 - place) // len(tips) for place in range(len(tips))])
@@ -161,7 +164,7 @@ class TreeCopyTest(CopyCase):
     def test_many_tips_are_copied_while_nobody_writes(self) -> None:
         self.served(limits=(64, 10 ** 6, 200))
         store = self.client()
-        for _ in range(treecopy.TIPS_MOST + 20):
+        for _ in range(treecopy.SCANS_MOST + 20):
             store.put(store.clone(0), "a", "1")
         store.backup(self.to)
         self.assertEqual(self.copied(), self.contents(store))
@@ -265,7 +268,7 @@ class TreeCopyTest(CopyCase):
         if not done:
             return None
         self.expect_left("to.store")
-        keys = sorted(self.copied()[1][tip])
+        keys = sorted(self.copied()[1][tip] or ())
         self.assertEqual(keys, [b"%06d" % number for number in range(len(keys))])
         self.assertLessEqual(len(keys), done[0] + 1)
         return len(keys)
