@@ -15,8 +15,13 @@ pub mod PartLemmas
 pub mod NextLemmas
 pub mod BelongLemmas
 pub mod LongLemmas
+pub mod KeptLemmas
+pub mod RoomLemmas
+pub mod CompactingLemmas
+pub mod CompactedLemmas
 pub mod OccupiedLemmas
 pub mod ComputedLemmas
 pub mod TurnLemmas
 pub mod WorkedLemmas
+pub mod CompactionsLemmas
 pub mod BatchLemmas

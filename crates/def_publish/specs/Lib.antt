@@ -5,5 +5,8 @@ pub mod Appending
 pub mod Batches
 pub mod Publication
 pub mod Next
+pub mod Compacting
+pub mod Kept
 pub mod Occupied
 pub mod Worked
+pub mod Compactions

@@ -3,6 +3,8 @@
 #![tactic(auto)]
 
 pub mod appending;
+pub mod compaction;
+pub mod compactions;
 pub mod free_blocks;
 pub mod next;
 pub mod occupied;
