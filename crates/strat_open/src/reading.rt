@@ -61,7 +61,7 @@ impl Reading {
         &self.found.published.manifest
     }
 
-    /// How many versions there are, those that the journal made among them.
+    /// How many versions were made, those of the journal and those that were dropped among them.
     pub fn versions(&self) -> u32
         ensures ok { result ≡ length (head_versions self.now) }
     {
@@ -91,7 +91,7 @@ impl Reading {
         self.found.journal.count()
     }
 
-    /// The versions, those that the journal made among them, and which of them were dropped.
+    /// The versions that were made, those of the journal among them, and which of them were dropped.
     pub fn tree(&self) -> &Tree
         ensures ok { (result.now.parents ≡ head_versions self.now)
             × (result.now.marks ≡ head_marks self.now) × IsTree result.now.parents }
