@@ -193,8 +193,8 @@ fn find_in(
 
 impl Memory {
     /// Memory of a new store. It takes 1.3 KB for each of `mem` updates and 83 bytes for each version
-    /// that there may be; the only error is want of memory. Of the other calls `prepare`, `open_cursor` and
-    /// `reserve_retired` alone take any.
+    /// that there may be; the only error is want of memory. Of the other calls `prepare`, `open_cursor`,
+    /// `reserve_retired`, `marks` and `sealed_marks` alone take any.
     pub fn new(
         alloc: Global,
         mem: u32,
@@ -484,6 +484,7 @@ impl Memory {
             → IsTrue (list_all (λ e. nat_lt e.version z.versions) z.entries)
             × (z.versions ≤ length self.now.parents) }
         ensures found { (result.2.now.parents ≡ self.now.parents) × IsTree result.2.now.parents }
+        ensures same { result.2.now.marks ≡ self.now.marks }
     {
         // For the proof: the parents are a tree.
         let _ = self.tree.count();

@@ -341,9 +341,10 @@ impl Store {
         (zero, sealed)
     }
 
-    /// The versions, and the pool that has the keys and values of level 0 and of the sealed one. O(1).
+    /// The versions with their marks, and the pool that has the keys and values of level 0 and of the sealed one. O(1).
     pub fn lend(&self) -> (&Tree, &ArenaPool)
-        ensures ok { result.0.now.parents ≡ self.now.memory.parents }
+        ensures ok { (result.0.now.parents ≡ self.now.memory.parents)
+            × (result.0.now.marks ≡ self.now.memory.marks) }
         ensures kept { IsTree result.0.now.parents }
     {
         let (_zero, _sealed, pool, tree) = self.held.memory.lists();
@@ -381,7 +382,7 @@ impl Store {
     /// Carries out one command. The pairs of its answer are in `out`, which is emptied first.
     ///
     /// A change is durable before it is answered: two writes and two syncs, and in memory one insertion into level 0, or
-    /// O(log versions_max) for a clone. It takes no memory.
+    /// O(log versions_max) for a clone, or O(1) for a drop. It takes no memory.
     ///
     /// A change that meets a full journal also does one slice of a promotion, which empties that into the levels. The
     /// first of them seals level 0 and begins the promotion. A promotion reads

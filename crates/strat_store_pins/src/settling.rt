@@ -55,7 +55,7 @@ pub fn a_full_journal_is_promoted_or_published<D: Viewed>()
 {}
 
 /// A publication left the other slot, with the next generation and the other region, and a manifest of what memory counted at
-/// the seal, in the newest format and with no version dropped; and no promotion is open. In a consistent store the manifest has
+/// the seal, in the newest format and with the marks of the seal; and no promotion is open. In a consistent store the manifest has
 /// all that memory counts, where nothing is behind the full region. The levels deeper than the one that it filled have the
 /// filters that they had.
 pub fn what_a_promotion_made_is_published()
