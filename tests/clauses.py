@@ -24,7 +24,7 @@ CLAUSES = {
     "room": ("that there is space for what is added",
              r"[Rr]oom|capacity|spare|counted|≤|<|nat_le|Marked|Uses|Takes|Apart"),
     "fits": ("that a size or a number is within its limits",
-             r"≤|<|fits|awful|is_key|is_markable|IsPair|AreBytes|Unfit|accepted|known|Follow|spare"),
+             r"≤|<|fits|awful|is_key|is_markable|IsPair|AreBytes|Unfit|accepted|known|has_version|Follow|spare"),
     "durable": ("that a crash leaves what was written", r"Durable|\bImages\b|HoldsBatch"),
     "time": ("what holds of the moments that passed", r"\bPasses\b|Continues|\bSince\b|[Mm]oment"),
     "reads": ("how often the disk is read", r"[Rr]eads|LeavesBlocks"),

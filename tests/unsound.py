@@ -207,12 +207,6 @@ def broken_together():
     yield None, "its child was dropped, and the journal has an update", two_levels(
         *closed, (0,), [(formats.PUT, 0, b"c", b"1")], marks=(0, 1))
     yield None, "its child is dropped by the journal", two_levels(*closed, (0,), [(formats.DROP, 1), (formats.PUT, 0, b"c", b"1")])
-    yield Breach("j", 2, 0), "of its children below the deeper horizon one is living", two_levels(
-        (3, [only((0, 1, 2), says(b"b", 0))]), late, (0, 0), [(formats.DROP, 2)])
-    yield Breach("j", 2, 0), "the other one is living", two_levels(
-        (3, [only((0, 1, 2), says(b"b", 0))]), late, (0, 0), marks=(0, 1, 0))
-    yield None, "a dropped version has a dropped child below the deeper horizon", two_levels(
-        (3, [only((1, 2), says(b"b", 1))]), late, (0, 1), marks=(0, 1, 1))
 
 
 def doubled(specimen):
