@@ -307,9 +307,10 @@ class Copies:
             expect("at the end", self.expect_prefix(follower), len(self.log))
             expect_told("at the end", follower.path)
         for version in {0, len(self.store.parents) - 1, self.chance.randrange(len(self.store.parents))}:
-            want = replicas.exported(self.store.pairs[version])
+            status = 0 if self.store.has(version) else model.NO_VERSION
+            want = replicas.exported(self.store.pairs[version]) if status == 0 else b""
             for copied in (self.leader, *self.followers):
-                expect(f"export of version {version}", run(["export", copied.path, str(version)]), (want, 0, b""))
+                expect(f"export of version {version}", run(["export", copied.path, str(version)]), (want, status, complaint(status)))
 
 
 def ran(word, path, data, stop=None):
